@@ -1,0 +1,43 @@
+# Two commands: `make` proves and builds all and lists a sample; `make test` is the gate.
+# `make bench` measures; `make clean` removes target/, which is all that is ever made here.
+
+.DEFAULT_GOAL := all
+.NOTPARALLEL:
+.PHONY: all setup prove sample test bench clean
+
+export PATH := $(PATH):$(HOME)/.cargo/bin
+
+archive := target/staticlib/libgiamuvich.a
+header := target/include/giamuvich.h
+proved_sources := crates.txt $(shell find crates -type f \( -name '*.rt' -o -name '*.antt' \))
+
+# The library and its header for a driver, and the tools, all proved.
+all: setup prove $(archive) $(header) sample
+
+# Installs Debian packages that are lacking. Needs no network where nothing is.
+setup:
+	@tests/setup
+
+# Proves every crate and builds the programs, target/bin/blocklist among them.
+prove: setup
+	rt check
+
+$(archive): $(proved_sources) | setup
+	rt staticlib giamuvich
+
+$(header): include/giamuvich.h
+	@mkdir -p $(@D)
+	cp $< $@
+
+# Offset of SB, number (0: accepted), data length, for each block of the capture.
+sample: prove
+	target/bin/blocklist < samples/capture.bin
+
+test:
+	@tests/gate
+
+bench: setup $(archive)
+	CARGO_TARGET_DIR=$(CURDIR)/target/bench cargo run --release --offline --manifest-path bench/Cargo.toml --bin bench
+
+clean:
+	rm -rf target

@@ -1,0 +1,237 @@
+//! The yardstick: a straightforward safe Rust reader, byte by byte, with a writer and a check of
+//! one whole block. Written plainly from document 01; nothing is tuned.
+
+const CARRIAGE_RETURN: u8 = 0x0D;
+
+pub struct Numbers {
+    pub start: u8,
+    pub end: u8,
+    pub limit: usize,
+}
+
+#[derive(Clone, Copy, Debug, PartialEq, Eq)]
+pub struct Verdict {
+    pub offset: u64,
+    pub number: u64,
+    pub place: u64,
+    pub block_type: u64,
+    pub data_length: u64,
+}
+
+enum Phase {
+    Between,
+    Inside,
+    Ended,
+}
+
+/// Reads a stream byte by byte; the bytes of the current block are in `body`.
+pub struct Reader {
+    numbers: Numbers,
+    phase: Phase,
+    body: Vec<u8>,
+    long: bool,
+    offset: u64,
+    position: u64,
+}
+
+impl Reader {
+    pub fn new(numbers: Numbers) -> Reader {
+        let body = Vec::with_capacity(numbers.limit + 12);
+        Reader {
+            numbers,
+            phase: Phase::Between,
+            body,
+            long: false,
+            offset: 0,
+            position: 0,
+        }
+    }
+
+    /// Starts a stream anew, with the buffer it has.
+    pub fn restart(&mut self) {
+        self.phase = Phase::Between;
+        self.position = 0;
+    }
+
+    /// Takes one byte; gives the verdict that it brings.
+    pub fn byte(&mut self, byte: u8) -> Option<Verdict> {
+        let at = self.position;
+        self.position += 1;
+        match self.phase {
+            Phase::Between => {
+                if byte == self.numbers.start {
+                    self.open(at);
+                }
+                None
+            }
+            Phase::Inside if byte == self.numbers.start => {
+                let verdict = refused(8, 0, self.offset);
+                self.open(at);
+                Some(verdict)
+            }
+            Phase::Inside if byte == self.numbers.end => {
+                self.phase = Phase::Ended;
+                None
+            }
+            Phase::Inside => {
+                if self.body.len() < self.numbers.limit + 12 {
+                    self.body.push(byte);
+                } else {
+                    self.long = true;
+                }
+                None
+            }
+            Phase::Ended => {
+                let verdict = judge(&self.numbers, self.long, &self.body, byte, self.offset);
+                self.phase = Phase::Between;
+                if byte == self.numbers.start {
+                    self.open(at);
+                }
+                Some(verdict)
+            }
+        }
+    }
+
+    fn open(&mut self, at: u64) {
+        self.phase = Phase::Inside;
+        self.body.clear();
+        self.long = false;
+        self.offset = at;
+    }
+}
+
+fn refused(number: u64, place: usize, offset: u64) -> Verdict {
+    Verdict {
+        offset,
+        number,
+        place: place as u64,
+        block_type: 0,
+        data_length: 0,
+    }
+}
+
+fn allowed(byte: u8) -> bool {
+    byte == CARRIAGE_RETURN || (0x20..=0x7E).contains(&byte)
+}
+
+fn nak_reason(data: &[u8]) -> bool {
+    matches!(data, [b'C' | b'X' | b'B' | b'G'])
+}
+
+/// The value of decimal digits, or nothing.
+fn decimal(digits: &[u8]) -> Option<usize> {
+    let mut value = 0;
+    for digit in digits {
+        if !digit.is_ascii_digit() {
+            return None;
+        }
+        value = value * 10 + usize::from(digit - b'0');
+    }
+    Some(value)
+}
+
+/// Judges a block by the bytes between SB and EB and the byte after EB: 4, 5, 3, 6, 7.
+fn judge(numbers: &Numbers, long: bool, body: &[u8], after: u8, offset: u64) -> Verdict {
+    if long {
+        return refused(4, 0, offset);
+    }
+    if after != CARRIAGE_RETURN || body.len() < 12 || &body[1..4] != b"23\r" {
+        return refused(5, 0, offset);
+    }
+    let data_end = body.len() - 8;
+    let data = &body[4..data_end];
+    let block_type = body[0];
+    if block_type != b'D' && !(block_type == b'N' && nak_reason(data)) {
+        return refused(5, 0, offset);
+    }
+    for (place, &byte) in data.iter().enumerate() {
+        if !allowed(byte) {
+            return refused(3, place, offset);
+        }
+    }
+    if decimal(&body[data_end..data_end + 5]) != Some(5 + data.len()) {
+        return refused(6, 0, offset);
+    }
+    let mut sum = numbers.start;
+    for byte in &body[..data_end] {
+        sum ^= byte;
+    }
+    let given = decimal(&body[data_end + 5..]);
+    if given != Some(999) && given != Some(sum.into()) {
+        return refused(7, 0, offset);
+    }
+    Verdict {
+        offset,
+        number: 0,
+        place: 0,
+        block_type: block_type.into(),
+        data_length: data.len() as u64,
+    }
+}
+
+/// The check of one whole block: the stream's verdict if it is the only one and comes with the
+/// last byte; otherwise 5.
+pub fn check(numbers: &Numbers, bytes: &[u8]) -> Verdict {
+    let Some((&first, rest)) = bytes.split_first() else {
+        return refused(5, 0, 0);
+    };
+    let stop = rest
+        .iter()
+        .position(|&byte| byte == numbers.start || byte == numbers.end);
+    let (true, Some(length)) = (first == numbers.start, stop) else {
+        return refused(5, 0, 0);
+    };
+    if rest[length] == numbers.start {
+        let number = if length + 1 == rest.len() { 8 } else { 5 };
+        return refused(number, 0, 0);
+    }
+    if length + 2 != rest.len() {
+        return refused(5, 0, 0);
+    }
+    let long = length > numbers.limit + 12;
+    judge(numbers, long, &rest[..length], rest[length + 1], 0)
+}
+
+/// Writes a block from a place of the buffer; gives its length, or the number that says no.
+pub fn write(
+    numbers: &Numbers,
+    block_type: u8,
+    content: &[u8],
+    buffer: &mut [u8],
+    place: usize,
+) -> Result<usize, u64> {
+    let length = content.len() + 15;
+    let room = buffer.len().saturating_sub(place);
+    if room < length {
+        return Err(2);
+    }
+    if content.len() > numbers.limit {
+        return Err(4);
+    }
+    if block_type != b'D' && !(block_type == b'N' && nak_reason(content)) {
+        return Err(5);
+    }
+    if content.iter().any(|&byte| !allowed(byte)) {
+        return Err(3);
+    }
+    let block = &mut buffer[place..place + length];
+    block[..5].copy_from_slice(&[numbers.start, block_type, b'2', b'3', CARRIAGE_RETURN]);
+    let data_end = 5 + content.len();
+    block[5..data_end].copy_from_slice(content);
+    let mut sum = 0;
+    for byte in &block[..data_end] {
+        sum ^= byte;
+    }
+    put_decimal(&mut block[data_end..data_end + 5], data_end);
+    put_decimal(&mut block[data_end + 5..data_end + 8], sum.into());
+    block[data_end + 8..].copy_from_slice(&[numbers.end, CARRIAGE_RETURN]);
+    Ok(length)
+}
+
+fn put_decimal(digits: &mut [u8], number: usize) {
+    let mut rest = number;
+    for digit in digits.iter_mut().rev() {
+        *digit = b'0' + (rest % 10) as u8;
+        rest /= 10;
+    }
+}

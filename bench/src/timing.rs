@@ -1,0 +1,95 @@
+//! Rounds of timing, the two sides in turn.
+
+use crate::inputs::Input;
+use crate::sides::Side;
+use std::time::Instant;
+
+const WARM_UP: usize = 3;
+
+/// A median and how far the rounds lie apart.
+pub struct Spread {
+    pub median: f64,
+    pub least: f64,
+    pub most: f64,
+}
+
+/// One row of the table: medians in ns per byte, and the ratio of library and plain Rust.
+pub struct Row {
+    pub act: &'static str,
+    pub size: usize,
+    pub library: f64,
+    pub plain: f64,
+    pub copy: f64,
+    pub ratio: Spread,
+}
+
+fn spread(mut values: Vec<f64>) -> Spread {
+    values.sort_by(f64::total_cmp);
+    Spread {
+        median: values[values.len() / 2],
+        least: values[0],
+        most: values[values.len() - 1],
+    }
+}
+
+fn nanoseconds(work: impl FnOnce()) -> f64 {
+    let begun = Instant::now();
+    work();
+    begun.elapsed().as_secs_f64() * 1e9
+}
+
+/// Times one act on one input. Which side begins changes from round to round.
+pub fn measure(act: &'static str, input: &Input, rounds: usize) -> Row {
+    let mut library_side = Side::new(input);
+    let mut plain_side = Side::new(input);
+    let (mut library, mut plain, mut copy) = (Vec::new(), Vec::new(), Vec::new());
+    for round in 0..WARM_UP + rounds {
+        let library_first = round % 2 == 0;
+        let mut library_time = 0.0;
+        if library_first {
+            library_time = nanoseconds(|| library_side.library(act, input));
+        }
+        let plain_time = nanoseconds(|| plain_side.plain(act, input));
+        if !library_first {
+            library_time = nanoseconds(|| library_side.library(act, input));
+        }
+        compare(act, input, &library_side, &plain_side);
+        let copy_time = nanoseconds(|| plain_side.copy(input));
+        if round >= WARM_UP {
+            library.push(library_time / input.timed_bytes() as f64);
+            plain.push(plain_time / input.timed_bytes() as f64);
+            copy.push(copy_time / input.timed_bytes() as f64);
+        }
+    }
+    let ratios = library.iter().zip(&plain).map(|(left, right)| left / right);
+    Row {
+        act,
+        size: input.size,
+        ratio: spread(ratios.collect()),
+        library: spread(library).median,
+        plain: spread(plain).median,
+        copy: spread(copy).median,
+    }
+}
+
+/// Both sides must have given the same verdicts, one accepted one for each block, or the same
+/// bytes.
+fn compare(act: &str, input: &Input, library: &Side, plain: &Side) {
+    if act == "write" {
+        assert!(
+            library.output == input.stream,
+            "the library writes other bytes"
+        );
+        assert!(
+            plain.output == input.stream,
+            "plain Rust writes other bytes"
+        );
+        return;
+    }
+    assert_eq!(library.verdicts, plain.verdicts, "the verdicts differ");
+    assert_eq!(library.verdicts.len(), input.contents.len());
+    let good = |verdict: &crate::plain::Verdict| {
+        verdict.number == 0 && verdict.data_length == input.size as u64
+    };
+    assert!(library.verdicts.iter().all(good), "a good block is refused");
+}

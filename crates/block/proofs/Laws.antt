@@ -1,0 +1,102 @@
+-- Laws by which the loops over bytes go: what one byte more does to each definition.
+use mathlib.Core.Path.{_≡_, refl, sym, ap, _∙_}
+use mathlib.Core.List.{List, [], _∷_}
+use mathlib.Core.Bool.{Bool, true, false, cond, _&&_, _||_, and-assoc, and-true}
+use Prim.Native.Nat.{ℕ, suc, _+_, _-_, _≤_, _<_}
+use native.Mathlib.Omega.{arith}
+use lib.ListN.{length, take, drop, getD, length-drop}
+use lib.Seq.{take-all}
+use borrow.Author.Tests.{le-leb}
+use Rattle.lists.proofs.Parts.{drop-more, drop-none}
+use lib.Dec.{eqb}
+use Rattle.block.specs.Format.{allowed, allAllowed, firstForbidden, countField, version}
+use Rattle.block.specs.Judge.{same, isReason, typeMatches, checksumMatches, judgeParts, judgeHybrid, headerOk, dataOf}
+use Rattle.block.specs.declared.Verdict.the-variants.{Accepted, Byte, Shape, Count, Check}
+
+pub forbidden-here : (s : List ℕ) (i : ℕ) → i < length s → allowed (getD s i 0) ≡ false → i + firstForbidden (drop i s) ≡ i
+forbidden-here s i h e = let z : firstForbidden (drop i s) ≡ 0 = rw (drop-more s i h, e) in omega (arith, z)
+
+pub forbidden-later : (s : List ℕ) (i : ℕ) → i < length s → allowed (getD s i 0) ≡ true → i + 1 + firstForbidden (drop (i + 1) s) ≡ i + firstForbidden (drop i s)
+forbidden-later s i h e =
+    let z : firstForbidden (drop i s) ≡ suc (firstForbidden (drop (i + 1) s)) = rw (drop-more s i h, e) in
+    omega (arith, z)
+
+pub forbidden-none : (s : List ℕ) (i : ℕ) → length s ≤ i → i + firstForbidden (drop i s) ≡ i
+forbidden-none s i h = let z : firstForbidden (drop i s) ≡ 0 = rw (drop-none s i h) in omega (arith, z)
+
+pub allowed-more : (s : List ℕ) (i : ℕ) (g : Bool) → i < length s
+    → ((g && allowed (getD s i 0)) && allAllowed (drop (i + 1) s)) ≡ (g && allAllowed (drop i s))
+allowed-more s i g h = rw (drop-more s i h) (and-assoc g (allowed (getD s i 0)) (allAllowed (drop (i + 1) s)))
+
+pub allowed-none : (s : List ℕ) (i : ℕ) (g : Bool) → length s ≤ i → (g && allAllowed (drop i s)) ≡ g
+allowed-none s i g h = rw (drop-none s i h) (and-true g)
+
+-- fields of three and of five bytes, compared byte by byte
+pub three-same : (s : List ℕ) (a b c : ℕ) → length s ≡ 3
+    → (eqb (getD s 0 0) a && (eqb (getD s 1 0) b && eqb (getD s 2 0) c)) ≡ same s (a ∷ b ∷ c ∷ [])
+unfolding same
+three-same [] a b c e = absurd (omega arith)
+three-same (x ∷ []) a b c e = absurd (omega arith)
+three-same (x ∷ y ∷ []) a b c e = absurd (omega arith)
+three-same (x ∷ y ∷ z ∷ []) a b c e = rw and-true
+three-same (x ∷ y ∷ z ∷ w ∷ r) a b c e = absurd (omega arith)
+
+pub five-same : (s : List ℕ) (a b c d e : ℕ) → length s ≡ 5
+    → ((eqb (getD s 0 0) a && eqb (getD s 1 0) b) && (eqb (getD s 2 0) c && (eqb (getD s 3 0) d && eqb (getD s 4 0) e)))
+    ≡ same s (a ∷ b ∷ c ∷ d ∷ e ∷ [])
+unfolding same
+five-same [] a b c d e h = absurd (omega arith)
+five-same (x ∷ []) a b c d e h = absurd (omega arith)
+five-same (x ∷ y ∷ []) a b c d e h = absurd (omega arith)
+five-same (x ∷ y ∷ z ∷ []) a b c d e h = absurd (omega arith)
+five-same (x ∷ y ∷ z ∷ w ∷ []) a b c d e h = absurd (omega arith)
+five-same (x ∷ y ∷ z ∷ w ∷ v ∷ []) a b c d e h = simp (and-assoc, and-true)
+five-same (x ∷ y ∷ z ∷ w ∷ v ∷ u ∷ r) a b c d e h = absurd (omega arith)
+
+pub reason-one : (s : List ℕ) → length s ≡ 1
+    → (eqb (getD s 0 0) 67 || eqb (getD s 0 0) 88 || eqb (getD s 0 0) 66 || eqb (getD s 0 0) 71) ≡ isReason s
+reason-one [] e = absurd (omega arith)
+reason-one (x ∷ []) e = refl
+reason-one (x ∷ y ∷ r) e = absurd (omega arith)
+
+pub reason-other : (s : List ℕ) → (length s ≡ 1 → ⊥) → false ≡ isReason s
+reason-other [] h = refl
+reason-other (x ∷ []) h = absurd (h refl)
+reason-other (x ∷ y ∷ r) h = refl
+
+-- the verdict on the fields, by the first test that fails
+module _ (sb t : ℕ) (d ccccc xxx : List ℕ) where
+  pub parts-shape : typeMatches t d ≡ false → Shape ≡ judgeParts sb t d ccccc xxx
+  unfolding judgeParts
+  parts-shape e = rw e
+
+  pub parts-byte : typeMatches t d ≡ true → allAllowed d ≡ false → Byte (firstForbidden d) ≡ judgeParts sb t d ccccc xxx
+  unfolding judgeParts
+  parts-byte e f = rw (e, f)
+
+  pub parts-count : typeMatches t d ≡ true → allAllowed d ≡ true → same ccccc (countField d) ≡ false → Count ≡ judgeParts sb t d ccccc xxx
+  unfolding judgeParts
+  parts-count e f g = rw (e, f, g)
+
+  pub parts-check : typeMatches t d ≡ true → allAllowed d ≡ true → same ccccc (countField d) ≡ true
+      → checksumMatches sb t d xxx ≡ false → Check ≡ judgeParts sb t d ccccc xxx
+  unfolding judgeParts
+  parts-check e f g h = rw (e, f, g, h)
+
+  pub parts-accepted : typeMatches t d ≡ true → allAllowed d ≡ true → same ccccc (countField d) ≡ true
+      → checksumMatches sb t d xxx ≡ true → Accepted t (length d) ≡ judgeParts sb t d ccccc xxx
+  unfolding judgeParts
+  parts-accepted e f g h = rw (e, f, g, h)
+
+-- the fields of a body that is long enough, by the places at which the code finds them
+pub hybrid-parts : (sb : ℕ) (body : List ℕ) → 12 ≤ length body → same (take 3 (drop 1 body)) version ≡ true
+    → judgeParts sb (getD body 0 0) (take (length body - 8 - 4) (drop 4 body))
+    (take (length body - 3 - (length body - 8)) (drop (length body - 8) body))
+    (take (length body - (length body - 3)) (drop (length body - 3) body))
+    ≡ judgeHybrid sb body
+unfolding judgeHybrid headerOk dataOf
+hybrid-parts sb body h v =
+    let e : length body - 8 - 4 ≡ length body - 12 = omega arith in
+    let f : length body - 3 - (length body - 8) ≡ 5 = omega arith in
+    let g : length (drop (length body - 3) body) ≤ length body - (length body - 3) = simp length-drop (omega arith) in
+    rw (e, f, take-all _ _ g, le-leb 12 (length body) h, v)

@@ -1,0 +1,73 @@
+-- Document 01, 'Hybrid block' and 'Minimal block' (000, C.2.2 and C.4.2): which bytes data may have, the digits, the checksum, and the bytes of a block.
+use mathlib.Core.List.{List, [], _∷_, _++_}
+use mathlib.Core.Bool.{Bool, true, false, cond, _&&_, _||_}
+use Prim.Native.Nat.{ℕ, suc, _+_, _/_, _%_}
+use lib.ListN.{length}
+use lib.Dec.{leb, eqb}
+use lib.Bits.{bitXor}
+use Rattle.block.specs.declared.Kind.{Kind}
+use Rattle.block.specs.declared.Kind.the-variants.{Hybrid, Minimal}
+use Rattle.block.specs.declared.Settings.{Settings}
+
+-- "Data bytes are 20 to 7E and CR."
+abbrev pub allowed : ℕ → Bool
+allowed x = (leb 32 x && leb x 126) || eqb x 13
+
+abbrev pub allAllowed : List ℕ → Bool
+allAllowed [] = true
+allAllowed (x ∷ xs) = allowed x && allAllowed xs
+
+-- the offset of the first byte that is not allowed; the length where there is none
+abbrev pub firstForbidden : List ℕ → ℕ
+firstForbidden [] = 0
+firstForbidden (x ∷ xs) = cond (allowed x) (suc (firstForbidden xs)) 0
+
+-- the exclusive-or of a and every byte
+abbrev pub xorFrom : ℕ → List ℕ → ℕ
+xorFrom a [] = a
+xorFrom a (x ∷ xs) = xorFrom (bitXor a x) xs
+
+-- the last decimal digit, in ASCII
+abbrev pub digit : ℕ → ℕ
+digit n = n % 10 + 48
+
+-- "ccccc is five decimal digits"
+unfoldable pub fiveDigits : ℕ → List ℕ
+fiveDigits n = digit (n / 10000) ∷ digit (n / 1000) ∷ digit (n / 100) ∷ digit (n / 10) ∷ digit n ∷ []
+
+-- "xxx is three digits"
+unfoldable pub threeDigits : ℕ → List ℕ
+threeDigits n = digit (n / 100) ∷ digit (n / 10) ∷ digit n ∷ []
+
+-- vv and the CR after it
+abbrev pub version : List ℕ
+version = 50 ∷ 51 ∷ 13 ∷ []
+
+-- "5 plus the data length"
+unfoldable pub countField : List ℕ → List ℕ
+countField d = fiveDigits (5 + length d)
+
+-- "the exclusive-or of every byte from SB to the last data byte"
+unfoldable pub checksumOf : ℕ → ℕ → List ℕ → ℕ
+checksumOf sb t d = xorFrom sb (t ∷ version ++ d)
+
+-- what stands between SB and EB, with the field xxx given
+unfoldable pub hybridBody : ℕ → List ℕ → List ℕ → List ℕ
+hybridBody t d xxx = t ∷ version ++ d ++ countField d ++ xxx
+
+-- SB t v v CR data ccccc xxx EB CR
+unfoldable pub hybridBlock : Settings → ℕ → List ℕ → List ℕ
+hybridBlock s t d =
+    s .«start_block» ∷ (hybridBody t d (threeDigits (checksumOf (s .«start_block») t d)) ++ s .«end_block» ∷ 13 ∷ [])
+
+-- SB data EB CR
+unfoldable pub minimalBlock : Settings → List ℕ → List ℕ
+minimalBlock s d = s .«start_block» ∷ (d ++ s .«end_block» ∷ 13 ∷ [])
+
+abbrev pub byKind : {A : Type 0} → Kind → A → A → A
+byKind Hybrid h m = h
+byKind Minimal h m = m
+
+-- the bytes of a block of either kind; a minimal block has no type
+unfoldable pub blockOf : Settings → ℕ → List ℕ → List ℕ
+blockOf s t d = byKind (s .kind) (hybridBlock s t d) (minimalBlock s d)

@@ -1,0 +1,61 @@
+-- Document 01, 'Numbers that say no': the verdict on the bytes between SB and EB of a block that fits and has its CR after EB, in the order 5, 3, 6, 7.
+use mathlib.Core.List.{List, [], _∷_, _++_}
+use mathlib.Core.Bool.{Bool, true, false, cond, _&&_, _||_}
+use Prim.Native.Nat.{ℕ, _+_, _-_}
+use lib.ListN.{length, take, drop, getD}
+use lib.Dec.{leb, eqb}
+use Rattle.block.specs.Format.{byKind, allAllowed, firstForbidden, version, countField, checksumOf, threeDigits}
+use Rattle.block.specs.declared.Settings.{Settings}
+use Rattle.block.specs.declared.Verdict.{Verdict}
+use Rattle.block.specs.declared.Verdict.the-variants.{Accepted, Byte, Shape, Count, Check}
+
+-- whether two fields have the same bytes
+unfoldable pub same : List ℕ → List ℕ → Bool
+same [] [] = true
+same [] (y ∷ ys) = false
+same (x ∷ xs) [] = false
+same (x ∷ xs) (y ∷ ys) = eqb x y && same xs ys
+
+-- "An N block's data is one byte: C, X, B or G."
+abbrev pub isReason : List ℕ → Bool
+isReason [] = false
+isReason (x ∷ []) = eqb x 67 || eqb x 88 || eqb x 66 || eqb x 71
+isReason (x ∷ y ∷ ys) = false
+
+-- "t is D or N"; "wrong t .. N data wrong"
+unfoldable pub typeMatches : ℕ → List ℕ → Bool
+typeMatches t d = cond (eqb t 68) true (cond (eqb t 78) (isReason d) false)
+
+-- not "under 12 bytes", nor "wrong .. vv or CR"
+unfoldable pub headerOk : List ℕ → Bool
+headerOk body = cond (leb 12 (length body)) (same (take 3 (drop 1 body)) version) false
+
+-- "xxx neither 999 nor the right sum in three digits"
+unfoldable pub checksumMatches : ℕ → ℕ → List ℕ → List ℕ → Bool
+checksumMatches sb t d xxx = same xxx (threeDigits 999) || same xxx (threeDigits (checksumOf sb t d))
+
+-- the fields t, data, ccccc and xxx
+unfoldable pub judgeParts : ℕ → ℕ → List ℕ → List ℕ → List ℕ → Verdict
+judgeParts sb t d ccccc xxx =
+    cond (typeMatches t d)
+    (cond (allAllowed d)
+    (cond (same ccccc (countField d)) (cond (checksumMatches sb t d xxx) (Accepted t (length d)) Check) Count)
+    (Byte (firstForbidden d)))
+    Shape
+
+-- the data is all but the four bytes before it and the eight after it
+unfoldable pub dataOf : List ℕ → List ℕ
+dataOf body = take (length body - 12) (drop 4 body)
+
+unfoldable pub judgeHybrid : ℕ → List ℕ → Verdict
+judgeHybrid sb body =
+    cond (headerOk body)
+    (judgeParts sb (getD body 0 0) (dataOf body) (take 5 (drop (length body - 8) body)) (drop (length body - 3) body))
+    Shape
+
+-- "Minimal reading has 8, 4, 5, 3 only"; a minimal block counts as a data block
+unfoldable pub judgeMinimal : List ℕ → Verdict
+judgeMinimal body = cond (allAllowed body) (Accepted 68 (length body)) (Byte (firstForbidden body))
+
+unfoldable pub judge : Settings → List ℕ → Verdict
+judge s body = byKind (s .kind) (judgeHybrid (s .«start_block») body) (judgeMinimal body)

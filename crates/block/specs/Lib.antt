@@ -1,0 +1,4 @@
+pub mod Format
+pub mod Settings
+pub mod Verdict
+pub mod Judge

@@ -1,0 +1,113 @@
+// The verdict on the bytes between SB and EB of a block that fits and has its CR after EB.
+use crate::Kind;
+use crate::Settings;
+use crate::Verdict;
+use crate::bytes::are_allowed;
+use crate::bytes::checksum;
+use crate::bytes::first_forbidden;
+use crate::digits::is_five_digits;
+use crate::digits::is_three;
+use crate::digits::is_three_digits;
+ghost use mathlib.Core.Path.{_≡_};
+ghost use lib.ListN.{length};
+ghost use Rattle.block.specs.Format.{checksumOf};
+ghost use Rattle.block.specs.Judge.{isReason, typeMatches, checksumMatches, judgeParts, judgeHybrid, judgeMinimal, judge};
+
+// Whether data is one byte that gives a NAK block's reason: C, X, B or G.
+pub fn is_reason(s: &[u8]) -> bool
+    ensures { λ r. ⌜ r ≡ isReason (now (s .entry)) ⌝ }
+{
+    if s.len() != 1 {
+        return false;
+    }
+    let x = s[0];
+    (x == 67) | (x == 88) | (x == 66) | (x == 71)
+}
+
+// Whether t is D, or N with a reason for its data.
+pub fn type_matches(t: u8, s: &[u8]) -> bool
+    ensures { λ r. ⌜ r ≡ typeMatches t (now (s .entry)) ⌝ }
+{
+    if t == 68 {
+        return true;
+    }
+    if t == 78 { is_reason(s) } else { false }
+}
+
+// The checksum of a hybrid block, from SB to its last data byte.
+pub fn block_checksum(start_block: u8, t: u8, s: &[u8]) -> u8
+    ensures { λ r. ⌜ r ≡ checksumOf «start_block» t (now (s .entry)) ⌝ }
+{
+    checksum(start_block ^ t ^ 50 ^ 51 ^ 13, s)
+}
+
+// Whether the field xxx is 999 or the checksum.
+fn checksum_matches(start_block: u8, t: u8, s: &[u8], field: &[u8]) -> bool
+    requires { ⌜ length (now field) ≡ 3 ⌝ }
+    ensures { λ r. ⌜ r ≡ checksumMatches «start_block» t (now (s .entry)) (now (field .entry)) ⌝ }
+{
+    let sum = block_checksum(start_block, t, s);
+    is_three(field, 57, 57, 57) | is_three_digits(field, sum as usize)
+}
+
+// The fields t, data, ccccc and xxx, in the order 5, 3, 6, 7.
+fn judge_parts(start_block: u8, t: u8, s: &[u8], count: &[u8], sum: &[u8]) -> Verdict
+    requires { ⌜ length (now count) ≡ 5 ⌝ }
+    requires { ⌜ length (now sum) ≡ 3 ⌝ }
+    ensures { λ r. ⌜ r ≡ judgeParts «start_block» t (now (s .entry)) (now (count .entry)) (now (sum .entry)) ⌝ }
+{
+    if !type_matches(t, s) {
+        return Verdict::Shape;
+    }
+    if !are_allowed(s) {
+        return Verdict::Byte(first_forbidden(s));
+    }
+    if !is_five_digits(count, 5 + s.len()) {
+        return Verdict::Count;
+    }
+    if !checksum_matches(start_block, t, s, sum) {
+        return Verdict::Check;
+    }
+    Verdict::Accepted(t, s.len())
+}
+
+fn judge_hybrid(start_block: u8, body: &[u8]) -> Verdict
+    ensures { λ r. ⌜ r ≡ judgeHybrid «start_block» (now (body .entry)) ⌝ }
+{
+    if body.len() < 12 {
+        return Verdict::Shape;
+    }
+    if !is_three(&body[1..4], 50, 51, 13) {
+        return Verdict::Shape;
+    }
+    let count = body.len() - 8;
+    let sum = body.len() - 3;
+    judge_parts(
+        start_block,
+        body[0],
+        &body[4..count],
+        &body[count..sum],
+        &body[sum..],
+    )
+}
+
+fn judge_minimal(body: &[u8]) -> Verdict
+    ensures { λ r. ⌜ r ≡ judgeMinimal (now (body .entry)) ⌝ }
+{
+    if are_allowed(body) {
+        Verdict::Accepted(68, body.len())
+    } else {
+        Verdict::Byte(first_forbidden(body))
+    }
+}
+
+// The verdict on a block of either kind.
+pub fn judge_block(settings: Settings, body: &[u8]) -> Verdict
+    ensures { λ r. ⌜ r ≡ judge settings (now (body .entry)) ⌝ }
+{
+    let kind = settings.kind;
+    match kind {
+        Kind::Hybrid => judge_hybrid(settings.start_block, body),
+        Kind::Minimal => judge_minimal(body),
+    }
+}

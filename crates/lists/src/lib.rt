@@ -1,0 +1,1 @@
+// Laws about lists that the proofs of the other crates cite: proofs/. No code.

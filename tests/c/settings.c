@@ -1,0 +1,127 @@
+/* Settings: 1 exactly where one is outside its range, in every function and before all else. */
+#include "harness.h"
+
+enum { WORD = sizeof(uint64_t) };
+
+typedef struct {
+    lent state, part, buffer, verdict, report;
+} memory;
+
+static memory new_memory(void)
+{
+    static const uint8_t bytes[] = {'x', 'y', 'z'};
+    memory m;
+
+    m.state = lend(GMV_READER_WORDS * WORD, 0);
+    m.part = lend_copy(bytes, sizeof bytes);
+    m.buffer = lend(40, 0x55);
+    m.verdict = lend(GMV_VERDICT_WORDS * WORD, 0xEE);
+    m.report = lend(GMV_REPORT_WORDS * WORD, 0xEE);
+    return m;
+}
+
+static void end_memory(memory *m)
+{
+    give_back(&m->state);
+    give_back(&m->part);
+    give_back(&m->buffer);
+    give_back(&m->verdict);
+    give_back(&m->report);
+}
+
+static int all_unchanged(const memory *m)
+{
+    return unchanged(&m->state) && unchanged(&m->part) && unchanged(&m->buffer) &&
+           unchanged(&m->verdict) && unchanged(&m->report);
+}
+
+/* The three functions of the link refuse with 1 and change nothing. */
+static void refused_everywhere(settings link, memory *m)
+{
+    CHECK(read_part(link, &m->state, m->part.at, m->part.size, &m->buffer, &m->verdict) ==
+          GMV_SETTING);
+    CHECK(check_block(link, m->part.at, m->part.size, &m->verdict) == GMV_SETTING);
+    CHECK(write_block(link, 'D', &m->part, &m->buffer, 0, &m->report) == GMV_SETTING);
+    CHECK(all_unchanged(m));
+}
+
+/* They take the setting. What they then do is not the matter here, only that it is not 1. */
+static void taken_everywhere(settings link, memory *m)
+{
+    CHECK(read_part(link, &m->state, m->part.at, m->part.size, &m->buffer, &m->verdict) !=
+          GMV_SETTING);
+    CHECK(check_block(link, m->part.at, m->part.size, &m->verdict) != GMV_SETTING);
+    CHECK(write_block(link, 'D', &m->part, &m->buffer, 0, &m->report) != GMV_SETTING);
+    keep(&m->state);
+    keep(&m->buffer);
+    keep(&m->verdict);
+    keep(&m->report);
+}
+
+static void refused_or_taken(int allowed, settings link, memory *m)
+{
+    if (allowed)
+        taken_everywhere(link, m);
+    else
+        refused_everywhere(link, m);
+}
+
+/* Document 01: refused if the two are equal, or if either is CR or lies in 20 to 7E. */
+static int byte_allowed(uint64_t value)
+{
+    return value <= 255 && value != 0x0D && !(value >= 0x20 && value <= 0x7E);
+}
+
+static void every_start_and_end_byte(void)
+{
+    memory m = new_memory();
+
+    for (uint64_t start = 0; start <= 300; start++)
+        for (uint64_t end = 0; end <= 300; end++) {
+            settings link = {0, start, end, 4};
+
+            refused_or_taken(byte_allowed(start) && byte_allowed(end) && start != end, link, &m);
+        }
+    end_memory(&m);
+}
+
+static void large_start_and_end(void)
+{
+    const uint64_t large[] = {256 + 0x0B, (uint64_t)1 << 32, ((uint64_t)1 << 32) + 0x0B,
+                              UINT64_MAX, UINT64_MAX - 0xF4};
+    memory m = new_memory();
+
+    for (size_t i = 0; i < sizeof large / sizeof large[0]; i++) {
+        settings start = {0, large[i], 0x1C, 4}, end = {0, 0x0B, large[i], 4};
+
+        refused_everywhere(start, &m);
+        refused_everywhere(end, &m);
+    }
+    end_memory(&m);
+}
+
+static void every_kind_of_limit(settings link)
+{
+    const uint64_t limits[] = {0, 1, 2, 127, 128, 4096, 65535, 65536, 99993, 99994, 99995, 100000,
+                               UINT32_MAX, (uint64_t)UINT32_MAX + 2, (uint64_t)1 << 63,
+                               UINT64_MAX - 11, UINT64_MAX};
+    memory m = new_memory();
+
+    for (size_t i = 0; i < sizeof limits / sizeof limits[0]; i++) {
+        link.data_limit = limits[i];
+        refused_or_taken(limits[i] >= 1 && limits[i] <= 99994, link, &m);
+    }
+    end_memory(&m);
+}
+
+void test_settings(void)
+{
+    begin_test("settings: SB and EB from 0 to 300, all pairs");
+    every_start_and_end_byte();
+    begin_test("settings: SB and EB far over a byte");
+    large_start_and_end();
+    begin_test("settings: the hybrid data limit");
+    every_kind_of_limit(hybrid(1));
+    begin_test("settings: the minimal data limit");
+    every_kind_of_limit(minimal(1));
+}

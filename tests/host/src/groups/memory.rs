@@ -1,0 +1,223 @@
+//! Memory at the C boundary: null pointers with length 0, and memory that ends (or begins) at a
+//! page that can't be touched, so that a byte read or written outside is a fault.
+
+use crate::compare::{Compare, Outcome};
+use crate::lent::same;
+use crate::library;
+use crate::make;
+use host::ffi::raw;
+use host::model::{self, Settings};
+use std::ptr::{null, null_mut};
+
+/// Null pointers, and pointers to nothing, with length 0.
+pub fn null_pointers(compare: &mut Compare) -> Outcome {
+    let nowhere: [*mut u8; 3] = [null_mut(), 1 as *mut u8, usize::MAX as *mut u8];
+    for pointer in nowhere {
+        compare.inputs += 9;
+        let found = with_pointer(pointer);
+        let expected = [2, 2, 0, 2, 2, 5, 5, 0, 2];
+        same("answer", &found, &expected).map_err(|why| format!("{pointer:?}: {why}"))?;
+    }
+    for limit in [1, 99_994] {
+        compare.check(&Settings::minimal(limit), &[])?;
+        compare.check(&Settings::hybrid(0x0B, 0x1C, limit), &[])?;
+    }
+    Ok(())
+}
+
+/// Answers to: a fresh state of no words; reading with no state; an empty part; no buffer; no
+/// verdict; two checks of nothing; writing no data; writing with no report.
+fn with_pointer(bytes: *mut u8) -> [u64; 9] {
+    let words: *mut u64 = bytes.cast();
+    let mut state = [0; 4];
+    let mut buffer = [0; 40];
+    let mut verdict = [0; 8];
+    let mut report = [0; 2];
+    let (s, b, v) = (
+        state.as_mut_ptr(),
+        buffer.as_mut_ptr(),
+        verdict.as_mut_ptr(),
+    );
+    let none: *const u8 = bytes;
+    // SAFETY: every pointer has memory of the length passed, which is 0 for the odd ones.
+    unsafe {
+        [
+            raw::gmv_reader_fresh(words, 0),
+            raw::gmv_hybrid_read(11, 28, 9, words, 0, none, 0, b, 40, v, 8),
+            raw::gmv_hybrid_read(11, 28, 9, s, 4, none, 0, b, 40, v, 8),
+            raw::gmv_minimal_read(9, s, 4, null(), 0, bytes, 0, v, 8),
+            raw::gmv_minimal_read(9, s, 4, none, 0, b, 40, words, 0),
+            raw::gmv_hybrid_check(11, 28, 9, none, 0, v, 8),
+            raw::gmv_minimal_check(9, none, 0, v, 8),
+            raw::gmv_hybrid_write(11, 28, 9, 68, none, 0, b, 40, 0, report.as_mut_ptr(), 2),
+            raw::gmv_minimal_write(9, none, 0, b, 40, 0, words, 0),
+        ]
+    }
+}
+
+const PAGE: usize = 4096;
+
+extern "C" {
+    fn mmap(
+        address: *mut u8,
+        length: usize,
+        protection: i32,
+        flags: i32,
+        descriptor: i32,
+        offset: i64,
+    ) -> *mut u8;
+    fn mprotect(address: *mut u8, length: usize, protection: i32) -> i32;
+    fn munmap(address: *mut u8, length: usize) -> i32;
+}
+
+/// Some pages of memory between two that can't be touched.
+struct Pages {
+    base: *mut u8,
+    inner: usize,
+}
+
+impl Pages {
+    fn new(pages: usize) -> Pages {
+        let inner = pages * PAGE;
+        // SAFETY: asks for new private memory, and closes its first and last page.
+        let base = unsafe { mmap(null_mut(), inner + 2 * PAGE, 3, 0x22, -1, 0) };
+        assert!(base as isize != -1, "no memory");
+        let closed =
+            unsafe { mprotect(base, PAGE, 0) | mprotect(base.wrapping_add(PAGE + inner), PAGE, 0) };
+        assert!(closed == 0, "no guard pages");
+        Pages { base, inner }
+    }
+
+    /// So many bytes at the very end, or at the very start, of the memory.
+    fn bytes(&mut self, length: usize, at_end: bool) -> &mut [u8] {
+        let skip = if at_end { self.inner - length } else { 0 };
+        assert!(length <= self.inner);
+        // SAFETY: lies in the pages that may be touched, and self is lent exclusively.
+        unsafe { std::slice::from_raw_parts_mut(self.base.add(PAGE + skip), length) }
+    }
+
+    fn words(&mut self, length: usize, at_end: bool) -> &mut [u64] {
+        let bytes = self.bytes(length * 8, at_end);
+        // SAFETY: both ends of the pages are aligned for words.
+        unsafe { std::slice::from_raw_parts_mut(bytes.as_mut_ptr().cast(), length) }
+    }
+}
+
+impl Drop for Pages {
+    fn drop(&mut self) {
+        // SAFETY: the memory is this object's own.
+        unsafe { munmap(self.base, self.inner + 2 * PAGE) };
+    }
+}
+
+/// One set of pages for each kind of memory that is lent.
+struct Guarded {
+    state: Pages,
+    part: Pages,
+    buffer: Pages,
+    verdict: Pages,
+}
+
+/// Reads, checks and writes with all memory at the edge of what may be touched.
+pub fn guard_pages(compare: &mut Compare) -> Outcome {
+    let mut guarded = Guarded {
+        state: Pages::new(1),
+        part: Pages::new(2),
+        buffer: Pages::new(2),
+        verdict: Pages::new(1),
+    };
+    for round in 0..60_000 {
+        let at_end = round % 4 != 0;
+        let settings = make::settings(&mut compare.random);
+        let mut input = make::stream(&mut compare.random, &settings, 2);
+        input.truncate(2 * PAGE);
+        guarded_read(compare, &mut guarded, &settings, &input, at_end)?;
+        guarded_check(compare, &mut guarded, &settings, &input, at_end)?;
+        let length = make::length(&mut compare.random, &settings);
+        let data = make::data(&mut compare.random, length);
+        guarded_write(compare, &mut guarded, &settings, &data, at_end)?;
+    }
+    Ok(())
+}
+
+/// Reads the input in random parts, each of them at the edge.
+fn guarded_read(
+    compare: &mut Compare,
+    guarded: &mut Guarded,
+    settings: &Settings,
+    input: &[u8],
+    at_end: bool,
+) -> Outcome {
+    let state = guarded.state.words(4, at_end);
+    let buffer = guarded.buffer.bytes(settings.fits(), at_end);
+    let verdict = guarded.verdict.words(8, at_end);
+    state.fill(0);
+    let mut modelled = buffer.to_vec();
+    let mut words = [0; 4];
+    let mut from = 0;
+    while from < input.len() {
+        compare.inputs += 1;
+        let to = compare.random.between(from, input.len());
+        let part = guarded.part.bytes(to - from, at_end);
+        part.copy_from_slice(&input[from..to]);
+        let number = library::read(settings, state, part, buffer, verdict);
+        let expected = model::resume(settings, words, &input[from..to], &mut modelled);
+        words = expected.state;
+        from += expected.used;
+        same("number", &[number], &[0])
+            .and_then(|()| same("state", state, &words))
+            .and_then(|()| same("buffer", buffer, &modelled))
+            .and_then(|()| same("used", &verdict[7..], &[expected.used as u64]))
+            .map_err(|why| {
+                let settings = library::settings_text(settings);
+                format!("read, {settings}: {why}; input {}", library::hex(input))
+            })?;
+    }
+    Ok(())
+}
+
+fn guarded_check(
+    compare: &mut Compare,
+    guarded: &mut Guarded,
+    settings: &Settings,
+    input: &[u8],
+    at_end: bool,
+) -> Outcome {
+    for piece in [input, &input[..input.len() / 2]] {
+        compare.inputs += 1;
+        let block = guarded.part.bytes(piece.len(), at_end);
+        block.copy_from_slice(piece);
+        let verdict = guarded.verdict.words(8, at_end);
+        let number = library::check(settings, block, verdict);
+        let expected = model::check(settings, piece);
+        if number != expected.number {
+            let hex = library::hex(piece);
+            return Err(format!("check answered {number}; input {hex}"));
+        }
+    }
+    Ok(())
+}
+
+fn guarded_write(
+    compare: &mut Compare,
+    guarded: &mut Guarded,
+    settings: &Settings,
+    data: &[u8],
+    at_end: bool,
+) -> Outcome {
+    compare.inputs += 1;
+    let content = guarded.part.bytes(data.len(), at_end);
+    content.copy_from_slice(data);
+    let place = compare.random.below(5);
+    let need = place + data.len() + settings.overhead();
+    let buffer = guarded.buffer.bytes(need, at_end);
+    let report = guarded.verdict.words(2, at_end);
+    let kind = u64::from(b'D');
+    let number = library::write(settings, kind, content, buffer, place, report);
+    let block = model::written(settings, kind, data).unwrap_or_default();
+    if number != 0 || buffer[place..] != block[..] {
+        let hex = library::hex(data);
+        return Err(format!("write answered {number}; data {hex}"));
+    }
+    Ok(())
+}

@@ -1,0 +1,46 @@
+//! The groups of tests, in the order in which they run.
+
+mod blocks;
+mod hand;
+mod memory;
+mod refusals;
+mod states;
+mod streams;
+mod writers;
+
+use crate::compare::{Compare, Outcome};
+
+pub type Group = fn(&mut Compare) -> Outcome;
+
+pub const ALL: &[(&str, Group)] = &[
+    ("cases_by_hand", hand::cases_by_hand),
+    ("writes_by_hand", hand::writes_by_hand),
+    ("checks_by_hand", hand::checks_by_hand),
+    ("valid_blocks", blocks::valid_blocks),
+    ("real_messages", blocks::real_messages),
+    ("damaged_fields", blocks::damaged_fields),
+    ("checksum_numbers", blocks::checksum_numbers),
+    ("count_numbers", blocks::count_numbers),
+    ("lengths_around_limit", blocks::lengths_around_limit),
+    ("every_byte_everywhere", blocks::every_byte_everywhere),
+    ("put_in_delimiters", blocks::put_in_delimiters),
+    ("whole_block_check", blocks::whole_block_check),
+    ("every_short_stream", streams::every_short_stream),
+    ("streams_in_parts", streams::streams_in_parts),
+    ("streams_of_many_blocks", streams::streams_of_many_blocks),
+    ("blocks_without_end", streams::blocks_without_end),
+    ("any_state", states::any_state),
+    ("held_blocks", states::held_blocks),
+    ("lengths_in_state", states::lengths_in_state),
+    ("position_limit", states::position_limit),
+    ("between_words", states::between_words),
+    ("fresh_state", states::fresh_state),
+    ("setting_pairs", refusals::setting_pairs),
+    ("setting_numbers", refusals::setting_numbers),
+    ("refusal_order", refusals::refusal_order),
+    ("writer", writers::writer),
+    ("writer_refusals", writers::writer_refusals),
+    ("writer_places", writers::writer_places),
+    ("null_pointers", memory::null_pointers),
+    ("guard_pages", memory::guard_pages),
+];
