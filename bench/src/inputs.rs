@@ -5,7 +5,7 @@ use crate::prng::Random;
 
 /// About so many bytes of blocks in one pass, and so many passes in one timing.
 const PASS_BYTES: usize = 480_000;
-pub const PASSES: usize = 8;
+pub const PASSES: usize = 5;
 
 pub const NUMBERS: plain::Numbers = plain::Numbers {
     start: 0x0B,

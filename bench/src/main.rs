@@ -16,10 +16,13 @@ use inputs::Input;
 use timing::Row;
 
 const SIZES: [usize; 4] = [16, 200, 4_000, 60_000];
-const ROUNDS: usize = 31;
+const ROUNDS: usize = 25;
 
 /// The most that the reader may take of the plain reader's time, by data bytes.
 const LIMITS: [(usize, f64); 4] = [(16, 1.0), (200, 0.3), (4_000, 0.12), (60_000, 0.12)];
+
+const HEADING: &str = "| act | data bytes | library ns/byte | plain Rust ns/byte \
+| memcpy ns/byte | ratio | spread | limit |";
 
 fn limit_of(row: &Row) -> Option<f64> {
     let found = LIMITS.iter().find(|(size, _)| *size == row.size);
@@ -60,9 +63,12 @@ fn main() {
     println!(
         "ns per byte of the blocks, SB to CR; medians. Ratio: library by plain Rust, round by"
     );
-    println!("round. Buffers are lent again as they are, not cleared. Data limit 99,994.");
+    println!(
+        "round. Buffers are lent again as they are, not cleared. Data limit 99,994. The clock"
+    );
+    println!("is the thread's processor time, not wall time.");
     println!();
-    println!("| act | data bytes | library ns/byte | plain Rust ns/byte | memcpy ns/byte | ratio | spread | limit |");
+    println!("{HEADING}");
     println!("|---|---|---|---|---|---|---|---|");
     let mut broken = 0;
     for act in sides::ACTS {

@@ -24,24 +24,24 @@ enum Phase {
     Ended,
 }
 
-/// Reads a stream byte by byte; the bytes of the current block are in `body`.
+/// Reads a stream byte by byte; the bytes of the current block are the first of `buffer`.
 pub struct Reader {
     numbers: Numbers,
     phase: Phase,
-    body: Vec<u8>,
-    long: bool,
+    buffer: Vec<u8>,
+    length: usize,
     offset: u64,
     position: u64,
 }
 
 impl Reader {
     pub fn new(numbers: Numbers) -> Reader {
-        let body = Vec::with_capacity(numbers.limit + 12);
+        let buffer = vec![0; numbers.limit + 12];
         Reader {
             numbers,
             phase: Phase::Between,
-            body,
-            long: false,
+            buffer,
+            length: 0,
             offset: 0,
             position: 0,
         }
@@ -53,50 +53,51 @@ impl Reader {
         self.position = 0;
     }
 
-    /// Takes one byte; gives the verdict that it brings.
-    pub fn byte(&mut self, byte: u8) -> Option<Verdict> {
-        let at = self.position;
-        self.position += 1;
-        match self.phase {
-            Phase::Between => {
-                if byte == self.numbers.start {
-                    self.open(at);
+    /// Reads a part of the stream and adds its verdicts to the list.
+    pub fn read(&mut self, part: &[u8], verdicts: &mut Vec<Verdict>) {
+        let position = self.position;
+        for (index, &byte) in part.iter().enumerate() {
+            match self.phase {
+                Phase::Between => {
+                    if byte == self.numbers.start {
+                        self.open(position + index as u64);
+                    }
                 }
-                None
-            }
-            Phase::Inside if byte == self.numbers.start => {
-                let verdict = refused(8, 0, self.offset);
-                self.open(at);
-                Some(verdict)
-            }
-            Phase::Inside if byte == self.numbers.end => {
-                self.phase = Phase::Ended;
-                None
-            }
-            Phase::Inside => {
-                if self.body.len() < self.numbers.limit + 12 {
-                    self.body.push(byte);
-                } else {
-                    self.long = true;
+                Phase::Inside => {
+                    if byte == self.numbers.start {
+                        verdicts.push(refused(8, 0, self.offset));
+                        self.open(position + index as u64);
+                    } else if byte == self.numbers.end {
+                        self.phase = Phase::Ended;
+                    } else if self.length < self.buffer.len() {
+                        self.buffer[self.length] = byte;
+                        self.length += 1;
+                    } else {
+                        self.length = self.buffer.len() + 1;
+                    }
                 }
-                None
-            }
-            Phase::Ended => {
-                let verdict = judge(&self.numbers, self.long, &self.body, byte, self.offset);
-                self.phase = Phase::Between;
-                if byte == self.numbers.start {
-                    self.open(at);
+                Phase::Ended => {
+                    verdicts.push(self.ended(byte));
+                    self.phase = Phase::Between;
+                    if byte == self.numbers.start {
+                        self.open(position + index as u64);
+                    }
                 }
-                Some(verdict)
             }
         }
+        self.position += part.len() as u64;
     }
 
-    fn open(&mut self, at: u64) {
+    fn open(&mut self, offset: u64) {
         self.phase = Phase::Inside;
-        self.body.clear();
-        self.long = false;
-        self.offset = at;
+        self.length = 0;
+        self.offset = offset;
+    }
+
+    fn ended(&self, after: u8) -> Verdict {
+        let long = self.length > self.buffer.len();
+        let body = &self.buffer[..self.length.min(self.buffer.len())];
+        judge(&self.numbers, long, body, after, self.offset)
     }
 }
 

@@ -50,7 +50,8 @@ impl Side {
             match act {
                 "write" => self.plain_write(input),
                 "check" => self.plain_check(input),
-                _ => self.plain_read(&input.stream),
+                "read" => self.plain_read(&input.stream, input.stream.len()),
+                _ => self.plain_read(&input.stream, 1024),
             }
         }
     }
@@ -83,12 +84,10 @@ impl Side {
         }
     }
 
-    fn plain_read(&mut self, stream: &[u8]) {
+    fn plain_read(&mut self, stream: &[u8], part_length: usize) {
         self.reader.restart();
-        for &byte in stream {
-            if let Some(verdict) = self.reader.byte(byte) {
-                self.verdicts.push(verdict);
-            }
+        for part in stream.chunks(part_length) {
+            self.reader.read(part, &mut self.verdicts);
         }
     }
 

@@ -260,6 +260,7 @@ static void read_whole_part(settings link, lent *state, const uint8_t *bytes, si
         CHECK(words[GMV_FOUND] == 1 || words[GMV_USED] == end - at);
         at += words[GMV_USED];
         CHECK(words_of(state)[GMV_POSITION] == at);
+        CHECK(words_of(state)[GMV_BODY_LENGTH] <= need_of(link) + 1);
         if (words[GMV_FOUND] == 1 && list->count < LISTED) {
             memcpy(list->words[list->count], words, sizeof list->words[0]);
             list->words[list->count++][GMV_USED] = at;

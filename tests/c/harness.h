@@ -81,5 +81,6 @@ void test_round_trips(void);
 void test_refusals(void);
 void test_settings(void);
 void test_random(void);
+void test_stack(void);
 
 #endif

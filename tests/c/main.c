@@ -1,7 +1,8 @@
 /* The C tests of giamuvich.h. They are compiled with warnings as errors, once plainly and once with
  * the address and undefined-behaviour sanitizers, and linked with the archive that was just proved.
  *
- * Every test runs twice: with memory that ends at an inaccessible page, and with memory of malloc. */
+ * Every test of answers runs twice: with memory that ends at an inaccessible page, and with memory of
+ * malloc. */
 #include "harness.h"
 
 #include <stdio.h>
@@ -22,5 +23,6 @@ int main(void)
     setvbuf(stdout, NULL, _IOLBF, 0); /* what was said stays said if a call faults */
     run_all(FENCED_PAGES);
     run_all(EXACT_MALLOC);
+    test_stack();
     return finish_tests();
 }

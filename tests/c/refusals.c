@@ -338,6 +338,8 @@ static void hybrid_count(void)
     REFUSED(hybrid(9), "\x0B" "D23\r" "a" "    6" "999" "\x1C\r", GMV_COUNT, 0);
     REFUSED(hybrid(9), "\x0B" "D23\r" "a" "0000\x01" "256" "\x1C\r", GMV_COUNT, 0);
     REFUSED(hybrid(9), "\x0B" "D23\r" "a" "99999" "999" "\x1C\r", GMV_COUNT, 0);
+    /* ':' comes after '9': 5 plus the data's length, if it were a digit */
+    REFUSED(hybrid(9), "\x0B" "D23\r" "abcde" "0000:" "999" "\x1C\r", GMV_COUNT, 0);
 }
 
 static void hybrid_check_digits(void)
@@ -347,6 +349,8 @@ static void hybrid_check_digits(void)
     REFUSED(hybrid(9), "\x0B" "D23\r" "00005" "06\x01" "\x1C\r", GMV_CHECK, 0);
     REFUSED(hybrid(9), "\x0B" "D23\r" "00005" "323" "\x1C\r", GMV_CHECK, 0);
     REFUSED(hybrid(9), "\x0B" "D23\r" "00005" "998" "\x1C\r", GMV_CHECK, 0);
+    /* 'A' comes 17 after '0': 67, if it were a digit */
+    REFUSED(hybrid(9), "\x0B" "D23\r" "00005" "05A" "\x1C\r", GMV_CHECK, 0);
 }
 
 static void hybrid_cut(void)
@@ -420,6 +424,48 @@ static void block_after_lost_cr(void)
         CHECK(list.words[1][GMV_OFFSET] == 14 && list.words[1][GMV_NUMBER] == GMV_OK);
         give_back(&buffer);
     }
+}
+
+/* The SB that cuts a block begins the next one. */
+static void block_after_cut(void)
+{
+    const char *bytes = "\x0B" "D23" "\x0B" "D23\r" "00005" "067" "\x1C\r";
+
+    for (size_t size = 1; size <= 19; size++) {
+        lent buffer;
+        listing list = read_stream(hybrid(9), (const uint8_t *)bytes, 19, size, &buffer);
+
+        CHECK(list.count == 2);
+        CHECK(list.words[0][GMV_OFFSET] == 0 && list.words[0][GMV_NUMBER] == GMV_CUT);
+        CHECK(list.words[0][GMV_USED] == 5);
+        CHECK(list.words[1][GMV_OFFSET] == 4 && list.words[1][GMV_NUMBER] == GMV_OK);
+        give_back(&buffer);
+    }
+}
+
+/* A block so long that its count of bytes would wrap is 4, and nothing of the buffer changes. */
+static void endless_block(settings link, uint64_t body_length)
+{
+    reading r = new_reading(link);
+
+    words_of(&r.state)[GMV_PHASE] = 1;
+    words_of(&r.state)[GMV_BODY_LENGTH] = body_length;
+    give_back(&r.part);
+    r.part = lend_copy("abc\x1C\r", 5);
+    CHECK(call_reader(&r) == GMV_OK);
+    CHECK(says_refused(&r.verdict, GMV_LONG, 0));
+    CHECK(unchanged(&r.buffer));
+    end_reading(&r);
+}
+
+static void endless_blocks(settings link)
+{
+    endless_block(link, need_of(link));
+    endless_block(link, need_of(link) + 1);
+    endless_block(link, need_of(link) + 2);
+    endless_block(link, UINT32_MAX);
+    for (uint64_t below = 0; below < 5; below++)
+        endless_block(link, UINT64_MAX - below);
 }
 
 /* ---- the writer's refusals */
@@ -642,6 +688,9 @@ static void test_block_refusals(void)
     unfinished_and_long();
     begin_test("hybrid: a block right after an EB without CR");
     block_after_lost_cr();
+    begin_test("hybrid: a block right after a cut");
+    block_after_cut();
+    BOTH("4 for a block of any length over the limit", endless_blocks);
 }
 
 static void test_writer_refusals(void)

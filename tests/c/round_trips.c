@@ -147,6 +147,7 @@ static void at_place(settings link, size_t place, size_t after)
     lent block;
 
     CHECK(write_block(link, 'D', &content, &buffer, place, &report) == GMV_OK);
+    CHECK(words_of(&report)[GMV_BLOCK_LENGTH] == length);
     CHECK(memcmp(buffer.at, buffer.kept, place) == 0);
     CHECK(same_from(&buffer, place + length));
     block = lend_copy(buffer.at + place, length);

@@ -12,7 +12,7 @@ pub use judge::judge_block;
 pub use judge::type_matches;
 ghost use mathlib.Core.Path.{_≡_};
 ghost use Rattle.block.specs.Settings.{valid, dataOffsetOf, hybridOf, minimalOf};
-ghost use Rattle.block.specs.Verdict.{numberOf, placeOf};
+ghost use Rattle.block.specs.Verdict.{numberOf, placeOf, typeOf, lengthOf};
 
 // The two lower layer protocols (000, C.2 and C.4).
 pub enum Kind {
@@ -150,6 +150,36 @@ impl Verdict {
         match self {
             Verdict::Accepted(_, _) => 0,
             Verdict::Byte(place) => place,
+            Verdict::Long => 0,
+            Verdict::Shape => 0,
+            Verdict::Count => 0,
+            Verdict::Check => 0,
+            Verdict::Cut => 0,
+        }
+    }
+
+    // The type of an accepted block, D or N; 0 for a refused one.
+    pub fn block_type(self) -> u8
+        ensures { λ r. ⌜ r ≡ typeOf self ⌝ }
+    {
+        match self {
+            Verdict::Accepted(t, _) => t,
+            Verdict::Byte(_) => 0,
+            Verdict::Long => 0,
+            Verdict::Shape => 0,
+            Verdict::Count => 0,
+            Verdict::Check => 0,
+            Verdict::Cut => 0,
+        }
+    }
+
+    // The data length of an accepted block; 0 for a refused one.
+    pub fn data_length(self) -> usize
+        ensures { λ r. ⌜ r ≡ lengthOf self ⌝ }
+    {
+        match self {
+            Verdict::Accepted(_, length) => length,
+            Verdict::Byte(_) => 0,
             Verdict::Long => 0,
             Verdict::Shape => 0,
             Verdict::Count => 0,

@@ -1,2 +1,4 @@
 pub mod Tests
 pub mod Parts
+pub mod Search
+pub mod Put

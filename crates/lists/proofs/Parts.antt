@@ -1,10 +1,14 @@
 -- Parts of lists: one element more, a stretch that is written, and a part that was lent and came back.
-use mathlib.Core.Path.{_≡_}
-use mathlib.Core.List.{List, [], _∷_}
-use Prim.Native.Nat.{ℕ, _+_, _≤_, _<_}
+use mathlib.Core.Path.{_≡_, refl, sym, ap, _∙_}
+use mathlib.Core.List.{List, [], _∷_, _++_, append-assoc, append-nil}
+use Prim.Native.Nat.{ℕ, suc, _+_, _-_, _≤_, _<_, min}
 use native.Mathlib.Numerals.{add-one}
-use lib.ListN.{length, drop, getD, drop-of-length-le}
-use lib.Seq.{drop-cons}
+use native.Mathlib.Nat.{min-eq-left, min-eq-right}
+use native.Mathlib.Decide.{decLe}
+use native.Mathlib.Omega.{arith}
+use lib.ListN.{length, take, drop, getD, set, drop-of-length-le}
+use lib.Seq.{drop-cons, take-suc, append-snoc, set-at, length-take-le, take-length, drop-length, take-all}
+use Rattle.lists.specs.Bytes.{overwritten}
 
 -- the bytes from i on are the byte at i and those after it
 pub drop-more : (s : List ℕ) (i : ℕ) → i < length s → drop i s ≡ getD s i 0 ∷ drop (i + 1) s
@@ -12,3 +16,20 @@ drop-more s i h = rw (add-one, drop-cons s i 0)
 
 pub drop-none : (s : List ℕ) (i : ℕ) → length s ≤ i → drop i s ≡ []
 drop-none s i h = drop-of-length-le s h
+
+-- the first i bytes of t written over by those of s: one byte more, and all of them
+pub over-more : (t s : List ℕ) (i : ℕ) → i < length t → i < length s
+    → set (take i s ++ drop i t) i (getD s i 0) ≡ take (i + 1) s ++ drop (i + 1) t
+over-more t s i h l =
+    rw (drop-more t i h) (set-at (take i s) (getD t i 0) (drop (i + 1) t) (getD s i 0) i (length-take-le i s (omega arith))
+    ∙ sym (append-snoc (take i s) (getD s i 0) (drop (i + 1) t))
+    ∙ ap (λ (l : List ℕ). l ++ drop (i + 1) t) (sym (ap (λ (n : ℕ). take n s) (add-one i) ∙ take-suc s i 0 l)))
+
+pub over-least : (t s : List ℕ) → take (min (length s) (length t)) s ++ drop (min (length s) (length t)) t ≡ overwritten t s
+over-least t s = go (decLe (length s) (length t))
+  where
+    go : Dec (length s ≤ length t) → take (min (length s) (length t)) s ++ drop (min (length s) (length t)) t ≡ overwritten t s
+    go (yes h) = rw (min-eq-left h, take-length, take-all (length t) s h)
+    go (no h) =
+        let e : length t ≤ length s = omega arith in
+        rw (min-eq-right e, drop-length, drop-none t (length s) e)

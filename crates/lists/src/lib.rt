@@ -1,1 +1,22 @@
-// Laws about lists that the proofs of the other crates cite: proofs/. No code.
+// Copying bytes, with the laws about lists that the proofs of the other crates cite (proofs/).
+ghost use mathlib.Core.Path.{_≡_};
+ghost use Prim.Native.Nat.{min};
+ghost use Rattle.lists.specs.Bytes.{overwritten};
+
+fn smaller(a: usize, b: usize) -> usize
+    ensures { λ r. ⌜ r ≡ min a b ⌝ }
+{
+    if a < b { a } else { b }
+}
+
+// Writes source over the beginning of target, as much of it as fits.
+pub fn copy_bytes(target: &mut [u8], source: &[u8])
+    ensures { λ r. ⌜ now (target .exit) ≡ overwritten (now (target .entry)) (now (source .entry)) ⌝ }
+{
+    let end = smaller(source.len(), target.len());
+    let mut i = 0;
+    while i < end {
+        target[i] = source[i];
+        i += 1;
+    }
+}

@@ -55,6 +55,16 @@ struct Reader {
     position: usize,
 }
 
+impl Reader {
+    /// Brings the expected memory to where `count` bytes of the input have been read.
+    fn expect(&mut self, settings: &Settings, input: &[u8], blocks: &[Block], count: usize) {
+        let now = model::state_after(settings, blocks, count);
+        self.expected_state[..4].copy_from_slice(&now);
+        let read = self.position..count;
+        model::fill_buffer(settings, input, blocks, read, &mut self.expected_buffer);
+    }
+}
+
 fn same_number(found: u64, expected: u64) -> Outcome {
     if found == expected {
         Ok(())
@@ -263,21 +273,16 @@ impl Compare {
         rest: std::ops::Range<usize>,
     ) -> Result<usize, String> {
         self.inputs += 1;
-        let from = rest.start;
         let next = blocks
             .iter()
             .filter_map(|block| block.verdict.as_ref())
             .find(|verdict| rest.contains(&verdict.at));
-        let used = next.map_or(rest.len(), |verdict| verdict.at + 1 - from);
+        let used = next.map_or(rest.len(), |verdict| verdict.at + 1 - rest.start);
         let words = match next {
             Some(verdict) => verdict.words(settings.data_offset(), used),
             None => no_verdict(used),
         };
-        let now = model::state_after(settings, blocks, from + used);
-        reader.expected_state[..4].copy_from_slice(&now);
-        let read = from..from + used;
-        model::fill_buffer(settings, input, blocks, read, &mut reader.expected_buffer);
-
+        reader.expect(settings, input, blocks, rest.start + used);
         let verdict_words = 8 + self.random.below(3);
         let mut expected_words = self.random.words(verdict_words);
         let mut verdict = Lent::new(&expected_words, GUARD_WORD);

@@ -8,7 +8,7 @@ static PASSED: AtomicU64 = AtomicU64::new(0);
 static FAILED: AtomicU64 = AtomicU64::new(0);
 
 const SIGNALS: [i32; 6] = [4, 6, 7, 8, 11, 14];
-const SECONDS_FOR_A_GROUP: u32 = 120;
+const SECONDS_FOR_A_GROUP: u32 = 60;
 
 extern "C" {
     fn signal(number: i32, handler: extern "C" fn(i32)) -> usize;

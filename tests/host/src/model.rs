@@ -312,11 +312,13 @@ pub fn fill_buffer(
     buffer: &mut [u8],
 ) {
     for block in blocks {
-        let body = block.start + 1..block.stop.unwrap_or(input.len());
-        for index in body.start.max(read.start)..body.end.min(read.end) {
-            let place = index - body.start;
+        let first = block.start + 1;
+        let from = first.max(read.start);
+        let to = block.stop.unwrap_or(input.len()).min(read.end);
+        for (index, &byte) in input.iter().enumerate().take(to).skip(from) {
+            let place = index - first;
             if place < settings.fits() {
-                buffer[place] = input[index];
+                buffer[place] = byte;
             }
         }
     }

@@ -84,181 +84,82 @@ fn stream_case(
     compare.stream_all_ways(settings, input)
 }
 
+/// A name, an input whose only SB stands at 0, and its one verdict: number, place, type, data.
+type Single = (&'static str, &'static [u8], u64, u64, u8, &'static [u8]);
+
+/// P1 to P8, with a data limit of 4,096.
+const PROVED_CASES: &[Single] = &[
+    ("P1", P1, 0, 0, b'D', b""),
+    ("P2", P2, 0, 0, b'D', b"A\r"),
+    ("P3", P3, 0, 0, b'N', b"X"),
+    ("P4 C", b"\x0BN23\rC00006010\x1C\r", 0, 0, b'N', b"C"),
+    ("P4 B", b"\x0BN23\rB00006011\x1C\r", 0, 0, b'N', b"B"),
+    ("P4 G", b"\x0BN23\rG00006014\x1C\r", 0, 0, b'N', b"G"),
+    ("P5 999", b"\x0BD23\r00005999\x1C\r", 0, 0, b'D', b""),
+    ("P5 256", b"\x0BD23\r00005256\x1C\r", 7, 0, 0, b""),
+    ("P6", b"\x0BD23\r00006067\x1C\r", 6, 0, 0, b""),
+    ("P7", b"\x0BD23\r00006068\x1C\r", 6, 0, 0, b""),
+    ("P8", b"\x0BD\x0B", 8, 0, 0, b""),
+];
+
+/// Data of D and D + 1 bytes, byte 7F, and the other places of a block; the limit is 3. The sum
+/// of P1 is 067; ABC adds 40, ABCD adds 04, A and 7F add 3E.
+const DATA_CASES: &[Single] = &[
+    ("D", b"\x0BD23\rABC00008003\x1C\r", 0, 0, b'D', b"ABC"),
+    ("D + 1", b"\x0BD23\rABCD00009071\x1C\r", 4, 0, 0, b""),
+    ("7F", b"\x0BD23\rA\x7F00007125\x1C\r", 3, 1, 0, b""),
+    ("7E", b"\x0BD23\rA~00007124\x1C\r", 0, 0, b'D', b"A~"),
+    ("80", b"\x0BD23\r\x8000006195\x1C\r", 3, 0, 0, b""),
+    ("3 before 6", b"\x0BD23\r\x1F00009999\x1C\r", 3, 0, 0, b""),
+    ("blank in sum", b"\x0BD23\r00005 67\x1C\r", 7, 0, 0, b""),
+    ("998", b"\x0BD23\r00005998\x1C\r", 7, 0, 0, b""),
+    ("blank in count", b"\x0BD23\r    5067\x1C\r", 6, 0, 0, b""),
+    ("FF in count", b"\x0BD23\r0000\xFF067\x1C\r", 6, 0, 0, b""),
+    ("11 bytes", b"\x0BD23\r0005067\x1C\r", 5, 0, 0, b""),
+    ("type E", b"\x0BE23\r00005999\x1C\r", 5, 0, 0, b""),
+    ("version 22", b"\x0BD22\r00005999\x1C\r", 5, 0, 0, b""),
+    ("LF for CR", b"\x0BD23\n00005999\x1C\r", 5, 0, 0, b""),
+    ("N, no data", b"\x0BN23\r00005999\x1C\r", 5, 0, 0, b""),
+    ("N, two bytes", b"\x0BN23\rCC00007999\x1C\r", 5, 0, 0, b""),
+    ("N, A", b"\x0BN23\rA00006999\x1C\r", 5, 0, 0, b""),
+    ("N, 01", b"\x0BN23\r\x0100006999\x1C\r", 5, 0, 0, b""),
+    ("N, 999", b"\x0BN23\rG00006999\x1C\r", 0, 0, b'N', b"G"),
+];
+
+const MINIMAL_CASES: &[Single] = &[
+    ("no data", b"\x0B\x1C\r", 0, 0, b'D', b""),
+    ("D", b"\x0BA\rz\x1C\r", 0, 0, b'D', b"A\rz"),
+    ("D + 1", b"\x0BA\rzz\x1C\r", 4, 0, 0, b""),
+    ("long, no CR", b"\x0BA\rzz\x1Cx", 4, 0, 0, b""),
+    ("no CR", b"\x0BA\x01\x1Cx", 5, 0, 0, b""),
+    ("7F", b"\x0BA\x7F\x1C\r", 3, 1, 0, b""),
+    ("long, cut", b"\x0BABCDE\x0B", 8, 0, 0, b""),
+];
+
 pub fn cases_by_hand(compare: &mut Compare) -> Outcome {
-    let s = hybrid(4096);
-    let mut case = |name: &str, settings: &Settings, input: &[u8], expected: &[Hand]| {
-        stream_case(compare, name, settings, input, expected)
-    };
-    case("P1", &s, P1, &[(0, 0, 0, b'D', b"")])?;
-    case("P2", &s, P2, &[(0, 0, 0, b'D', b"A\r")])?;
-    case("P3", &s, P3, &[(0, 0, 0, b'N', b"X")])?;
-    case(
-        "P4 C",
-        &s,
-        b"\x0BN23\rC00006010\x1C\r",
-        &[(0, 0, 0, b'N', b"C")],
-    )?;
-    case(
-        "P4 B",
-        &s,
-        b"\x0BN23\rB00006011\x1C\r",
-        &[(0, 0, 0, b'N', b"B")],
-    )?;
-    case(
-        "P4 G",
-        &s,
-        b"\x0BN23\rG00006014\x1C\r",
-        &[(0, 0, 0, b'N', b"G")],
-    )?;
-    case(
-        "P5 999",
-        &s,
-        b"\x0BD23\r00005999\x1C\r",
-        &[(0, 0, 0, b'D', b"")],
-    )?;
-    case(
-        "P5 256",
-        &s,
-        b"\x0BD23\r00005256\x1C\r",
-        &[(0, 7, 0, 0, b"")],
-    )?;
-    case("P6", &s, b"\x0BD23\r00006067\x1C\r", &[(0, 6, 0, 0, b"")])?;
-    case("P7", &s, b"\x0BD23\r00006068\x1C\r", &[(0, 6, 0, 0, b"")])?;
-    case("P8", &s, b"\x0BD\x0B", &[(0, 8, 0, 0, b"")])?;
-    case("empty input", &s, b"", &[])?;
+    let tables = [
+        (hybrid(4096), PROVED_CASES),
+        (hybrid(3), DATA_CASES),
+        (Settings::minimal(3), MINIMAL_CASES),
+    ];
+    for (settings, table) in tables {
+        for &(name, input, number, place, kind, data) in table {
+            let expected = [(0, number, place, kind, data)];
+            stream_case(compare, name, &settings, input, &expected)?;
+        }
+        stream_case(compare, "empty input", &settings, b"", &[])?;
+    }
     let both = [P1, P3].concat();
     let two = [(0, 0, 0, b'D', &b""[..]), (15, 0, 0, b'N', b"X")];
-    case("blocklist", &s, &both, &two)?;
-    data_cases(compare)?;
-    stream_cases(compare)?;
-    minimal_cases(compare)
-}
-
-/// Data of D and D + 1 bytes, byte 7F, and the other places of a block.
-fn data_cases(compare: &mut Compare) -> Outcome {
-    let s = hybrid(3);
-    let mut case = |name: &str, settings: &Settings, input: &[u8], expected: &[Hand]| {
-        stream_case(compare, name, settings, input, expected)
-    };
-    // The sum of P1 is 067; ABC adds 40, ABCD adds 04, A and 7F add 3E.
-    case(
-        "D",
-        &s,
-        b"\x0BD23\rABC00008003\x1C\r",
-        &[(0, 0, 0, b'D', b"ABC")],
-    )?;
-    case(
-        "D + 1",
-        &s,
-        b"\x0BD23\rABCD00009071\x1C\r",
-        &[(0, 4, 0, 0, b"")],
-    )?;
-    case(
-        "7F",
-        &s,
-        b"\x0BD23\rA\x7F00007125\x1C\r",
-        &[(0, 3, 1, 0, b"")],
-    )?;
-    case(
-        "7E",
-        &s,
-        b"\x0BD23\rA~00007124\x1C\r",
-        &[(0, 0, 0, b'D', b"A~")],
-    )?;
-    case(
-        "80",
-        &s,
-        b"\x0BD23\r\x8000006195\x1C\r",
-        &[(0, 3, 0, 0, b"")],
-    )?;
-    case(
-        "3 before 6",
-        &s,
-        b"\x0BD23\r\x1F00009999\x1C\r",
-        &[(0, 3, 0, 0, b"")],
-    )?;
-    case(
-        "blank in sum",
-        &s,
-        b"\x0BD23\r00005 67\x1C\r",
-        &[(0, 7, 0, 0, b"")],
-    )?;
-    case("998", &s, b"\x0BD23\r00005998\x1C\r", &[(0, 7, 0, 0, b"")])?;
-    case(
-        "blank in count",
-        &s,
-        b"\x0BD23\r    5067\x1C\r",
-        &[(0, 6, 0, 0, b"")],
-    )?;
-    case(
-        "FF in count",
-        &s,
-        b"\x0BD23\r0000\xFF067\x1C\r",
-        &[(0, 6, 0, 0, b"")],
-    )?;
-    case(
-        "11 bytes",
-        &s,
-        b"\x0BD23\r0005067\x1C\r",
-        &[(0, 5, 0, 0, b"")],
-    )?;
-    case(
-        "type E",
-        &s,
-        b"\x0BE23\r00005999\x1C\r",
-        &[(0, 5, 0, 0, b"")],
-    )?;
-    case(
-        "version 22",
-        &s,
-        b"\x0BD22\r00005999\x1C\r",
-        &[(0, 5, 0, 0, b"")],
-    )?;
-    case(
-        "LF for CR",
-        &s,
-        b"\x0BD23\n00005999\x1C\r",
-        &[(0, 5, 0, 0, b"")],
-    )?;
-    case(
-        "N without data",
-        &s,
-        b"\x0BN23\r00005999\x1C\r",
-        &[(0, 5, 0, 0, b"")],
-    )?;
-    case(
-        "N with two",
-        &s,
-        b"\x0BN23\rCC00007999\x1C\r",
-        &[(0, 5, 0, 0, b"")],
-    )?;
-    case(
-        "N with A",
-        &s,
-        b"\x0BN23\rA00006999\x1C\r",
-        &[(0, 5, 0, 0, b"")],
-    )?;
-    case(
-        "N with 01",
-        &s,
-        b"\x0BN23\r\x0100006999\x1C\r",
-        &[(0, 5, 0, 0, b"")],
-    )?;
-    case(
-        "N with 999",
-        &s,
-        b"\x0BN23\rG00006999\x1C\r",
-        &[(0, 0, 0, b'N', b"G")],
-    )?;
-    case("N, D is 1", &hybrid(1), P3, &[(0, 0, 0, b'N', b"X")])?;
+    stream_case(compare, "blocklist", &hybrid(4096), &both, &two)?;
+    let nak = [(0, 0, 0, b'N', &b"X"[..])];
+    stream_case(compare, "N, D is 1", &hybrid(1), P3, &nak)?;
     // With SB FF the sum is 067 changed by 0B and FF: 183.
     let other = Settings::hybrid(0xFF, 0x00, 3);
-    case(
-        "SB FF",
-        &other,
-        b"\xFFD23\r00005183\x00\r",
-        &[(0, 0, 0, b'D', b"")],
-    )
+    let empty = [(0, 0, 0, b'D', &b""[..])];
+    stream_case(compare, "SB FF", &other, b"\xFFD23\r00005183\x00\r", &empty)?;
+    stream_cases(compare)?;
+    minimal_cases(compare)
 }
 
 /// What the open points R-1 to R-5 show.
@@ -300,24 +201,11 @@ fn stream_cases(compare: &mut Compare) -> Outcome {
 
 fn minimal_cases(compare: &mut Compare) -> Outcome {
     let s = Settings::minimal(3);
-    let mut case = |name: &str, input: &[u8], expected: &[Hand]| {
-        stream_case(compare, name, &s, input, expected)
-    };
-    case("minimal empty input", b"", &[])?;
-    case("minimal no data", b"\x0B\x1C\r", &[(0, 0, 0, b'D', b"")])?;
-    case("minimal D", b"\x0BA\rz\x1C\r", &[(0, 0, 0, b'D', b"A\rz")])?;
-    case("minimal D + 1", b"\x0BA\rzz\x1C\r", &[(0, 4, 0, 0, b"")])?;
-    case(
-        "minimal long, no CR",
-        b"\x0BA\rzz\x1Cx",
-        &[(0, 4, 0, 0, b"")],
-    )?;
-    case("minimal no CR", b"\x0BA\x01\x1Cx", &[(0, 5, 0, 0, b"")])?;
-    case("minimal 7F", b"\x0BA\x7F\x1C\r", &[(0, 3, 1, 0, b"")])?;
-    case("minimal cut", b"xx\x0BA\x0B", &[(2, 8, 0, 0, b"")])?;
-    case("minimal long, cut", b"\x0BABCDE\x0B", &[(0, 8, 0, 0, b"")])?;
+    let cut = [(2, 8, 0, 0, &b""[..])];
+    stream_case(compare, "minimal cut", &s, b"xx\x0BA\x0B", &cut)?;
     let twice = [(0, 5, 0, 0, &b""[..]), (3, 0, 0, b'D', b"B")];
-    case("minimal SB after EB", b"\x0BA\x1C\x0BB\x1C\r", &twice)
+    let input = b"\x0BA\x1C\x0BB\x1C\r";
+    stream_case(compare, "minimal SB after EB", &s, input, &twice)
 }
 
 /// Data and type, and the block that must be written.
@@ -395,37 +283,22 @@ fn refused_case(
     ))
 }
 
-/// The check of a whole block: number, place, type, data offset and data length.
+/// Number, place, type, data offset and data length of a check.
+const OTHERWISE: [u64; 5] = [5, 0, 0, 0, 0];
+
+/// The check of a whole block, C-1 to C-4.
 pub fn checks_by_hand(compare: &mut Compare) -> Outcome {
     let s = hybrid(10);
-    let five = [5, 0, 0, 0, 0];
-    let long = [b"\x0B", &[b'x'; 23][..]].concat();
     let cases: &[(&[u8], [u64; 5])] = &[
         (P1, [0, 0, 68, 5, 0]),
         (P2, [0, 0, 68, 5, 2]),
         (P3, [0, 0, 78, 5, 1]),
         (b"\x0BD\x0B", [8, 0, 0, 0, 0]),
         (b"\x0B\x0B", [8, 0, 0, 0, 0]),
-        (b"\x0B\x0B\x0B", five),
-        (b"", five),
-        (b"\x0B", five),
-        (&P1[..14], five),
-        (&[&P1[..14], b"x"].concat(), five),
-        (&[&P1[..14], b"\x0B"].concat(), five),
-        (&[b"x", P1].concat(), five),
-        (&[P1, b"x"].concat(), five),
-        (&[P1, P1].concat(), five),
-        (&[P1, b"\x0B"].concat(), five),
         (b"\x0BD23\r\x7F00006000\x1C\r", [3, 0, 0, 0, 0]),
         (b"\x0BD23\rA\x7F00007000\x1C\r", [3, 1, 0, 0, 0]),
         (b"\x0BD23\r00006067\x1C\r", [6, 0, 0, 0, 0]),
         (b"\x0BD23\r00005256\x1C\r", [7, 0, 0, 0, 0]),
-        (&long, five),
-        (&[&long[..], b"\x1C"].concat(), five),
-        (&[&long[..], b"\x1C\r"].concat(), [4, 0, 0, 0, 0]),
-        (&[&long[..], b"\x1Cx"].concat(), [4, 0, 0, 0, 0]),
-        (&[&long[..], b"\x1C\x0B"].concat(), [4, 0, 0, 0, 0]),
-        (&[&long[..], b"\x0B"].concat(), [8, 0, 0, 0, 0]),
     ];
     for (bytes, expected) in cases {
         check_case(compare, &s, bytes, *expected)?;
@@ -434,8 +307,48 @@ pub fn checks_by_hand(compare: &mut Compare) -> Outcome {
     check_case(compare, &m, b"\x0B\x1C\r", [0, 0, 68, 1, 0])?;
     check_case(compare, &m, b"\x0BA\rz\x1C\r", [0, 0, 68, 1, 3])?;
     check_case(compare, &m, b"\x0BA\rzz\x1C\r", [4, 0, 0, 0, 0])?;
-    check_case(compare, &m, b"\x0BA\rz\x1Cx", five)?;
-    check_case(compare, &m, b"\x0BA\r\x00\x1C\r", [3, 2, 0, 0, 0])
+    check_case(compare, &m, b"\x0BA\rz\x1Cx", OTHERWISE)?;
+    check_case(compare, &m, b"\x0BA\r\x00\x1C\r", [3, 2, 0, 0, 0])?;
+    no_whole_block(compare, &s)?;
+    long_checks(compare, &s)
+}
+
+/// Nothing, too little, too much, and something before the block: all 5.
+fn no_whole_block(compare: &mut Compare, settings: &Settings) -> Outcome {
+    let cases: [&[u8]; 10] = [
+        b"",
+        b"\x0B",
+        b"\x0B\x0B\x0B",
+        &P1[..14],
+        &[&P1[..14], b"x"].concat(),
+        &[&P1[..14], b"\x0B"].concat(),
+        &[b"x", P1].concat(),
+        &[P1, b"x"].concat(),
+        &[P1, P1].concat(),
+        &[P1, b"\x0B"].concat(),
+    ];
+    for bytes in cases {
+        check_case(compare, settings, bytes, OTHERWISE)?;
+    }
+    Ok(())
+}
+
+/// One byte more than fits, and each way to go on.
+fn long_checks(compare: &mut Compare, settings: &Settings) -> Outcome {
+    let long = [b"\x0B", &[b'x'; 23][..]].concat();
+    let tails: [(&[u8], u64); 6] = [
+        (b"", 5),
+        (b"\x1C", 5),
+        (b"\x1C\r", 4),
+        (b"\x1Cx", 4),
+        (b"\x1C\x0B", 4),
+        (b"\x0B", 8),
+    ];
+    for (tail, number) in tails {
+        let bytes = [&long[..], tail].concat();
+        check_case(compare, settings, &bytes, [number, 0, 0, 0, 0])?;
+    }
+    Ok(())
 }
 
 fn check_case(

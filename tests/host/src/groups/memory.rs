@@ -7,11 +7,11 @@ use crate::library;
 use crate::make;
 use host::ffi::raw;
 use host::model::{self, Settings};
-use std::ptr::{null, null_mut};
+use std::ptr::{dangling_mut, null, null_mut};
 
 /// Null pointers, and pointers to nothing, with length 0.
 pub fn null_pointers(compare: &mut Compare) -> Outcome {
-    let nowhere: [*mut u8; 3] = [null_mut(), 1 as *mut u8, usize::MAX as *mut u8];
+    let nowhere: [*mut u8; 3] = [null_mut(), dangling_mut(), usize::MAX as *mut u8];
     for pointer in nowhere {
         compare.inputs += 9;
         let found = with_pointer(pointer);

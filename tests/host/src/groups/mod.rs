@@ -1,6 +1,7 @@
 //! The groups of tests, in the order in which they run.
 
 mod blocks;
+mod bytes;
 mod hand;
 mod memory;
 mod refusals;
@@ -24,10 +25,15 @@ pub const ALL: &[(&str, Group)] = &[
     ("lengths_around_limit", blocks::lengths_around_limit),
     ("every_byte_everywhere", blocks::every_byte_everywhere),
     ("put_in_delimiters", blocks::put_in_delimiters),
+    ("forbidden_bytes", bytes::forbidden_bytes),
+    ("adjacent_pairs", bytes::adjacent_pairs),
+    ("checksum_look_alikes", bytes::checksum_look_alikes),
+    ("count_look_alikes", bytes::count_look_alikes),
     ("whole_block_check", blocks::whole_block_check),
     ("every_short_stream", streams::every_short_stream),
     ("streams_in_parts", streams::streams_in_parts),
     ("streams_of_many_blocks", streams::streams_of_many_blocks),
+    ("large_blocks", streams::large_blocks),
     ("blocks_without_end", streams::blocks_without_end),
     ("any_state", states::any_state),
     ("held_blocks", states::held_blocks),

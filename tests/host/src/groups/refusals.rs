@@ -42,45 +42,48 @@ pub fn setting_pairs(compare: &mut Compare) -> Outcome {
     Ok(())
 }
 
+/// Numbers for SB and EB, most of them no byte.
+const WIDE: [u64; 11] = [
+    0x0B,
+    0x1C,
+    256,
+    256 + 0x0B,
+    256 + 0x1C,
+    65_536 + 0x0B,
+    (1 << 32) + 0x0B,
+    (1 << 32) + 0x1C,
+    1 << 63,
+    u64::MAX,
+    u64::MAX - 0xF4,
+];
+
+const LIMITS: [u64; 16] = [
+    0,
+    1,
+    2,
+    127,
+    128,
+    4_096,
+    99_993,
+    99_994,
+    99_995,
+    99_999,
+    100_000,
+    1 << 32,
+    (1 << 32) + 1,
+    1 << 63,
+    u64::MAX - 11,
+    u64::MAX,
+];
+
 /// Numbers that are no byte, and data limits at the ends of their range.
 pub fn setting_numbers(compare: &mut Compare) -> Outcome {
-    let wide = [
-        0x0B,
-        0x1C,
-        256,
-        256 + 0x0B,
-        256 + 0x1C,
-        65_536 + 0x0B,
-        (1 << 32) + 0x0B,
-        (1 << 32) + 0x1C,
-        1 << 63,
-        u64::MAX,
-        u64::MAX - 0xF4,
-    ];
-    for start in wide {
-        for end in wide {
+    for start in WIDE {
+        for end in WIDE {
             every_function(compare, &Settings::hybrid(start, end, 9))?;
         }
     }
-    let limits = [
-        0,
-        1,
-        2,
-        127,
-        128,
-        4_096,
-        99_993,
-        99_994,
-        99_995,
-        99_999,
-        100_000,
-        1 << 32,
-        (1 << 32) + 1,
-        1 << 63,
-        u64::MAX - 11,
-        u64::MAX,
-    ];
-    for limit in limits {
+    for limit in LIMITS {
         for _ in 0..20 {
             let hybrid = make::hybrid_settings(&mut compare.random, limit);
             every_function(compare, &hybrid)?;
@@ -103,7 +106,7 @@ pub fn refusal_order(compare: &mut Compare) -> Outcome {
     ];
     for settings in settings {
         for state_words in 0..=6 {
-            for verdict_words in (0..=10).rev().step_by(1) {
+            for verdict_words in 0..=10 {
                 read_refusals(compare, &settings, state_words, verdict_words)?;
             }
         }

@@ -97,6 +97,32 @@ pub fn streams_of_many_blocks(compare: &mut Compare) -> Outcome {
     Ok(())
 }
 
+/// Blocks of thousands of bytes, good or with one byte changed, between others.
+pub fn large_blocks(compare: &mut Compare) -> Outcome {
+    for round in 0..600 {
+        let limit = compare.random.pick(&[4_000, 4_096, 16_384, 60_000, 99_994]);
+        let settings = if round % 3 == 0 {
+            Settings::minimal(limit)
+        } else {
+            make::hybrid_settings(&mut compare.random, limit)
+        };
+        let length = compare.random.between(900, limit as usize);
+        let data = make::data(&mut compare.random, length);
+        let mut block = make::block(&settings, b'D', &data);
+        if compare.random.one_in(2) {
+            let place = compare.random.below(block.len());
+            block[place] = compare.random.byte();
+        }
+        compare.check(&settings, &block)?;
+        let mut stream = make::piece(&mut compare.random, &settings);
+        stream.extend(block);
+        stream.extend(make::good(&mut compare.random, &settings));
+        let cuts = compare.random_cuts(stream.len());
+        compare.stream(&settings, &stream, &cuts)?;
+    }
+    Ok(())
+}
+
 /// Blocks far over the limit, and what may follow: nothing, SB, EB, EB CR, EB SB, EB x.
 pub fn blocks_without_end(compare: &mut Compare) -> Outcome {
     for limit in [1, 2, 12, 13, 128, 4_096, 99_993, 99_994] {

@@ -1,0 +1,24 @@
+-- Bytes searched, and bytes written over others.
+use mathlib.Core.List.{List, [], _∷_, _++_}
+use mathlib.Core.Bool.{Bool, true, false, cond, _||_}
+use Prim.Native.Nat.{ℕ, suc, _+_}
+use lib.ListN.{length, take, drop}
+use lib.Dec.{eqb}
+
+-- how many bytes come before the first a or b
+abbrev pub clear : ℕ → ℕ → List ℕ → ℕ
+clear a b [] = 0
+clear a b (x ∷ xs) = cond (eqb x a || eqb x b) 0 (suc (clear a b xs))
+
+-- whether a or b is among the bytes
+abbrev pub hasAny : ℕ → ℕ → List ℕ → Bool
+hasAny a b [] = false
+hasAny a b (x ∷ xs) = (eqb x a || eqb x b) || hasAny a b xs
+
+-- l with vs written over it from place a on
+unfoldable pub put : List ℕ → ℕ → List ℕ → List ℕ
+put l a vs = take a l ++ vs ++ drop (a + length vs) l
+
+-- target with source written over its beginning, as much of it as fits
+abbrev pub overwritten : List ℕ → List ℕ → List ℕ
+overwritten target source = take (length target) source ++ drop (length source) target

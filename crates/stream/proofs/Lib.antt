@@ -1,0 +1,5 @@
+pub mod Steps
+pub mod Store
+pub mod Returns
+pub mod Run
+pub mod Checks

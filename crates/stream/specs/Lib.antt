@@ -1,0 +1,4 @@
+pub mod Stream
+pub mod Scan
+pub mod Whole
+pub mod Internal

@@ -1,0 +1,70 @@
+// Reading hybrid and minimal blocks: a stream in parts, or one whole block in memory.
+mod check;
+mod find;
+mod scan;
+
+ghost use mathlib.Core.Path.{_≡_};
+ghost use Rattle.stream.specs.Scan.{fresh};
+use block::Verdict;
+pub use check::check_block;
+pub use scan::block_content;
+pub use scan::read;
+
+// Where a reader stands in the stream.
+pub enum Phase {
+    Between,
+    Inside,
+    // After the EB of a block whose verdict comes with the next byte.
+    Ended,
+}
+
+// A reader's state between two parts of the input.
+pub struct Reader {
+    pub phase: Phase,
+    // Bytes of the current block, at most one more than the buffer holds of it.
+    pub body_length: usize,
+    // The offset of the current block's SB in the stream.
+    pub block_offset: usize,
+    // The offset of the next byte.
+    pub position: usize,
+}
+
+// What reading a part gives.
+pub enum Answer {
+    // Refused by 1, 2, 11.
+    Setting,
+    Room,
+    State,
+    // All of the part was read and brought no verdict.
+    Pending,
+    // The offset of a block's SB, and the verdict on it.
+    Found(usize, Verdict),
+}
+
+pub struct Reading {
+    pub answer: Answer,
+    pub reader: Reader,
+    // Bytes of the part that were read.
+    pub used: usize,
+}
+
+// What checking a whole block gives.
+pub enum Checked {
+    // Refused by 1.
+    Setting,
+    Judged(Verdict),
+}
+
+impl Reader {
+    // The state before the first byte of a stream.
+    pub fn new() -> Reader
+        ensures { λ r. ⌜ r ≡ fresh ⌝ }
+    {
+        Reader {
+            phase: Phase::Between,
+            body_length: 0,
+            block_offset: 0,
+            position: 0,
+        }
+    }
+}

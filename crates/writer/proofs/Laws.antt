@@ -1,0 +1,123 @@
+-- Laws of the writer: parts that were lent one after the other, the parts of a block, and the tests in their order.
+use mathlib.Core.Path.{_≡_, refl, sym, ap, _∙_}
+use mathlib.Core.List.{List, [], _∷_, _++_, append-assoc}
+use mathlib.Core.Bool.{true, false}
+use Prim.Native.Nat.{ℕ, _+_, _-_, _≤_, _<_}
+use native.Mathlib.Decide.{decLe}
+use native.Mathlib.Omega.{arith}
+use lib.ListN.{length, drop, length-append}
+use lib.Dec.{leb}
+use borrow.Author.Tests.{le-leb, lt-leb, leb-true}
+use borrow.Rule.Slice.PartMut.{midOf, putMid}
+use Rattle.lists.proofs.Put.{back, put-put, length-put}
+use Rattle.lists.specs.Bytes.{put}
+use Rattle.block.specs.Format.{allAllowed, firstForbidden, version, fiveDigits, threeDigits, countField, checksumOf, hybridBody, hybridBlock, minimalBlock, blockOf}
+use Rattle.block.specs.Settings.{valid}
+use Rattle.block.specs.declared.Kind.{Kind}
+use Rattle.block.specs.declared.Kind.the-variants.{Hybrid, Minimal}
+use Rattle.block.specs.declared.Settings.{Settings}
+use Rattle.writer.specs.Write.{Outcome, frameOf, needOf, typeValid, refused, wrote, writeOf}
+use Rattle.writer.specs.Internal.{hybridHeader, hybridTrailer}
+use Rattle.writer.specs.declared.Written.the-variants.{Setting, Room, Long, Shape, Byte, Block}
+
+-- the part from b on, lent after the bytes vs were written from a on, and come back with ws at its beginning
+pub next : (l m vs ws last : List ℕ) (a b n : ℕ) → m ≡ put l a vs → b ≡ a + length vs → n ≡ length ws → a + length vs ≤ length l
+    → last ≡ ws ++ drop n (midOf b (length m - b) m) → putMid b (length m - b) m last ≡ put l a (vs ++ ws)
+next l m vs ws last a b n e f g h q =
+    let s : length m ≡ length l = ap length e ∙ length-put l vs a h in
+    let z : putMid b (length m - b) m last ≡ put m b ws = back m ws last b (omega arith) (q ∙ rw g) in
+    z ∙ rw (e, f) (put-put l vs ws a h)
+
+-- three parts, lent one after the other
+pub three : (l h d t x y z m n : List ℕ) (a : ℕ) → a + (length h + length d + length t) ≤ length l
+    → x ≡ h ++ drop (length h) (midOf a (length l - a) l) → m ≡ putMid a (length l - a) l x
+    → y ≡ d ++ drop (length d) (midOf (a + length h) (length m - (a + length h)) m) → n ≡ putMid (a + length h) (length m - (a + length h)) m y
+    → z ≡ t ++ drop (length t) (midOf (a + length h + length d) (length n - (a + length h + length d)) n)
+    → putMid (a + length h + length d) (length n - (a + length h + length d)) n z ≡ put l a (h ++ d ++ t)
+three l h d t x y z m n a r e e′ f f′ g =
+    let p : m ≡ put l a h = e′ ∙ back l h x a (omega arith) e in
+    let q : n ≡ put l a (h ++ d) = f′ ∙ next l m h d y a (a + length h) (length d) p refl refl (omega arith) f in
+    let w : length (h ++ d) ≡ length h + length d = length-append h d in
+    next l n (h ++ d) t z a (a + length h + length d) (length t) q (omega arith) refl (omega arith) g
+
+regroup : (v d c x e : List ℕ) → v ++ d ++ (c ++ x ++ e) ≡ v ++ d ++ c ++ x ++ e
+regroup v d c x e = simp append-assoc
+
+pub hybrid-is : (s : Settings) (t : ℕ) (d : List ℕ)
+    → hybridHeader (s .«start_block») t ++ d ++ hybridTrailer (5 + length d) (checksumOf (s .«start_block») t d) (s .«end_block») ≡ hybridBlock s t d
+unfolding hybridHeader hybridTrailer hybridBlock hybridBody countField
+hybrid-is s t d =
+    ap (λ (l : List ℕ). s .«start_block» ∷ l)
+    (regroup (t ∷ version) d (fiveDigits (5 + length d)) (threeDigits (checksumOf (s .«start_block») t d)) (s .«end_block» ∷ 13 ∷ []))
+
+pub minimal-is : (s : Settings) (d : List ℕ) → (s .«start_block» ∷ []) ++ d ++ (s .«end_block» ∷ 13 ∷ []) ≡ minimalBlock s d
+unfolding minimalBlock
+minimal-is s d = refl
+
+length-three : (h d t : List ℕ) → length (h ++ d ++ t) ≡ length d + (length h + length t)
+length-three h d t = simp length-append (omega arith)
+
+pub length-hybrid : (s : Settings) (t : ℕ) (d : List ℕ) → length d + 15 ≡ length (hybridBlock s t d)
+unfolding hybridHeader hybridTrailer fiveDigits threeDigits
+length-hybrid s t d =
+    sym (length-three (hybridHeader (s .«start_block») t) d (hybridTrailer (5 + length d) (checksumOf (s .«start_block») t d) (s .«end_block»)))
+    ∙ ap length (hybrid-is s t d)
+
+pub length-minimal : (s : Settings) (d : List ℕ) → length d + 3 ≡ length (minimalBlock s d)
+length-minimal s d = sym (length-three (s .«start_block» ∷ []) d (s .«end_block» ∷ 13 ∷ [])) ∙ ap length (minimal-is s d)
+
+-- the room, as the code tests it
+pub room-left : (have place frame size : ℕ) → place ≤ have → frame ≤ have - place → leb size (have - place - frame) ≡ leb (place + (size + frame)) have
+room-left have place frame size h l = go (decLe size (have - place - frame))
+  where
+    go : Dec (size ≤ have - place - frame) → leb size (have - place - frame) ≡ leb (place + (size + frame)) have
+    go (yes e) = le-leb size (have - place - frame) e ∙ sym (le-leb (place + (size + frame)) have (omega arith))
+    go (no e) = lt-leb size (have - place - frame) (omega arith) ∙ sym (lt-leb (place + (size + frame)) have (omega arith))
+
+-- what the writer says, by the first test that fails
+module _ (s : Settings) (t : ℕ) (d : List ℕ) (place : ℕ) (b : List ℕ) where
+  pub write-setting : valid s ≡ false → refused Setting b ≡ writeOf s t d place b
+  unfolding writeOf
+  write-setting e = rw e
+
+  pub write-room : valid s ≡ true → leb (place + needOf s d) (length b) ≡ false → refused Room b ≡ writeOf s t d place b
+  unfolding writeOf
+  write-room e f = rw (e, f)
+
+  pub write-long : valid s ≡ true → leb (place + needOf s d) (length b) ≡ true → s .«data_limit» < length d → refused Long b ≡ writeOf s t d place b
+  unfolding writeOf
+  write-long e f g = rw (e, f, lt-leb _ _ g)
+
+  pub write-shape : valid s ≡ true → leb (place + needOf s d) (length b) ≡ true → length d ≤ s .«data_limit» → typeValid (s .kind) t d ≡ false
+      → refused Shape b ≡ writeOf s t d place b
+  unfolding writeOf
+  write-shape e f g h = rw (e, f, le-leb _ _ g, h)
+
+  pub write-byte : valid s ≡ true → leb (place + needOf s d) (length b) ≡ true → length d ≤ s .«data_limit» → typeValid (s .kind) t d ≡ true
+      → allAllowed d ≡ false → refused (Byte (firstForbidden d)) b ≡ writeOf s t d place b
+  unfolding writeOf
+  write-byte e f g h i = rw (e, f, le-leb _ _ g, h, i)
+
+  pub write-all : valid s ≡ true → leb (place + needOf s d) (length b) ≡ true → length d ≤ s .«data_limit» → typeValid (s .kind) t d ≡ true
+      → allAllowed d ≡ true → wrote b place (blockOf s t d) ≡ writeOf s t d place b
+  unfolding writeOf
+  write-all e f g h i = rw (e, f, le-leb _ _ g, h, i)
+
+  pub block-hybrid : s .kind ≡ Hybrid → hybridBlock s t d ≡ blockOf s t d
+  unfolding blockOf
+  block-hybrid e = rw e
+
+  pub block-minimal : s .kind ≡ Minimal → minimalBlock s d ≡ blockOf s t d
+  unfolding blockOf
+  block-minimal e = rw e
+
+pub wrote-is : (b : List ℕ) (place n : ℕ) (m block whole : List ℕ) → n ≡ length block → m ≡ put b place block → block ≡ whole
+    → _≡_ {A = Outcome} (record { answer = Block n; buffer = m }) (wrote b place whole)
+wrote-is b place n m block whole e f g = rw (e, f, g)
+
+-- the room that was tested, for each kind
+pub room-hybrid : (k : Kind) (place n : ℕ) (d : List ℕ) → leb (place + (length d + frameOf k)) n ≡ true → k ≡ Hybrid → place + (length d + 15) ≤ n
+room-hybrid k place n d h e = leb-true (place + (length d + 15)) n (rw e at h)
+
+pub room-minimal : (k : Kind) (place n : ℕ) (d : List ℕ) → leb (place + (length d + frameOf k)) n ≡ true → k ≡ Minimal → place + (length d + 3) ≤ n
+room-minimal k place n d h e = leb-true (place + (length d + 3)) n (rw e at h)

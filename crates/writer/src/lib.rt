@@ -1,0 +1,127 @@
+// Writing one block into the caller's buffer, from a place the caller names.
+mod content;
+mod hybrid;
+mod minimal;
+
+use block::Kind;
+use block::Settings;
+ghost use mathlib.Core.Path.{_≡_};
+ghost use Prim.Native.Nat.{_+_};
+ghost use lib.Dec.{leb};
+ghost use Rattle.writer.specs.Write.{Outcome, numberOf, placeOf, lengthOf, frameOf, typeValid, writeOf};
+
+// What writing a block gives.
+pub enum Written {
+    // Refused by 1, 2, 4, 5.
+    Setting,
+    Room,
+    Long,
+    Shape,
+    // Refused by 3: the offset in the data of the first byte that is not allowed.
+    Byte(usize),
+    // The length of the block that was written.
+    Block(usize),
+}
+
+impl Written {
+    // The number of document 01's table, 0 where the block was written.
+    pub fn number(self) -> u64
+        ensures { λ r. ⌜ r ≡ numberOf self ⌝ }
+    {
+        match self {
+            Written::Setting => 1,
+            Written::Room => 2,
+            Written::Long => 4,
+            Written::Shape => 5,
+            Written::Byte(_) => 3,
+            Written::Block(_) => 0,
+        }
+    }
+
+    pub fn place(self) -> usize
+        ensures { λ r. ⌜ r ≡ placeOf self ⌝ }
+    {
+        match self {
+            Written::Setting => 0,
+            Written::Room => 0,
+            Written::Long => 0,
+            Written::Shape => 0,
+            Written::Byte(place) => place,
+            Written::Block(_) => 0,
+        }
+    }
+
+    // The length of the block, 0 where none was written.
+    pub fn length(self) -> usize
+        ensures { λ r. ⌜ r ≡ lengthOf self ⌝ }
+    {
+        match self {
+            Written::Setting => 0,
+            Written::Room => 0,
+            Written::Long => 0,
+            Written::Shape => 0,
+            Written::Byte(_) => 0,
+            Written::Block(length) => length,
+        }
+    }
+}
+
+// How many bytes a block has besides its data.
+fn frame(kind: Kind) -> usize
+    ensures { λ r. ⌜ r ≡ frameOf kind ⌝ }
+{
+    match kind {
+        Kind::Hybrid => 15,
+        Kind::Minimal => 3,
+    }
+}
+
+// Whether a block's frame and data fit from the place on in a buffer of `have` bytes.
+fn has_room(have: usize, place: usize, frame: usize, size: usize) -> bool
+    ensures { λ r. ⌜ r ≡ leb (place + (size + frame)) have ⌝ }
+{
+    if have < place {
+        return false;
+    }
+    let rest = have - place;
+    if rest < frame {
+        return false;
+    }
+    size <= rest - frame
+}
+
+// Whether t is a type that goes with the data; a minimal block has none.
+fn type_valid(kind: Kind, t: u8, content: &[u8]) -> bool
+    ensures { λ r. ⌜ r ≡ typeValid kind t (now (content .entry)) ⌝ }
+{
+    match kind {
+        Kind::Hybrid => block::type_matches(t, content),
+        Kind::Minimal => true,
+    }
+}
+
+// Writes a block with this type and data into the buffer from the place on. A refusal writes nothing.
+pub fn write(settings: Settings, t: u8, content: &[u8], buffer: &mut [u8], place: usize) -> Written
+    ensures { λ r. ⌜ _≡_ {A = Outcome} (record { answer = r; buffer = now (buffer .exit) }) (writeOf settings t (now (content .entry)) place (now (buffer .entry))) ⌝ }
+{
+    let kind = settings.kind;
+    if !settings.is_valid() {
+        return Written::Setting;
+    }
+    if !has_room(buffer.len(), place, frame(kind), content.len()) {
+        return Written::Room;
+    }
+    if settings.data_limit < content.len() {
+        return Written::Long;
+    }
+    if !type_valid(kind, t, content) {
+        return Written::Shape;
+    }
+    if !block::are_allowed(content) {
+        return Written::Byte(block::first_forbidden(content));
+    }
+    match kind {
+        Kind::Hybrid => Written::Block(hybrid::write_block(settings, t, content, buffer, place)),
+        Kind::Minimal => Written::Block(minimal::write_block(settings, content, buffer, place)),
+    }
+}
