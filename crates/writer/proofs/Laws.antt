@@ -11,7 +11,7 @@ use borrow.Author.Tests.{le-leb, lt-leb, leb-true}
 use borrow.Rule.Slice.PartMut.{midOf, putMid}
 use Rattle.lists.proofs.Put.{back, put-put, length-put}
 use Rattle.lists.specs.Bytes.{put}
-use Rattle.block.specs.Format.{allAllowed, firstForbidden, version, fiveDigits, threeDigits, countField, checksumOf, hybridBody, hybridBlock, minimalBlock, blockOf}
+use Rattle.block.specs.Format.{byKind, allAllowed, firstForbidden, version, fiveDigits, threeDigits, countField, checksumOf, hybridBody, hybridBlock, minimalBlock, blockOf}
 use Rattle.block.specs.Settings.{valid}
 use Rattle.block.specs.declared.Kind.{Kind}
 use Rattle.block.specs.declared.Kind.the-variants.{Hybrid, Minimal}
@@ -21,24 +21,24 @@ use Rattle.writer.specs.Internal.{hybridHeader, hybridTrailer}
 use Rattle.writer.specs.declared.Written.the-variants.{Setting, Room, Long, Shape, Byte, Block}
 
 -- the part from b on, lent after the bytes vs were written from a on, and come back with ws at its beginning
-pub next : (l m vs ws last : List ℕ) (a b n : ℕ) → m ≡ put l a vs → b ≡ a + length vs → n ≡ length ws → a + length vs ≤ length l
+pub next-part : (l m vs ws last : List ℕ) (a b n : ℕ) → m ≡ put l a vs → b ≡ a + length vs → length ws ≡ n → a + length vs ≤ length l
     → last ≡ ws ++ drop n (midOf b (length m - b) m) → putMid b (length m - b) m last ≡ put l a (vs ++ ws)
-next l m vs ws last a b n e f g h q =
+next-part l m vs ws last a b n e f g h q =
     let s : length m ≡ length l = ap length e ∙ length-put l vs a h in
     let z : putMid b (length m - b) m last ≡ put m b ws = back m ws last b (omega arith) (q ∙ rw g) in
     z ∙ rw (e, f) (put-put l vs ws a h)
 
--- three parts, lent one after the other
-pub three : (l h d t x y z m n : List ℕ) (a : ℕ) → a + (length h + length d + length t) ≤ length l
-    → x ≡ h ++ drop (length h) (midOf a (length l - a) l) → m ≡ putMid a (length l - a) l x
-    → y ≡ d ++ drop (length d) (midOf (a + length h) (length m - (a + length h)) m) → n ≡ putMid (a + length h) (length m - (a + length h)) m y
-    → z ≡ t ++ drop (length t) (midOf (a + length h + length d) (length n - (a + length h + length d)) n)
-    → putMid (a + length h + length d) (length n - (a + length h + length d)) n z ≡ put l a (h ++ d ++ t)
-three l h d t x y z m n a r e e′ f f′ g =
-    let p : m ≡ put l a h = e′ ∙ back l h x a (omega arith) e in
-    let q : n ≡ put l a (h ++ d) = f′ ∙ next l m h d y a (a + length h) (length d) p refl refl (omega arith) f in
+-- the header h, the data d and the trailer t, each written into the part that was lent after those before it
+pub three-parts : (l h d t x y z m n : List ℕ) (a i j : ℕ) → length h ≡ i → length t ≡ j → a + (length d + (i + j)) ≤ length l
+    → x ≡ h ++ drop i (midOf a (length l - a) l) → m ≡ putMid a (length l - a) l x
+    → y ≡ d ++ drop (length d) (midOf (a + i) (length m - (a + i)) m) → n ≡ putMid (a + i) (length m - (a + i)) m y
+    → z ≡ t ++ drop j (midOf (a + i + length d) (length n - (a + i + length d)) n)
+    → putMid (a + i + length d) (length n - (a + i + length d)) n z ≡ put l a (h ++ d ++ t)
+three-parts l h d t x y z m n a i j u v r e e′ f f′ g =
+    let p : m ≡ put l a h = e′ ∙ back l h x a (omega arith) (e ∙ rw u) in
+    let q : n ≡ put l a (h ++ d) = f′ ∙ next-part l m h d y a (a + i) (length d) p (omega arith) refl (omega arith) f in
     let w : length (h ++ d) ≡ length h + length d = length-append h d in
-    next l n (h ++ d) t z a (a + length h + length d) (length t) q (omega arith) refl (omega arith) g
+    next-part l n (h ++ d) t z a (a + i + length d) j q (omega arith) v (omega arith) g
 
 regroup : (v d c x e : List ℕ) → v ++ d ++ (c ++ x ++ e) ≡ v ++ d ++ c ++ x ++ e
 regroup v d c x e = simp append-assoc
@@ -54,17 +54,34 @@ pub minimal-is : (s : Settings) (d : List ℕ) → (s .«start_block» ∷ []) +
 unfolding minimalBlock
 minimal-is s d = refl
 
-length-three : (h d t : List ℕ) → length (h ++ d ++ t) ≡ length d + (length h + length t)
-length-three h d t = simp length-append (omega arith)
+pub length-header : (sb t : ℕ) → length (hybridHeader sb t) ≡ 5
+unfolding hybridHeader
+length-header sb t = refl
+
+pub length-trailer : (count sum eb : ℕ) → length (hybridTrailer count sum eb) ≡ 10
+unfolding hybridTrailer fiveDigits threeDigits
+length-trailer count sum eb = refl
+
+length-three : (h d t : List ℕ) (i j : ℕ) → length h ≡ i → length t ≡ j → length (h ++ d ++ t) ≡ length d + (i + j)
+length-three h d t i j u v = simp length-append (omega arith)
 
 pub length-hybrid : (s : Settings) (t : ℕ) (d : List ℕ) → length d + 15 ≡ length (hybridBlock s t d)
-unfolding hybridHeader hybridTrailer fiveDigits threeDigits
 length-hybrid s t d =
-    sym (length-three (hybridHeader (s .«start_block») t) d (hybridTrailer (5 + length d) (checksumOf (s .«start_block») t d) (s .«end_block»)))
+    sym (length-three (hybridHeader (s .«start_block») t) d (hybridTrailer (5 + length d) (checksumOf (s .«start_block») t d) (s .«end_block»)) 5 10
+    (length-header (s .«start_block») t) (length-trailer (5 + length d) (checksumOf (s .«start_block») t d) (s .«end_block»)))
     ∙ ap length (hybrid-is s t d)
 
 pub length-minimal : (s : Settings) (d : List ℕ) → length d + 3 ≡ length (minimalBlock s d)
-length-minimal s d = sym (length-three (s .«start_block» ∷ []) d (s .«end_block» ∷ 13 ∷ [])) ∙ ap length (minimal-is s d)
+length-minimal s d = sym (length-three (s .«start_block» ∷ []) d (s .«end_block» ∷ 13 ∷ []) 1 2 refl refl) ∙ ap length (minimal-is s d)
+
+-- "Room needed from the named place: the writer's block"
+pub need-is : (s : Settings) (t : ℕ) (d : List ℕ) → needOf s d ≡ length (blockOf s t d)
+unfolding blockOf
+need-is s t d = go (s .kind)
+  where
+    go : (k : Kind) → length d + frameOf k ≡ length (byKind k (hybridBlock s t d) (minimalBlock s d))
+    go Hybrid = length-hybrid s t d
+    go Minimal = length-minimal s d
 
 -- the room, as the code tests it
 pub room-left : (have place frame size : ℕ) → place ≤ have → frame ≤ have - place → leb size (have - place - frame) ≡ leb (place + (size + frame)) have

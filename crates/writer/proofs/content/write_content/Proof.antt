@@ -11,7 +11,9 @@ same-length : tie.Need-same-length
 same-length c = search needs
 
 returns : tie.Need-returns
-returns c = c .before .before .copy-bytes .ensures ∙ over-fits (c .before .before .before .before .before .before .args .out .now) (c .before .before .before .before .before .before .args .content .now) (c .before .before .before .before .before .before .pre)
+returns c =
+    let start = c .before .before .before .before .before .before in
+    c .before .before .copy-bytes .ensures ∙ over-fits (start .args .out .now) (start .args .content .now) (start .pre)
 
 pub write-content-spec : {M : Type 1} → statement M
 write-content-spec = tie.close (tie.spec copy-bytes-requires same-length returns)

@@ -1,12 +1,11 @@
 use Rattle.lists.specs.Bytes.{put}
 use Prim.Native.Nat.{ℕ, _+_}
-use native.Mathlib.Omega.{arith}
 use mathlib.Core.Path.{refl, ap, _∙_}
 use mathlib.Core.List.{List}
 use lib.ListN.{length}
-use Rattle.block.specs.Format.{fiveDigits, threeDigits, checksumOf}
+use Rattle.block.specs.Format.{checksumOf}
 use Rattle.writer.specs.Internal.{hybridHeader, hybridTrailer}
-use Rattle.writer.proofs.Laws.{three, hybrid-is, length-hybrid}
+use Rattle.writer.proofs.Laws.{three-parts, hybrid-is, length-header, length-trailer, length-hybrid}
 use borrow.Author.Needs.{needs}
 use Rattle.writer.proofs.hybrid.write_block.Statement.{statement}
 use Rattle.writer.proofs.hybrid.write_block.Tie as tie
@@ -69,7 +68,6 @@ same-length : tie.Need-same-length
 same-length c = search needs
 
 returns : tie.Need-returns
-unfolding hybridHeader hybridTrailer fiveDigits threeDigits
 returns c =
     let a = c .before .before .before .before .before .before .before .before .before .before .before .before .before .before .before .args in
     let d = a .content .now in
@@ -79,8 +77,9 @@ returns c =
     let trailer = c .before .before .write-trailer in
     let sum = checksumOf (s .«start_block») (a .t) d in (
       length-hybrid s (a .t) d,
-      three (a .buffer .now) (hybridHeader (s .«start_block») (a .t)) d (hybridTrailer (5 + length d) sum (s .«end_block»))
-          (header .last .0) (content .last .0) (trailer .last .0) _ _ (a .place) (omega arith) (header .ensures) refl (content .ensures) refl
+      three-parts (a .buffer .now) (hybridHeader (s .«start_block») (a .t)) d (hybridTrailer (5 + length d) sum (s .«end_block»))
+          (header .last .0) (content .last .0) (trailer .last .0) _ _ (a .place) 5 10 (length-header (s .«start_block») (a .t))
+          (length-trailer (5 + length d) sum (s .«end_block»)) (c .before .before .before .before .before .before .before .before .before .before .before .before .before .before .before .pre) (header .ensures) refl (content .ensures) refl
           (rw (c .before .before .before .before .before .before .before .before .before .before .before .before .block-checksum .ensures) at (trailer .ensures))
           ∙ ap (λ (z : List ℕ). put (a .buffer .now) (a .place) z) (hybrid-is s (a .t) d),
     )

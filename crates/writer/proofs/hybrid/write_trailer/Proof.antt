@@ -69,9 +69,22 @@ same-length c = simp length-set
 returns : tie.Need-returns
 unfolding hybridTrailer fiveDigits threeDigits
 returns c =
-    let a = c .before .before .before .before .before .before .before .before .before .args in
-    rw (c .before .before .before .before .before .before .before .digit-of .ensures, c .before .before .before .before .before .before .digit-of2 .ensures, c .before .before .before .before .before .digit-of3 .ensures, c .before .before .before .before .digit-of4 .ensures, c .before .before .before .digit-of5 .ensures, c .before .before .digit-of6 .ensures, c .before .digit-of7 .ensures, c .digit-of8 .ensures)
-    (sets-eq (digit (a .count / 10000) ∷ digit (a .count / 1000) ∷ digit (a .count / 100) ∷ digit (a .count / 10) ∷ digit (a .count) ∷ digit (a .sum / 100) ∷ digit (a .sum / 10) ∷ digit (a .sum) ∷ a .end-block ∷ 13 ∷ []) (a .out .now) 0 (c .before .before .before .before .before .before .before .before .before .pre))
+    let start = c .before .before .before .before .before .before .before .before .before in
+    let a = start .args in
+    let n = a .count in
+    let m = a .sum in
+    rw (
+      c .before .before .before .before .before .before .before .digit-of .ensures,
+      c .before .before .before .before .before .before .digit-of2 .ensures,
+      c .before .before .before .before .before .digit-of3 .ensures,
+      c .before .before .before .before .digit-of4 .ensures,
+      c .before .before .before .digit-of5 .ensures,
+      c .before .before .digit-of6 .ensures,
+      c .before .digit-of7 .ensures,
+      c .digit-of8 .ensures,
+    )
+    (sets-eq (digit (n / 10000) ∷ digit (n / 1000) ∷ digit (n / 100) ∷ digit (n / 10) ∷ digit n ∷ digit (m / 100) ∷ digit (m / 10) ∷ digit m
+    ∷ a .end-block ∷ 13 ∷ []) (a .out .now) 0 (start .pre))
 
 pub write-trailer-spec : {M : Type 1} → statement M
 write-trailer-spec =

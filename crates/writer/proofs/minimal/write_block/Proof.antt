@@ -1,9 +1,8 @@
 use Prim.Native.Nat.{ℕ}
 use Rattle.lists.specs.Bytes.{put}
-use native.Mathlib.Omega.{arith}
 use mathlib.Core.Path.{refl, ap, _∙_}
 use mathlib.Core.List.{List, [], _∷_}
-use Rattle.writer.proofs.Laws.{three, minimal-is, length-minimal}
+use Rattle.writer.proofs.Laws.{three-parts, minimal-is, length-minimal}
 use borrow.Author.Needs.{needs}
 use Rattle.writer.proofs.minimal.write_block.Statement.{statement}
 use Rattle.writer.proofs.minimal.write_block.Tie as tie
@@ -65,8 +64,8 @@ returns c =
     let content = c .before .before .before .before .before .before .write-content in
     let trailer = c .before .before .write-trailer in (
       length-minimal s d,
-      three (a .buffer .now) (s .«start_block» ∷ []) d (s .«end_block» ∷ 13 ∷ []) (header .last .0) (content .last .0) (trailer .last .0)
-          _ _ (a .place) (omega arith) (header .ensures) refl (content .ensures) refl (trailer .ensures)
+      three-parts (a .buffer .now) (s .«start_block» ∷ []) d (s .«end_block» ∷ 13 ∷ []) (header .last .0) (content .last .0) (trailer .last .0)
+          _ _ (a .place) 1 2 refl refl (c .before .before .before .before .before .before .before .before .before .before .before .before .before .before .pre) (header .ensures) refl (content .ensures) refl (trailer .ensures)
           ∙ ap (λ (z : List ℕ). put (a .buffer .now) (a .place) z) (minimal-is s d),
     )
 
