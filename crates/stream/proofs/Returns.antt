@@ -7,7 +7,9 @@ use native.Mathlib.Nat.{add-zero, add-sub-cancel-left}
 use native.Mathlib.Omega.{arith}
 use lib.ListN.{length, take, drop, length-drop}
 use lib.Seq.{take-all, take-nil}
-use borrow.Author.Tests.{lt-ltb, le-ltb}
+use lib.Dec.{leb}
+use native.Mathlib.Decide.{decLe}
+use borrow.Author.Tests.{lt-ltb, le-ltb, le-leb, lt-leb}
 use Rattle.lists.proofs.Parts.{drop-none}
 use Rattle.block.specs.Settings.{valid, capacityOf, dataOffsetOf}
 use Rattle.block.specs.Verdict.{lengthOf}
@@ -66,3 +68,11 @@ module _ (g : Settings) (v : Verdict) (b : List ℕ) (o n : ℕ) (f : o ≡ data
   pub content-whole : take (o + n - o) (drop o b) ≡ contentOf g v b
   unfolding contentOf
   content-whole = rw (add-sub-cancel-left o n, f, h)
+
+-- room for twelve bytes more, without a sum that could wrap
+pub leb-less : (d l n : ℕ) → n ≤ l → leb d (l - n) ≡ leb (d + n) l
+leb-less d l n h = go (decLe (d + n) l)
+  where
+    go : Dec (d + n ≤ l) → leb d (l - n) ≡ leb (d + n) l
+    go (yes e) = le-leb d (l - n) (omega arith) ∙ sym (le-leb (d + n) l e)
+    go (no e) = lt-leb d (l - n) (omega arith) ∙ sym (lt-leb (d + n) l (omega arith))

@@ -8,6 +8,7 @@ ghost use Rattle.stream.specs.Scan.{fresh};
 use block::Verdict;
 pub use check::check_block;
 pub use scan::block_content;
+pub use scan::buffer_fits;
 pub use scan::read;
 
 // Where a reader stands in the stream.

@@ -8,6 +8,7 @@ use block::Settings;
 use block::Verdict;
 ghost use mathlib.Core.Path.{_≡_};
 ghost use Prim.Native.Nat.{_+_, _≤_};
+ghost use lib.Dec.{leb};
 ghost use lib.ListN.{length};
 ghost use Rattle.block.specs.Settings.{capacityOf};
 ghost use Rattle.stream.specs.Scan.{verdictOf, readOf, given};
@@ -242,4 +243,21 @@ pub fn block_content(settings: Settings, verdict: Verdict, buffer: &[u8]) -> &[u
         return &buffer[offset..];
     }
     &buffer[offset..offset + length]
+}
+
+// Whether a buffer of this length is long enough for the reader.
+pub fn buffer_fits(settings: Settings, buffer: &[u8]) -> bool
+    ensures { λ r. ⌜ r ≡ leb (capacityOf settings) (length (now (buffer .entry))) ⌝ }
+{
+    let kind = settings.kind;
+    let limit = settings.data_limit;
+    match kind {
+        block::Kind::Hybrid => {
+            if buffer.len() < 12 {
+                return false;
+            }
+            limit <= buffer.len() - 12
+        }
+        block::Kind::Minimal => limit <= buffer.len(),
+    }
 }

@@ -1,0 +1,55 @@
+-- What the 64-bit words that a C driver lends mean: a reader's state, a verdict, a writer's report.
+use mathlib.Core.List.{List, [], _∷_, _++_}
+use mathlib.Core.Bool.{Bool, true, false, cond}
+use Prim.Native.Nat.{ℕ, _+_}
+use lib.ListN.{length, getD, drop}
+use lib.Dec.{ltb, eqb}
+use Rattle.block.specs.Verdict.{numberOf, placeOf, typeOf, lengthOf}
+use Rattle.block.specs.declared.Verdict.{Verdict}
+use Rattle.block.specs.declared.Verdict.the-variants.{Accepted, Byte, Long, Shape, Count, Check, Cut}
+use Rattle.stream.specs.declared.Phase.{Phase}
+use Rattle.stream.specs.declared.Phase.the-variants.{Between, Inside, Ended}
+use Rattle.stream.specs.declared.Reader.{Reader}
+use Rattle.giamuvich.specs.declared.Decoded.{Decoded}
+use Rattle.giamuvich.specs.declared.Decoded.the-variants.{Unknown, Known}
+
+-- the first words of what was lent, written over; the others stay
+abbrev pub over : List ℕ → List ℕ → List ℕ
+over l ws = ws ++ drop (length ws) l
+
+abbrev pub phaseNumber : Phase → ℕ
+phaseNumber Between = 0
+phaseNumber Inside = 1
+phaseNumber Ended = 2
+
+-- GMV_PHASE, GMV_BODY_LENGTH, GMV_BLOCK_OFFSET, GMV_POSITION
+unfoldable pub readerWords : Reader → List ℕ
+readerWords r = phaseNumber (r .phase) ∷ r .«body_length» ∷ r .«block_offset» ∷ r .position ∷ []
+
+abbrev pub withPhase : Phase → List ℕ → Decoded
+withPhase p ws = Known (record { phase = p; «body_length» = getD ws 1 0; «block_offset» = getD ws 2 0; position = getD ws 3 0 })
+
+-- "every content of those words is an input": any phase but these three encodes no state
+unfoldable pub decoded : List ℕ → Decoded
+decoded ws =
+    cond (eqb (getD ws 0 0) 0) (withPhase Between ws)
+    (cond (eqb (getD ws 0 0) 1) (withPhase Inside ws) (cond (eqb (getD ws 0 0) 2) (withPhase Ended ws) Unknown))
+
+-- where an accepted block's data begins; 0 for a refused block
+abbrev pub dataPlace : ℕ → Verdict → ℕ
+dataPlace o (Accepted t n) = o
+dataPlace o (Byte p) = 0
+dataPlace o Long = 0
+dataPlace o Shape = 0
+dataPlace o Count = 0
+dataPlace o Check = 0
+dataPlace o Cut = 0
+
+-- GMV_FOUND, GMV_OFFSET, GMV_NUMBER, GMV_PLACE, GMV_TYPE, GMV_DATA_OFFSET, GMV_DATA_LENGTH, GMV_USED
+unfoldable pub verdictWords : ℕ → Verdict → ℕ → ℕ → List ℕ
+verdictWords s v o used =
+    1 ∷ s ∷ numberOf v ∷ placeOf v ∷ typeOf v ∷ dataPlace o v ∷ lengthOf v ∷ used ∷ []
+
+-- no block ended yet
+unfoldable pub pendingWords : ℕ → List ℕ
+pendingWords used = 0 ∷ 0 ∷ 0 ∷ 0 ∷ 0 ∷ 0 ∷ 0 ∷ used ∷ []
