@@ -5,7 +5,6 @@ mod judge;
 
 pub use bytes::are_allowed;
 pub use bytes::first_forbidden;
-pub use bytes::is_allowed;
 pub use digits::digit_of;
 pub use judge::block_checksum;
 pub use judge::judge_block;

@@ -1,0 +1,17 @@
+-- The cases by hand: each equation by computing both sides.
+use mathlib.Core.Path.{_≡_, refl}
+use Rattle.block.specs.Format.{fiveDigits, threeDigits, countField, checksumOf, hybridBody, hybridBlock}
+use Rattle.block.specs.Judge.{same, typeMatches, headerOk, checksumMatches, judgeParts, dataOf, judgeHybrid, judge}
+use Rattle.block.specs.Settings.{valid}
+use Rattle.stream.specs.Stream.{contentOf, outcome, move, run}
+use Rattle.stream.specs.Whole.{wholeOf, checkOf}
+use Rattle.block_theorems.specs.Cases.{Each, none, _and_, cases}
+
+-- "The P cases are proved of the definitions as one list under one claim"
+pub all-cases : Each cases
+unfolding fiveDigits threeDigits countField checksumOf hybridBody hybridBlock same typeMatches headerOk checksumMatches judgeParts dataOf judgeHybrid judge valid contentOf outcome move run wholeOf checkOf
+all-cases =
+    refl and refl and refl and refl and refl and refl and refl and refl and refl and refl and
+    refl and refl and refl and refl and refl and refl and refl and refl and refl and refl and
+    refl and refl and refl and refl and refl and refl and refl and refl and refl and refl and
+    none

@@ -1,0 +1,66 @@
+-- Wherever the writer answers that it wrote a block, the bytes at the place read back.
+use mathlib.Core.Path.{_≡_, refl, sym, ap, _∙_}
+use mathlib.Core.List.{List, [], _∷_, _++_, append-assoc}
+use mathlib.Core.Bool.{Bool, true, false, cond}
+use Prim.Native.Nat.{ℕ, _+_, _≤_}
+use native.Mathlib.Omega.{arith}
+use lib.ListN.{length, take, drop}
+use lib.Seq.{take-at, drop-at, length-take-le}
+use lib.Dec.{leb}
+use borrow.Author.Tests.{leb-true}
+use Rattle.lists.specs.Bytes.{put}
+use Rattle.block.specs.Format.{allAllowed, firstForbidden, blockOf}
+use Rattle.block.specs.Settings.{valid}
+use Rattle.block.specs.declared.Settings.{Settings}
+use Rattle.writer.proofs.Laws.{write-all, need-is}
+use Rattle.writer.specs.Write.{Outcome, numberOf, lengthOf, needOf, typeValid, refused, wrote, writeOf}
+use Rattle.writer.specs.declared.Written.the-variants.{Setting, Room, Long, Shape, Byte, Block}
+use Rattle.block_theorems.proofs.RoundTrip.{reads-back}
+use Rattle.block_theorems.specs.Shapes.{Writable, Wrote}
+
+module _ (g : Settings) (t : ℕ) (d : List ℕ) (place : ℕ) (b : List ℕ) where
+  -- what the tests of the writer have shown where it wrote
+  record Tested (n : ℕ) : Type 0 where
+    able : Writable g t d
+    room : place + needOf g d ≤ length b
+    size : length (blockOf g t d) ≡ n
+    buffer : writeOf g t d place b .buffer ≡ put b place (blockOf g t d)
+
+  tested : (n : ℕ) → writeOf g t d place b .answer ≡ Block n → Tested n
+  unfolding writeOf
+  tested n = go (valid g) (leb (place + needOf g d) (length b)) (leb (length d) (g .«data_limit»)) (typeValid (g .kind) t d) (allAllowed d) refl refl refl refl refl
+    where
+      go : (p q r s u : Bool) → valid g ≡ p → leb (place + needOf g d) (length b) ≡ q → leb (length d) (g .«data_limit») ≡ r
+          → typeValid (g .kind) t d ≡ s → allAllowed d ≡ u
+          → cond p (cond q (cond r (cond s (cond u (wrote b place (blockOf g t d)) (refused (Byte (firstForbidden d)) b)) (refused Shape b)) (refused Long b)) (refused Room b)) (refused Setting b) .answer ≡ Block n
+          → Tested n
+      go false q r s u e₁ e₂ e₃ e₄ e₅ h = absurd (omega (arith, ap numberOf h))
+      go true false r s u e₁ e₂ e₃ e₄ e₅ h = absurd (omega (arith, ap numberOf h))
+      go true true false s u e₁ e₂ e₃ e₄ e₅ h = absurd (omega (arith, ap numberOf h))
+      go true true true false u e₁ e₂ e₃ e₄ e₅ h = absurd (omega (arith, ap numberOf h))
+      go true true true true false e₁ e₂ e₃ e₄ e₅ h = absurd (omega (arith, ap numberOf h))
+      go true true true true true e₁ e₂ e₃ e₄ e₅ h =
+          let f = leb-true (length d) (g .«data_limit») e₃ in
+          record {
+            able = record { settings = e₁; fits = f; type = e₄; bytes = e₅ };
+            room = leb-true (place + needOf g d) (length b) e₂;
+            size = ap lengthOf h;
+            buffer = ap (λ (o : Outcome). o .buffer) (sym (write-all g t d place b e₁ e₂ f e₄ e₅));
+          }
+
+-- the bytes that were written, at their place
+part-put : (l vs : List ℕ) (a : ℕ) → a ≤ length l → take (length vs) (drop a (put l a vs)) ≡ vs
+unfolding put
+part-put l vs a h =
+    rw (append-assoc (take a l) vs (drop (a + length vs) l), drop-at (take a l) (vs ++ drop (a + length vs) l) a (length-take-le a l h))
+    (take-at vs (drop (a + length vs) l) (length vs) refl)
+
+-- "The writer writes D blocks of 0 to D data bytes, or N blocks, always with the computed sum. It writes into the caller's buffer from a place the caller names"
+pub wrote-reads-back : (g : Settings) (t : ℕ) (d : List ℕ) (place : ℕ) (b : List ℕ) (n : ℕ) → writeOf g t d place b .answer ≡ Block n
+    → Wrote g t d (take n (drop place (writeOf g t d place b .buffer)))
+wrote-reads-back g t d place b n e =
+    let w = tested g t d place b n e in
+    let h : place ≤ length b = omega (arith, w .room) in
+    let i : take n (drop place (writeOf g t d place b .buffer)) ≡ blockOf g t d =
+    ap (λ (l : List ℕ). take n (drop place l)) (w .buffer) ∙ ap (λ (m : ℕ). take m (drop place (put b place (blockOf g t d)))) (sym (w .size)) ∙ part-put b (blockOf g t d) place h in
+    record { is = i; able = w .able; reads = rw i (reads-back g t d (w .able)) }

@@ -1,0 +1,6 @@
+pub mod Content
+pub mod Simulation
+pub mod Parts
+pub mod Buffer
+pub mod Calls
+pub mod Example
