@@ -35,6 +35,11 @@ capacityOf s = byKind (s .kind) (s .«data_limit» + 12) (s .«data_limit»)
 abbrev pub dataOffsetOf : Settings → ℕ
 dataOffsetOf s = byKind (s .kind) 4 0
 
+-- the number of each answer
+abbrev pub madeNumber : Made → ℕ
+madeNumber (Valid s) = 0
+madeNumber Refused = 1
+
 abbrev pub madeOf : Settings → Made
 madeOf s = cond (valid s) (Valid s) Refused
 

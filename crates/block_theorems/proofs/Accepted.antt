@@ -1,14 +1,14 @@
 -- A body is accepted exactly where it has the format of a block, or that with 999 for its sum.
 use mathlib.Core.Path.{_≡_, refl, sym, ap, _∙_}
 use mathlib.Core.List.{List, [], _∷_, _++_, append-assoc}
-use mathlib.Core.Bool.{Bool, true, false, cond, _&&_, _||_, false≢true}
+use mathlib.Core.Bool.{Bool, true, false, cond, _||_, false≢true}
 use mathlib.Core.Logic.{_⊎_, inl, inr}
-use Prim.Native.Nat.{ℕ, suc, _+_, _-_, _≤_}
+use Prim.Native.Nat.{ℕ, _+_, _-_, _≤_}
 use native.Mathlib.Omega.{arith}
 use lib.ListN.{length, take, drop, getD, take-append-drop}
 use lib.Seq.{drop-drop}
 use lib.Dec.{eqb, leb, ltb}
-use borrow.Author.Tests.{eqb-true, leb-true, ltb-false, le-ltb}
+use borrow.Author.Tests.{eqb-true, leb-true, ltb-false}
 use Rattle.lists.proofs.Tests.{and-left, and-right}
 use Rattle.block.specs.Format.{byKind, allAllowed, firstForbidden, version, threeDigits, countField, checksumOf, hybridBody}
 use Rattle.block.specs.Judge.{same, typeMatches, headerOk, checksumMatches, judgeParts, dataOf, judgeHybrid, judgeMinimal, judge}
@@ -17,13 +17,12 @@ use Rattle.block.specs.Verdict.{numberOf, typeOf, lengthOf}
 use Rattle.block.specs.declared.Kind.{Kind}
 use Rattle.block.specs.declared.Kind.the-variants.{Hybrid, Minimal}
 use Rattle.block.specs.declared.Settings.{Settings}
-use Rattle.block.specs.declared.Verdict.{Verdict}
 use Rattle.block.specs.declared.Verdict.the-variants.{Accepted, Byte, Shape, Count, Check, Long}
 use Rattle.stream.specs.Stream.{outcome}
 use Rattle.block_theorems.proofs.Bytes.{three-allowed}
 use Rattle.block_theorems.proofs.RoundTrip.{Good, hybrid-good, minimal-good, outcome-fits}
 use Rattle.block_theorems.proofs.Judging.{length-three, length-body, judge-body, sum-computed, sum-passes}
-use Rattle.block_theorems.specs.Shapes.{Formatted, Body, hybrid, minimal, Accepts}
+use Rattle.block_theorems.specs.Shapes.{Formatted, Body, hybrid, minimal, Found, Accepts, Closed}
 
 same-equal : (l m : List ℕ) → same l m ≡ true → l ≡ m
 unfolding same
@@ -67,8 +66,12 @@ passed sb t d c x u n = go (typeMatches t d) (allAllowed d) (same c (countField 
     go true true true false e₁ e₂ e₃ e₄ h = absurd (omega (arith, ap numberOf h))
     go true true true true e₁ e₂ e₃ e₄ h =
         record {
-          type = e₁; bytes = e₂; count = same-equal c (countField d) e₃; sum = either-sum sb t d x e₄;
-          kind = ap typeOf h; size = sym (ap lengthOf h);
+          type = e₁;
+          bytes = e₂;
+          count = same-equal c (countField d) e₃;
+          sum = either-sum sb t d x e₄;
+          kind = ap typeOf h;
+          size = sym (ap lengthOf h);
         }
 
 -- ---- a body of at least 12 bytes is put together of its fields
@@ -101,12 +104,6 @@ fields body h v =
     (sym (take-append-drop 4 body) ∙ ap (λ (l : List ℕ). l ++ drop 4 body) f) (three-pieces (drop 4 body) m) (ap (λ (l : List ℕ). take 5 l) p) q
 
 -- ---- bodies of hybrid blocks
--- a body that the judge accepts with type t and n data bytes
-pub record Found (sb : ℕ) (body : List ℕ) (t n : ℕ) : Type 0 where
-  pub content : List ℕ
-  pub form : Formatted sb t content body
-  pub size : n ≡ length content
-
 rebuilt : (sb t : ℕ) (body d c x : List ℕ) (u n : ℕ) → body ≡ (t ∷ version) ++ d ++ c ++ x → Passed sb t d c x u n → Found sb body u n
 unfolding hybridBody
 rebuilt sb t body d c x u n e h =
@@ -122,6 +119,7 @@ rebuilt sb t body d c x u n e h =
       size = h .size;
     }
 
+-- sound: only a formatted body is accepted, "xxx neither 999 nor the right sum" being refused
 pub judged-sound : (sb : ℕ) (body : List ℕ) (t n : ℕ) → judgeHybrid sb body ≡ Accepted t n → Found sb body t n
 unfolding judgeHybrid headerOk
 judged-sound sb body t n = go (leb 12 (length body)) (same (take 3 (drop 1 body)) version) refl refl
@@ -144,6 +142,7 @@ sum-right : (sb t : ℕ) (d x : List ℕ) → (x ≡ threeDigits 999) ⊎ (x ≡
 sum-right sb t d x (inl e) = rw e (sum-passes sb t d)
 sum-right sb t d x (inr e) = ap (checksumMatches sb t d) e ∙ sum-computed sb t d
 
+-- complete: every formatted body is accepted
 pub judged-complete : (sb : ℕ) (body : List ℕ) (t : ℕ) (d : List ℕ) → Formatted sb t d body → judgeHybrid sb body ≡ Accepted t (length d)
 judged-complete sb body t d h =
     ap (judgeHybrid sb) (h .is)
@@ -175,11 +174,7 @@ judge-sound g body t n = go (g .kind) refl
     go Hybrid e l h = hybrid-sound g body t n e l h
     go Minimal e l h = minimal-sound g body t n e l h
 
--- "A block ends at the first EB; its verdict comes with the byte after": what an accepted block was
-pub record Closed (g : Settings) (body : List ℕ) (x t n : ℕ) : Type 0 where
-  pub return : x ≡ 13
-  pub accepts : Accepts g body t n
-
+-- "A block ends at the first EB; its verdict comes with the byte after.": what an accepted block was
 pub outcome-sound : (g : Settings) (body : List ℕ) (x t n : ℕ) → outcome g body x ≡ Accepted t n → Closed g body x t n
 unfolding outcome
 outcome-sound g body x t n = go (ltb (capacityOf g) (length body)) (eqb x 13) refl refl
@@ -201,6 +196,7 @@ body-good g t d body v l (hybrid k h) =
     (h .type) (h .bytes) (sum-right (g .«start_block») t d (h .sum) (h .either)))
 body-good g t d body v l (minimal k e f a) = rw (e, f) (minimal-good g d k v a l)
 
+-- and each such block is accepted
 pub outcome-complete : (g : Settings) (body : List ℕ) (x t n : ℕ) → valid g ≡ true → Closed g body x t n → outcome g body x ≡ Accepted t n
 outcome-complete g body x t n v h =
     let a = h .accepts in

@@ -1,12 +1,12 @@
 -- Allowed bytes: neither SB nor EB is among them, and the fields of a block are of them.
 use mathlib.Core.Path.{_≡_, refl, sym, ap, _∙_}
 use mathlib.Core.List.{List, [], _∷_, _++_}
-use mathlib.Core.Bool.{Bool, true, false, cond, not, _&&_, _||_, true≢false, false≢true, and-assoc}
-use Prim.Native.Nat.{ℕ, _+_, _/_, _%_, _≤_}
+use mathlib.Core.Bool.{Bool, true, false, cond, not, _&&_, true≢false, false≢true}
+use Prim.Native.Nat.{ℕ, _+_, _/_, _%_}
 use native.Mathlib.Omega.{arith}
 use lib.ListN.{length}
-use lib.Dec.{leb, eqb}
-use borrow.Author.Tests.{eqb-true, le-leb, ne-eqb, eqb-false, eq-eqb, not-true}
+use lib.Dec.{eqb}
+use borrow.Author.Tests.{eqb-true, le-leb, ne-eqb, eqb-false, not-true}
 use Rattle.lists.proofs.Tests.{and-left, and-right}
 use Rattle.lists.specs.Bytes.{hasAny}
 use Rattle.block.specs.Format.{byKind, allowed, allAllowed, digit, version, fiveDigits, threeDigits, countField, hybridBody}

@@ -1,5 +1,5 @@
 -- The cases by hand: each equation by computing both sides.
-use mathlib.Core.Path.{_≡_, refl}
+use mathlib.Core.Path.{refl}
 use Rattle.block.specs.Format.{fiveDigits, threeDigits, countField, checksumOf, hybridBody, hybridBlock}
 use Rattle.block.specs.Judge.{same, typeMatches, headerOk, checksumMatches, judgeParts, dataOf, judgeHybrid, judge}
 use Rattle.block.specs.Settings.{valid}

@@ -6,3 +6,4 @@ pub mod RoundTrip
 pub mod Wrote
 pub mod Accepted
 pub mod Standing
+pub mod OneBlock

@@ -1,24 +1,23 @@
 -- What is written reads back: document 01, 'Hybrid block', 'Minimal block' and 'Reading a stream'.
 use mathlib.Core.Path.{_≡_, refl, sym, ap, _∙_}
 use mathlib.Core.List.{List, [], _∷_, _++_, append-nil}
-use mathlib.Core.Bool.{Bool, true, false, cond}
-use Prim.Native.Nat.{ℕ, suc, _+_, _≤_}
+use mathlib.Core.Bool.{true, false}
+use Prim.Native.Nat.{ℕ, _+_, _≤_}
 use native.Mathlib.Omega.{arith}
 use lib.ListN.{length, take, drop, length-append}
 use lib.Seq.{take-length}
-use lib.Dec.{eqb, ltb, leb}
-use borrow.Author.Tests.{eq-eqb, le-ltb, leb-true}
-use Rattle.lists.specs.Bytes.{hasAny, put}
+use borrow.Author.Tests.{eq-eqb, le-ltb}
+use Rattle.lists.specs.Bytes.{hasAny}
 use Rattle.block.specs.Format.{byKind, allAllowed, threeDigits, checksumOf, hybridBody, hybridBlock, minimalBlock, blockOf}
-use Rattle.block.specs.Judge.{typeMatches, checksumMatches, judgeHybrid, judgeMinimal, judge}
+use Rattle.block.specs.Judge.{typeMatches, checksumMatches, judgeMinimal, judge}
 use Rattle.block.specs.Settings.{valid, capacityOf, dataOffsetOf}
 use Rattle.block.specs.declared.Kind.{Kind}
 use Rattle.block.specs.declared.Kind.the-variants.{Hybrid, Minimal}
 use Rattle.block.specs.declared.Settings.{Settings}
 use Rattle.block.specs.declared.Verdict.{Verdict}
-use Rattle.block.specs.declared.Verdict.the-variants.{Accepted, Long, Shape}
-use Rattle.stream.specs.Stream.{Said, between, said, contentOf, run, after, outcome, verdicts}
-use Rattle.stream.specs.Whole.{only, initial, wholeOf, checkOf}
+use Rattle.block.specs.declared.Verdict.the-variants.{Accepted}
+use Rattle.stream.specs.Stream.{Said, between, said, contentOf, run, outcome, verdicts}
+use Rattle.stream.specs.Whole.{initial, wholeOf, checkOf}
 use Rattle.stream.specs.declared.Checked.the-variants.{Judged}
 use Rattle.stream.proofs.Checks.{check-judged}
 use Rattle.writer.proofs.Laws.{length-hybrid, length-minimal}

@@ -1,12 +1,12 @@
 -- In a stream a block is accepted exactly where its bytes stand: SB, a formatted body, EB and CR.
 use mathlib.Core.Path.{_≡_, refl, sym, ap, _∙_}
-use mathlib.Core.List.{List, [], _∷_, _++_, append-assoc, append-nil, List·Memᴰ, List·Memᴰ·head, List·Memᴰ·tail, Memᴰ·append-right, List·Memᴰ·append-cases, List·Memᴰ·not-nil, List·Memᴰ·eq-of-singleton}
-use mathlib.Core.Bool.{Bool, true, false, cond}
-use mathlib.Core.Logic.{_⊎_, inl, inr}
-use Prim.Native.Nat.{ℕ, suc, _+_, _≤_}
+use mathlib.Core.List.{List, [], _∷_, _++_, append-assoc, append-nil, List·Memᴰ, List·Memᴰ·head, Memᴰ·append-right, List·Memᴰ·append-cases, List·Memᴰ·not-nil, List·Memᴰ·eq-of-singleton}
+use mathlib.Core.Bool.{true, cond}
+use mathlib.Core.Logic.{_⊎_, inl, inr, _↔_}
+use Prim.Native.Nat.{ℕ, _+_, _≤_}
 use native.Mathlib.Nat.{add-zero}
 use native.Mathlib.Omega.{arith}
-use lib.ListN.{length, take, drop, length-append}
+use lib.ListN.{length, length-append}
 use lib.Seq.{append-snoc, take-length}
 use lib.Dec.{eqb}
 use borrow.Author.Tests.{eq-eqb, eqb-true}
@@ -15,10 +15,10 @@ use Rattle.block.specs.Settings.{valid}
 use Rattle.block.specs.Verdict.{numberOf}
 use Rattle.block.specs.declared.Settings.{Settings}
 use Rattle.block.specs.declared.Verdict.{Verdict}
-use Rattle.block.specs.declared.Verdict.the-variants.{Accepted, Cut}
+use Rattle.block.specs.declared.Verdict.the-variants.{Accepted, Byte, Long, Shape, Count, Check, Cut}
 use Rattle.stream.proofs.Run.{run-append}
-use Rattle.stream.specs.Stream.{Said, Mode, between, inside, ended, Moved, moved, said, contentOf, outcome, move, run, after}
-use Rattle.block_theorems.proofs.Accepted.{Closed, outcome-sound, body-good}
+use Rattle.stream.specs.Stream.{Said, verdicts, Mode, between, inside, ended, Moved, moved, said, contentOf, outcome, move, run, after}
+use Rattle.block_theorems.proofs.Accepted.{outcome-sound, body-good}
 use Rattle.block_theorems.proofs.Judging.{data-body}
 use Rattle.block_theorems.proofs.RoundTrip.{good-reads}
 use Rattle.block_theorems.specs.Shapes.{framed, accepted, Body, hybrid, minimal, Stands}
@@ -41,13 +41,13 @@ module _ (g : Settings) where
   silent k x = refl
 
   -- from any mode as from between blocks, after what SB itself brings
-  run-any : (k : ℕ) (m : Mode) (ys : List ℕ)
+  pub run-any : (k : ℕ) (m : Mode) (ys : List ℕ)
       → run g k m (g .«start_block» ∷ ys) ≡ move g k m (g .«start_block») .says ++ run g k between (g .«start_block» ∷ ys)
   run-any k m ys =
       let e : run g k between (g .«start_block» ∷ ys) ≡ run g (k + 1) (inside k []) ys = run-opens k between ys ∙ rw (silent k (g .«start_block»)) in
       run-opens k m ys ∙ ap (λ (l : List Said). move g k m (g .«start_block») .says ++ l) (sym e)
 
-  framed-accepted : (t : ℕ) (d body : List ℕ) → valid g ≡ true → length d ≤ g .«data_limit» → Body g t d body → (k : ℕ) (m : Mode) (ys : List ℕ)
+  pub framed-accepted : (t : ℕ) (d body : List ℕ) → valid g ≡ true → length d ≤ g .«data_limit» → Body g t d body → (k : ℕ) (m : Mode) (ys : List ℕ)
       → List·Memᴰ (accepted k t d) (run g k m (framed g body ++ ys))
   framed-accepted t d body v l b k m ys =
       let r = good-reads g body t d (body-good g t d body v l b) in
@@ -88,3 +88,117 @@ module _ (g : Settings) (k : ℕ) where
       (λ r. at-ended p f (longer read p (g .«start_block» ∷ body) x h ∙ ap (λ (z : ℕ). p ++ (g .«start_block» ∷ (body ++ z ∷ []))) (eqb-true x (g .«end_block») r)))
       (λ r. at-inside p f (longer read p (g .«start_block» ∷ body) x h)))
   at-step read i x (ended s body) e a = at-opened read i x e
+
+  -- bytes that come later change nothing
+  further : (xs : List ℕ) (w : Said) (ys : List ℕ) → Stands g k xs w → Stands g k (xs ++ ys) w
+  further xs w ys h =
+      record {
+        before = h .before;
+        body = h .body;
+        rest = h .rest ++ ys;
+        type = h .type;
+        content = h .content;
+        is = ap (λ (z : List ℕ). z ++ ys) (h .is) ∙ regroup (h .before) (framed g (h .body)) (h .rest) ys;
+        form = h .form;
+        fits = h .fits;
+        says = h .says;
+      }
+    where
+      regroup : (a b c d : List ℕ) → (a ++ (b ++ c)) ++ d ≡ a ++ (b ++ (c ++ d))
+      regroup a b c d = simp append-assoc
+
+  no-cut : (s t n : ℕ) (body : List ℕ) (w : Said) → w ≡ said g s Cut body → w .verdict ≡ Accepted t n → ⊥
+  no-cut s t n body w e v = omega (arith, ap numberOf (sym (ap (λ (z : Said). z .verdict) e) ∙ v))
+
+  content-body : (t : ℕ) (d body : List ℕ) → Body g t d body → contentOf g (Accepted t (length d)) body ≡ d
+  unfolding contentOf
+  content-body t d body (hybrid e h) = rw (e, h .is) (data-body t d (h .sum))
+  content-body t d body (minimal e f q a) = rw (e, q) (take-length d)
+
+  says-it : (s x t n : ℕ) (d body p : List ℕ) (w : Said) → w ≡ said g s (outcome g body x) body → outcome g body x ≡ Accepted t n → n ≡ length d
+      → s ≡ k + length p → Body g t d body → w ≡ accepted (k + length p) t d
+  says-it s x t n d body p w e o l f b =
+      e ∙ ap (λ (v : Verdict). said g s v body) (o ∙ ap (Accepted t) l)
+      ∙ ap (λ (z : List ℕ). record { offset = s; verdict = Accepted t (length d); content = z }) (content-body t d body b)
+      ∙ ap (λ (i : ℕ). accepted i t d) f
+
+  ended-sound : (read : List ℕ) (s x t n : ℕ) (body p : List ℕ) (w : Said) → s ≡ k + length p → read ≡ p ++ (g .«start_block» ∷ (body ++ g .«end_block» ∷ []))
+      → w ≡ said g s (outcome g body x) body → w .verdict ≡ Accepted t n → Stands g k (read ++ x ∷ []) w
+  ended-sound read s x t n body p w f h e v =
+      let o : outcome g body x ≡ Accepted t n = sym (ap (λ (z : Said). z .verdict) e) ∙ v in
+      let c = outcome-sound g body x t n o in
+      let a = c .accepts in
+      record {
+        before = p;
+        body = body;
+        rest = [];
+        type = t;
+        content = a .content;
+        is = longer read p (g .«start_block» ∷ (body ++ g .«end_block» ∷ [])) x h
+            ∙ ap (λ (z : ℕ). p ++ (g .«start_block» ∷ ((body ++ g .«end_block» ∷ []) ++ z ∷ []))) (c .return)
+            ∙ ap (λ (z : List ℕ). p ++ (g .«start_block» ∷ z)) (append-assoc body (g .«end_block» ∷ []) (13 ∷ []))
+            ∙ ap (λ (z : List ℕ). p ++ z) (sym (append-nil (framed g body)));
+        form = a .form;
+        fits = a .fits;
+        says = says-it s x t n (a .content) body p w e o (a .size) f (a .form);
+      }
+
+  step-sound : (read : List ℕ) (i x t n : ℕ) (m : Mode) (w : Said) → At g k read m → List·Memᴰ w (move g i m x .says) → w .verdict ≡ Accepted t n
+      → Stands g k (read ++ x ∷ []) w
+  unfolding move
+  step-sound read i x t n between w a h v = absurd (List·Memᴰ·not-nil h)
+  step-sound read i x t n (inside s body) w a h v =
+      cond-ind (λ (o : Moved). List·Memᴰ w (o .says) → w .verdict ≡ Accepted t n → Stands g k (read ++ x ∷ []) w) (eqb x (g .«start_block»)) _ _
+      (λ q h v. absurd (no-cut s t n body w (List·Memᴰ·eq-of-singleton h) v))
+      (λ q. cond-ind (λ (o : Moved). List·Memᴰ w (o .says) → w .verdict ≡ Accepted t n → Stands g k (read ++ x ∷ []) w) (eqb x (g .«end_block»))
+      (moved [] (ended s body)) (moved [] (inside s (body ++ x ∷ []))) (λ r h v. absurd (List·Memᴰ·not-nil h)) (λ r h v. absurd (List·Memᴰ·not-nil h))) h v
+  step-sound read i x t n (ended s body) w (at-ended p f e) h v = ended-sound read s x t n body p w f e (List·Memᴰ·eq-of-singleton h) v
+
+  run-cases : (i x : ℕ) (m : Mode) (xs : List ℕ) (w : Said) → List·Memᴰ w (run g i m (x ∷ xs)) → List·Memᴰ w (move g i m x .says) ⊎ List·Memᴰ w (run g (i + 1) (move g i m x .mode) xs)
+  unfolding run
+  run-cases i x m xs w h = List·Memᴰ·append-cases (move g i m x .says) h
+
+  run-empty : (i : ℕ) (m : Mode) (w : Said) → List·Memᴰ w (run g i m []) → ⊥
+  unfolding run
+  run-empty i m w h = List·Memᴰ·not-nil h
+
+  one-more : (x : ℕ) (xs read : List ℕ) (i t n : ℕ) (m : Mode) (w : Said) → At g k read m → w .verdict ≡ Accepted t n
+      → (List·Memᴰ w (run g (i + 1) (move g i m x .mode) xs) → Stands g k (read ++ x ∷ [] ++ xs) w)
+      → List·Memᴰ w (move g i m x .says) ⊎ List·Memᴰ w (run g (i + 1) (move g i m x .mode) xs) → Stands g k (read ++ x ∷ [] ++ xs) w
+  one-more x xs read i t n m w a v f (inl u) = further (read ++ x ∷ []) w xs (step-sound read i x t n m w a u v)
+  one-more x xs read i t n m w a v f (inr u) = f u
+
+  next-place : (read : List ℕ) (i x : ℕ) → i ≡ k + length read → i + 1 ≡ k + length (read ++ x ∷ [])
+  next-place read i x e = let l : length (read ++ x ∷ []) ≡ length read + 1 = length-append read (x ∷ []) in omega arith
+
+  regrouped : (x : ℕ) (xs read : List ℕ) (w : Said) → Stands g k (read ++ x ∷ [] ++ xs) w → Stands g k (read ++ x ∷ xs) w
+  regrouped x xs read w h = rw (← append-snoc read x xs) h
+
+  run-sound : (xs read : List ℕ) (i t n : ℕ) (m : Mode) (w : Said) → i ≡ k + length read → At g k read m → List·Memᴰ w (run g i m xs) → w .verdict ≡ Accepted t n
+      → Stands g k (read ++ xs) w
+  run-sound [] read i t n m w e a h v = absurd (run-empty i m w h)
+  run-sound (x ∷ xs) read i t n m w e a h v =
+      regrouped x xs read w (one-more x xs read i t n m w a v
+      (λ u. run-sound xs (read ++ x ∷ []) (i + 1) t n (move g i m x .mode) w (next-place read i x e) (at-step read i x m e a) u v)
+      (run-cases i x m xs w h))
+
+  -- sound: an accepted verdict's block stands in the input at its offset
+  pub accepted-stands : (xs : List ℕ) (w : Said) (t n : ℕ) → List·Memᴰ w (run g k between xs) → w .verdict ≡ Accepted t n → Stands g k xs w
+  accepted-stands xs w t n h v = run-sound xs [] k t n between w (sym (add-zero k)) at-between h v
+
+-- ---- both ways
+accepted-of : (g : Settings) (k : ℕ) (xs : List ℕ) (w : Said) (v : Verdict) → w .verdict ≡ v → List·Memᴰ w (run g k between xs) → numberOf v ≡ 0 → Stands g k xs w
+accepted-of g k xs w (Accepted t n) e h z = accepted-stands g k xs w t n h e
+accepted-of g k xs w (Byte p) e h z = absurd (omega arith)
+accepted-of g k xs w Long e h z = absurd (omega arith)
+accepted-of g k xs w Shape e h z = absurd (omega arith)
+accepted-of g k xs w Count e h z = absurd (omega arith)
+accepted-of g k xs w Check e h z = absurd (omega arith)
+accepted-of g k xs w Cut e h z = absurd (omega arith)
+
+-- "the number (0 if accepted)": the accepted verdicts of an input are those on the formatted blocks that stand in it
+pub accepted-exactly : (g : Settings) (xs : List ℕ) (w : Said) → valid g ≡ true → (List·Memᴰ w (verdicts g xs) × (numberOf (w .verdict) ≡ 0)) ↔ Stands g 0 xs w
+accepted-exactly g xs w v = (
+  λ (h : List·Memᴰ w (verdicts g xs) × (numberOf (w .verdict) ≡ 0)). accepted-of g 0 xs w (w .verdict) refl (h .0) (h .1),
+  λ (h : Stands g 0 xs w). (standing-accepted g v 0 between xs w h, ap (λ (z : Said). numberOf (z .verdict)) (h .says)),
+)

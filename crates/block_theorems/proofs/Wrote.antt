@@ -1,6 +1,6 @@
 -- Wherever the writer answers that it wrote a block, the bytes at the place read back.
 use mathlib.Core.Path.{_≡_, refl, sym, ap, _∙_}
-use mathlib.Core.List.{List, [], _∷_, _++_, append-assoc}
+use mathlib.Core.List.{List, _++_, append-assoc}
 use mathlib.Core.Bool.{Bool, true, false, cond}
 use Prim.Native.Nat.{ℕ, _+_, _≤_}
 use native.Mathlib.Omega.{arith}
@@ -12,7 +12,7 @@ use Rattle.lists.specs.Bytes.{put}
 use Rattle.block.specs.Format.{allAllowed, firstForbidden, blockOf}
 use Rattle.block.specs.Settings.{valid}
 use Rattle.block.specs.declared.Settings.{Settings}
-use Rattle.writer.proofs.Laws.{write-all, need-is}
+use Rattle.writer.proofs.Laws.{write-all}
 use Rattle.writer.specs.Write.{Outcome, numberOf, lengthOf, needOf, typeValid, refused, wrote, writeOf}
 use Rattle.writer.specs.declared.Written.the-variants.{Setting, Room, Long, Shape, Byte, Block}
 use Rattle.block_theorems.proofs.RoundTrip.{reads-back}

@@ -6,7 +6,6 @@ use Rattle.block.specs.Format.{hybridBlock}
 use Rattle.block.specs.Verdict.{numberOf, lengthOf}
 use Rattle.block.specs.declared.Kind.the-variants.{Hybrid}
 use Rattle.block.specs.declared.Settings.{Settings}
-use Rattle.block.specs.declared.Verdict.{Verdict}
 use Rattle.block.specs.declared.Verdict.the-variants.{Accepted, Shape, Count, Check, Cut}
 use Rattle.stream.specs.Stream.{Said, verdicts}
 use Rattle.stream.specs.Whole.{checkOf}

@@ -61,12 +61,23 @@ pub data Body (g : Settings) (t : ℕ) (d body : List ℕ) : Type 0 where
   hybrid : g .kind ≡ Hybrid → Formatted (g .«start_block») t d body → Body g t d body
   minimal : g .kind ≡ Minimal → t ≡ 68 → body ≡ d → allAllowed d ≡ true → Body g t d body
 
--- a body of type t with n bytes of data, and how the block ended: "EB without CR" has the wrong shape
+-- some data of n bytes with which a hybrid body has the format
+pub record Found (sb : ℕ) (body : List ℕ) (t n : ℕ) : Type 0 where
+  pub content : List ℕ
+  pub form : Formatted sb t content body
+  pub size : n ≡ length content
+
+-- the same for either kind, and within the data limit
 pub record Accepts (g : Settings) (body : List ℕ) (t n : ℕ) : Type 0 where
   pub content : List ℕ
   pub form : Body g t content body
   pub fits : length content ≤ g .«data_limit»
   pub size : n ≡ length content
+
+-- and x, the byte after EB, is CR
+pub record Closed (g : Settings) (body : List ℕ) (x t n : ℕ) : Type 0 where
+  pub return : x ≡ 13
+  pub accepts : Accepts g body t n
 
 -- where a block is accepted: its bytes stand in xs after others, k being the offset of the first byte of xs, and w is the verdict on it
 pub record Stands (g : Settings) (k : ℕ) (xs : List ℕ) (w : Said) : Type 0 where
@@ -79,3 +90,9 @@ pub record Stands (g : Settings) (k : ℕ) (xs : List ℕ) (w : Said) : Type 0 w
   pub form : Body g type content body
   pub fits : length content ≤ g .«data_limit»
   pub says : w ≡ accepted (k + length before) type content
+
+-- the bytes are one block, of type t and with n bytes of data
+pub record OneBlock (g : Settings) (xs : List ℕ) (t n : ℕ) : Type 0 where
+  pub body : List ℕ
+  pub is : xs ≡ framed g body
+  pub accepts : Accepts g body t n

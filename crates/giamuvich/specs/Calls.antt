@@ -4,20 +4,19 @@ use mathlib.Core.Bool.{Bool, true, false, cond}
 use Prim.Native.Nat.{ℕ, _+_}
 use lib.ListN.{length}
 use lib.Dec.{ltb, leb}
-use Rattle.block.specs.Settings.{capacityOf, dataOffsetOf}
-use Rattle.block.specs.Verdict.{numberOf}
+use Rattle.block.specs.Settings.{capacityOf, dataOffsetOf, madeNumber}
 use Rattle.block.specs.declared.Settings.{Settings}
 use Rattle.block.specs.declared.Verdict.{Verdict}
 use Rattle.block.specs.declared.Made.{Made}
 use Rattle.block.specs.declared.Made.the-variants.{Valid, Refused}
-use Rattle.stream.specs.Scan.{Read, readOf, fresh}
-use Rattle.stream.specs.Whole.{checkOf}
+use Rattle.stream.specs.Scan.{Read, readOf, fresh, answerNumber}
+use Rattle.stream.specs.Whole.{checkOf, checkedNumber}
 use Rattle.stream.specs.declared.Reader.{Reader}
 use Rattle.stream.specs.declared.Answer.{Answer}
 use Rattle.stream.specs.declared.Answer.the-variants.{Setting, Room, State, Pending, Found}
 use Rattle.stream.specs.declared.Checked.{Checked}
 use Rattle.stream.specs.declared.Checked.the-variants.{Setting as BadSetting, Judged}
-use Rattle.writer.specs.Write.{Outcome, writeOf}
+use Rattle.writer.specs.Write.{Outcome, writeOf, numberOf as writtenNumber, placeOf as writtenPlace, lengthOf as writtenLength}
 use Rattle.writer.specs.declared.Written.{Written}
 use Rattle.writer.specs.declared.Written.the-variants.{Block, Setting as WrongSetting, Room as NoRoom, Long as LongContent, Shape as WrongType, Byte as ForbiddenByte}
 use Rattle.giamuvich.specs.Words.{over, readerWords, decoded, verdictWords, pendingWords}
@@ -45,11 +44,12 @@ readCalled n st b v = record { number = n; state = st; buffer = b; verdict = v }
 
 -- what reading gave: the next state r, the buffer c, the bytes used, the answer. A refused call changes neither state nor verdict; that it leaves the buffer equal is in readOf.
 abbrev pub readAnswered : Settings → List ℕ → List ℕ → Reader → List ℕ → ℕ → Answer → ReadCall
-readAnswered g st v r c used Pending = readCalled 0 (over st (readerWords r)) c (over v (pendingWords used))
-readAnswered g st v r c used (Found s w) = readCalled 0 (over st (readerWords r)) c (over v (verdictWords s w (dataOffsetOf g) used))
-readAnswered g st v r c used Setting = readCalled 1 st c v
-readAnswered g st v r c used Room = readCalled 2 st c v
-readAnswered g st v r c used State = readCalled 11 st c v
+readAnswered g st v r c used Pending = readCalled (answerNumber Pending) (over st (readerWords r)) c (over v (pendingWords used))
+readAnswered g st v r c used (Found s w) =
+    readCalled (answerNumber (Found s w)) (over st (readerWords r)) c (over v (verdictWords s w (dataOffsetOf g) used))
+readAnswered g st v r c used Setting = readCalled (answerNumber Setting) st c v
+readAnswered g st v r c used Room = readCalled (answerNumber Room) st c v
+readAnswered g st v r c used State = readCalled (answerNumber State) st c v
 
 abbrev pub readFinished : Settings → List ℕ → List ℕ → Read → ReadCall
 readFinished g st v t = readAnswered g st v (t .reading .reader) (t .buffer) (t .reading .used) (t .reading .answer)
@@ -59,7 +59,7 @@ readDecoded g st xs b v Unknown = readCalled 11 st b v
 readDecoded g st xs b v (Known r) = readFinished g st v (readOf g r xs b)
 
 unfoldable pub readCall : Made → List ℕ → List ℕ → List ℕ → List ℕ → ReadCall
-readCall Refused st xs b v = readCalled 1 st b v
+readCall Refused st xs b v = readCalled (madeNumber Refused) st b v
 readCall (Valid g) st xs b v =
     cond (ltb (length st) 4) (readCalled 2 st b v)
     (cond (ltb (length v) 8) (readCalled 2 st b v)
@@ -75,11 +75,12 @@ checkCalled n v = record { number = n; verdict = v }
 
 -- the data lies one byte further on than in a reader's buffer, after SB
 abbrev pub checkFinished : Settings → List ℕ → List ℕ → Checked → CheckCall
-checkFinished g xs v BadSetting = checkCalled 1 v
-checkFinished g xs v (Judged w) = checkCalled (numberOf w) (over v (verdictWords 0 w (dataOffsetOf g + 1) (length xs)))
+checkFinished g xs v BadSetting = checkCalled (checkedNumber BadSetting) v
+checkFinished g xs v (Judged w) =
+    checkCalled (checkedNumber (Judged w)) (over v (verdictWords 0 w (dataOffsetOf g + 1) (length xs)))
 
 unfoldable pub checkCall : Made → List ℕ → List ℕ → CheckCall
-checkCall Refused xs v = checkCalled 1 v
+checkCall Refused xs v = checkCalled (madeNumber Refused) v
 checkCall (Valid g) xs v = cond (ltb (length v) 8) (checkCalled 2 v) (checkFinished g xs v (checkOf g xs))
 
 -- gmv_hybrid_write, gmv_minimal_write: the number, and what is left in the buffer and the report
@@ -91,21 +92,25 @@ pub record WriteCall : Type 0 where
 abbrev pub writeCalled : ℕ → List ℕ → List ℕ → WriteCall
 writeCalled n b p = record { number = n; buffer = b; report = p }
 
--- GMV_BLOCK_LENGTH, GMV_REFUSED_PLACE; 1 and 2 change nothing
+-- GMV_BLOCK_LENGTH, GMV_REFUSED_PLACE
+abbrev pub writeReported : List ℕ → List ℕ → Written → WriteCall
+writeReported c p w = writeCalled (writtenNumber w) c (over p (writtenLength w ∷ writtenPlace w ∷ []))
+
+-- 1 and 2 change nothing
 abbrev pub writeFinished : List ℕ → List ℕ → Written → WriteCall
-writeFinished c p WrongSetting = writeCalled 1 c p
-writeFinished c p NoRoom = writeCalled 2 c p
-writeFinished c p LongContent = writeCalled 4 c (over p (0 ∷ 0 ∷ []))
-writeFinished c p WrongType = writeCalled 5 c (over p (0 ∷ 0 ∷ []))
-writeFinished c p (ForbiddenByte i) = writeCalled 3 c (over p (0 ∷ i ∷ []))
-writeFinished c p (Block n) = writeCalled 0 c (over p (n ∷ 0 ∷ []))
+writeFinished c p WrongSetting = writeCalled (writtenNumber WrongSetting) c p
+writeFinished c p NoRoom = writeCalled (writtenNumber NoRoom) c p
+writeFinished c p LongContent = writeReported c p LongContent
+writeFinished c p WrongType = writeReported c p WrongType
+writeFinished c p (ForbiddenByte i) = writeReported c p (ForbiddenByte i)
+writeFinished c p (Block n) = writeReported c p (Block n)
 
 -- a type over 255 is no byte, and so a wrong type, as 0 is
 abbrev pub typeByte : ℕ → ℕ
 typeByte t = cond (ltb 255 t) 0 t
 
 unfoldable pub writeCall : Made → ℕ → List ℕ → List ℕ → ℕ → List ℕ → WriteCall
-writeCall Refused t d b place p = writeCalled 1 b p
+writeCall Refused t d b place p = writeCalled (madeNumber Refused) b p
 writeCall (Valid g) t d b place p =
     cond (ltb (length p) 2) (writeCalled 2 b p)
     (writeFinished (writeOf g (typeByte t) d place b .buffer) p (writeOf g (typeByte t) d place b .answer))

@@ -16,6 +16,14 @@ use Rattle.stream.specs.declared.Answer.{Answer}
 use Rattle.stream.specs.declared.Answer.the-variants.{Setting, Room, State, Pending, Found}
 use Rattle.stream.specs.declared.Reading.{Reading}
 
+-- the number of each answer; a verdict has a number of its own
+abbrev pub answerNumber : Answer → ℕ
+answerNumber Setting = 1
+answerNumber Room = 2
+answerNumber State = 11
+answerNumber Pending = 0
+answerNumber (Found s v) = 0
+
 -- the reader and its buffer in the middle of a part: Pending until the first verdict
 pub record Scan : Type 0 where
   pub answer : Answer

@@ -4,6 +4,7 @@ use mathlib.Core.Bool.{Bool, true, false, cond}
 use Prim.Native.Nat.{ℕ}
 use lib.Dec.{eqb}
 use Rattle.block.specs.Settings.{valid}
+use Rattle.block.specs.Verdict.{numberOf}
 use Rattle.block.specs.declared.Settings.{Settings}
 use Rattle.block.specs.declared.Verdict.{Verdict}
 use Rattle.block.specs.declared.Verdict.the-variants.{Shape}
@@ -32,6 +33,11 @@ initial (x ∷ y ∷ ys) = x ∷ initial (y ∷ ys)
 unfoldable pub wholeOf : Settings → List ℕ → Verdict
 wholeOf g xs =
     cond (beginsWith (g .«start_block») xs) (only (verdicts g (initial xs)) (verdicts g xs)) Shape
+
+-- the number of each answer
+abbrev pub checkedNumber : Checked → ℕ
+checkedNumber Setting = 1
+checkedNumber (Judged v) = numberOf v
 
 unfoldable pub checkOf : Settings → List ℕ → Checked
 checkOf g xs = cond (valid g) (Judged (wholeOf g xs)) Setting

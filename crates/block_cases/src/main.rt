@@ -1,0 +1,90 @@
+// Document 01, 'Cases by hand', the others that concern blocks: data of D and D + 1 bytes, byte 7F, empty input. A line
+// for each: what was tried, and the numbers that came.
+use block::Made;
+use block::Settings;
+use libc::STDOUT_FILENO;
+use stream::Answer;
+use stream::Checked;
+use stream::Reader;
+
+const DATA_LIMIT: usize = 16;
+
+fn print_text(text: &[u8]) {
+    io::write_all(STDOUT_FILENO, text);
+}
+
+fn print_number(n: u64) {
+    print_text(b" ");
+    io::print_decimal(STDOUT_FILENO, n);
+}
+
+// Writes a block of this data, and checks what was written: the writer's number, the check's number and data length.
+fn write_and_check(settings: Settings, content: &[u8]) {
+    let mut buffer = [0u8; 64];
+    let written = writer::write(settings, 68, content, &mut buffer, 0);
+    print_number(written.number());
+    let length = written.length();
+    if length <= 64 {
+        print_check(settings, &buffer[..length]);
+    }
+    print_text(b"\n");
+}
+
+fn print_check(settings: Settings, bytes: &[u8]) {
+    let Checked::Judged(verdict) = stream::check_block(settings, bytes) else {
+        print_number(1);
+        return;
+    };
+    print_number(verdict.number());
+    print_number(verdict.place() as u64);
+    print_number(verdict.data_length() as u64);
+}
+
+fn print_reading(settings: Settings, part: &[u8]) {
+    let mut buffer = [0u8; 64];
+    let reading = stream::read(settings, Reader::new(), part, &mut buffer);
+    let answer = reading.answer;
+    match answer {
+        Answer::Setting => print_text(b" setting"),
+        Answer::Room => print_text(b" room"),
+        Answer::State => print_text(b" state"),
+        Answer::Pending => print_text(b" pending"),
+        Answer::Found(_, verdict) => print_number(verdict.number()),
+    }
+    print_number(reading.used as u64);
+    print_text(b"\n");
+}
+
+fn run_cases(settings: Settings) {
+    let full = [65u8; DATA_LIMIT];
+    print_text(b"data of D bytes:");
+    write_and_check(settings, &full);
+    let longer = [65u8; DATA_LIMIT + 1];
+    print_text(b"data of D + 1 bytes:");
+    write_and_check(settings, &longer);
+    print_text(b"a data byte 7F, written:");
+    write_and_check(settings, b"AB\x7f");
+    print_text(b"a data byte 7F, checked:");
+    print_check(settings, b"\x0bD23\rAB\x7f00008019\x1c\r");
+    print_text(b"\n");
+    print_text(b"a block of D + 1 bytes, checked:");
+    print_check(settings, b"\x0bD23\rAAAAAAAAAAAAAAAAA00022002\x1c\r");
+    print_text(b"\n");
+    print_text(b"empty input, checked:");
+    print_check(settings, b"");
+    print_text(b"\n");
+    print_text(b"empty input, read:");
+    print_reading(settings, b"");
+}
+
+fn main() {
+    let made = Settings::hybrid(
+        Settings::START_BLOCK as u64,
+        Settings::END_BLOCK as u64,
+        DATA_LIMIT as u64,
+    );
+    let Made::Valid(settings) = made else {
+        return;
+    };
+    run_cases(settings);
+}
