@@ -18,14 +18,17 @@ fn print_number(n: u64) {
     io::print_decimal(STDOUT_FILENO, n);
 }
 
-// Writes a block of this data, and checks what was written: the writer's number, the check's number and data length.
-fn write_and_check(settings: Settings, content: &[u8]) {
-    let mut buffer = [0u8; 64];
-    let written = writer::write(settings, 68, content, &mut buffer, 0);
+// Writes a block of this data, and checks what was written: the writer's number and place, then the check's number, place
+// and data length.
+fn write_and_check(settings: Settings, content: &[u8], buffer: &mut [u8]) {
+    let written = writer::write(settings, 68, content, buffer, 0);
     print_number(written.number());
+    print_number(written.place() as u64);
     let length = written.length();
-    if length <= 64 {
-        print_check(settings, &buffer[..length]);
+    if 0 < length {
+        if length <= buffer.len() {
+            print_check(settings, &buffer[0..length]);
+        }
     }
     print_text(b"\n");
 }
@@ -56,14 +59,15 @@ fn print_reading(settings: Settings, part: &[u8]) {
 }
 
 fn run_cases(settings: Settings) {
+    let mut buffer = [0u8; 64];
     let full = [65u8; DATA_LIMIT];
     print_text(b"data of D bytes:");
-    write_and_check(settings, &full);
+    write_and_check(settings, &full, &mut buffer);
     let longer = [65u8; DATA_LIMIT + 1];
     print_text(b"data of D + 1 bytes:");
-    write_and_check(settings, &longer);
+    write_and_check(settings, &longer, &mut buffer);
     print_text(b"a data byte 7F, written:");
-    write_and_check(settings, b"AB\x7f");
+    write_and_check(settings, b"AB\x7f", &mut buffer);
     print_text(b"a data byte 7F, checked:");
     print_check(settings, b"\x0bD23\rAB\x7f00008019\x1c\r");
     print_text(b"\n");
