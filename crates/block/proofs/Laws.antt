@@ -1,19 +1,19 @@
 -- Laws by which the loops over bytes go: what one byte more does to each definition.
-use mathlib.Core.Path.{_≡_, refl, sym, ap, _∙_}
+use mathlib.Core.Path.{_≡_, refl}
 use mathlib.Core.List.{List, [], _∷_}
-use mathlib.Core.Bool.{Bool, true, false, cond, not, _&&_, _||_, and-assoc, and-true}
+use mathlib.Core.Bool.{Bool, true, false, not, _&&_, _||_, and-assoc, and-true}
 use Prim.Native.Nat.{ℕ, suc, _+_, _-_, _≤_, _<_}
 use native.Mathlib.Omega.{arith}
 use lib.ListN.{length, take, drop, getD, length-drop}
 use lib.Seq.{take-all}
+use lib.Dec.{eqb, leb}
 use borrow.Author.Tests.{le-leb, leb-true}
 use Rattle.lists.proofs.Tests.{and-right}
+use Rattle.lists.proofs.Parts.{drop-more, drop-none}
 use Rattle.block.specs.Settings.{valid, hybridValid, minimalValid}
 use Rattle.block.specs.declared.Kind.{Kind}
 use Rattle.block.specs.declared.Kind.the-variants.{Hybrid, Minimal}
 use Rattle.block.specs.declared.Settings.{Settings}
-use Rattle.lists.proofs.Parts.{drop-more, drop-none}
-use lib.Dec.{eqb, leb}
 use Rattle.block.specs.Format.{allowed, allAllowed, firstForbidden, countField, version, byKind}
 use Rattle.block.specs.Judge.{same, isReason, typeMatches, checksumMatches, judgeParts, judgeHybrid, headerOk, dataOf}
 use Rattle.block.specs.declared.Verdict.the-variants.{Accepted, Byte, Shape, Count, Check}

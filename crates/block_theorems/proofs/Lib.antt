@@ -7,3 +7,4 @@ pub mod Wrote
 pub mod Accepted
 pub mod Standing
 pub mod OneBlock
+pub mod InParts

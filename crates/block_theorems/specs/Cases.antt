@@ -12,6 +12,7 @@ use Rattle.stream.specs.Whole.{checkOf}
 use Rattle.stream.specs.declared.Checked.{Checked}
 use Rattle.stream.specs.declared.Checked.the-variants.{Judged}
 
+infixr 2 _and_
 -- "with default settings and D of 4,096"
 abbrev pub usual : Settings
 usual = record { kind = Hybrid; «start_block» = 11; «end_block» = 28; «data_limit» = 4096 }
@@ -57,7 +58,6 @@ p2 = 11 ∷ 68 ∷ 50 ∷ 51 ∷ 13 ∷ 65 ∷ 13 ∷ 48 ∷ 48 ∷ 48 ∷ 48 �
 abbrev pub p3 : List ℕ
 p3 = 11 ∷ 78 ∷ 50 ∷ 51 ∷ 13 ∷ 88 ∷ 48 ∷ 48 ∷ 48 ∷ 48 ∷ 54 ∷ 48 ∷ 49 ∷ 55 ∷ 28 ∷ 13 ∷ []
 
-infixr 2 _and_
 -- every one of the equations holds
 pub data Each : List (Type 0) → Type 1 where
   none : Each []

@@ -1,10 +1,10 @@
 -- Words written over the first of what was lent, and the ways in which the C functions return.
 use mathlib.Core.Path.{_≡_, refl, sym, ap, _∙_}
-use mathlib.Core.List.{List, [], _∷_, _++_}
+use mathlib.Core.List.{List, [], _∷_}
 use mathlib.Core.Bool.{true, false}
 use Prim.Native.Nat.{ℕ, _≤_, _<_}
 use native.Mathlib.Omega.{arith}
-use lib.ListN.{length, drop, set, getD}
+use lib.ListN.{length, set, getD}
 use lib.Seq.{sets-eq}
 use lib.Dec.{leb}
 use borrow.Author.Tests.{lt-ltb, le-ltb, eq-eqb, ne-eqb}
@@ -22,12 +22,12 @@ use Rattle.stream.specs.declared.Answer.{Answer}
 use Rattle.stream.specs.declared.Answer.the-variants.{Setting, Room, State, Pending, Found}
 use Rattle.stream.specs.declared.Phase.the-variants.{Between, Inside, Ended}
 use Rattle.stream.specs.declared.Reader.{Reader}
-use Rattle.giamuvich.specs.Words.{over, decoded, withPhase}
 use Rattle.writer.specs.Write.{Outcome, writeOf}
 use Rattle.writer.specs.declared.Written.{Written}
 use Rattle.writer.specs.declared.Written.the-variants.{Block, Setting as WrongSetting, Room as NoRoom, Long as LongContent, Shape as WrongType, Byte as ForbiddenByte}
+use Rattle.giamuvich.specs.Words.{over, decoded, withPhase}
 use Rattle.giamuvich.specs.Calls.{WriteCall, writeCalled, writeFinished, typeByte, writeCall, ReadCall, readCalled, readAnswered, readFinished, readDecoded, readCall, checkCalled, checkFinished, checkCall}
-use Rattle.giamuvich.specs.declared.Decoded.the-variants.{Unknown, Known}
+use Rattle.giamuvich.specs.declared.Decoded.the-variants.{Unknown}
 
 pub four : (l : List ℕ) (a b c d : ℕ) → 4 ≤ length l → set (set (set (set l 0 a) 1 b) 2 c) 3 d ≡ over l (a ∷ b ∷ c ∷ d ∷ [])
 four l a b c d h = sets-eq (a ∷ b ∷ c ∷ d ∷ []) l 0 h

@@ -1,23 +1,22 @@
 -- The ways in which the check of a whole block returns.
 use mathlib.Core.Path.{_≡_, refl, sym, ap, _∙_}
 use mathlib.Core.List.{List, [], _∷_, _++_, append-assoc, append-nil}
-use mathlib.Core.Bool.{Bool, true, false, cond, _||_, false≢true}
-use Prim.Native.Nat.{ℕ, suc, _+_, _-_, _≤_, _<_}
-use native.Mathlib.Nat.{add-zero, add-sub-cancel-left}
+use mathlib.Core.Bool.{true, false, cond, false≢true}
+use Prim.Native.Nat.{ℕ, _+_, _-_, _<_}
+use native.Mathlib.Nat.{add-sub-cancel-left}
 use native.Mathlib.Omega.{arith}
-use lib.ListN.{length, take, drop, getD, take-append-drop, length-drop}
-use lib.Seq.{drop-drop, take-all}
-use lib.Dec.{eqb, ltb}
-use borrow.Author.Tests.{lt-ltb, le-ltb, eq-eqb, ne-eqb}
+use lib.ListN.{length, take, drop, getD, take-append-drop}
+use lib.Seq.{drop-drop}
+use lib.Dec.{eqb}
+use borrow.Author.Tests.{eq-eqb, ne-eqb}
 use Rattle.lists.proofs.Parts.{drop-more, drop-none}
-use Rattle.lists.specs.Bytes.{clear, hasAny}
-use Rattle.block.specs.Settings.{valid, capacityOf}
+use Rattle.lists.specs.Bytes.{hasAny}
+use Rattle.block.specs.Settings.{valid}
 use Rattle.block.specs.declared.Settings.{Settings}
-use Rattle.block.specs.declared.Verdict.{Verdict}
 use Rattle.block.specs.declared.Verdict.the-variants.{Shape, Cut}
 use Rattle.stream.proofs.Run.{run-append, free-run, free-after, clear-free}
 use Rattle.stream.proofs.Store.{Stopped}
-use Rattle.stream.specs.Stream.{Said, Mode, between, inside, ended, said, move, run, after, outcome, verdicts}
+use Rattle.stream.specs.Stream.{Said, Mode, between, inside, ended, said, move, run, outcome, verdicts}
 use Rattle.stream.specs.Whole.{beginsWith, only, initial, wholeOf, checkOf}
 use Rattle.stream.specs.declared.Checked.the-variants.{Setting, Judged}
 

@@ -1,14 +1,14 @@
 -- The ways in which a call of the reader returns, held against the definition of what it gives.
-use mathlib.Core.Path.{_≡_, refl, sym, ap, _∙_}
-use mathlib.Core.List.{List, []}
+use mathlib.Core.Path.{_≡_, sym, ap, _∙_}
+use mathlib.Core.List.{List}
 use mathlib.Core.Bool.{true, false}
 use Prim.Native.Nat.{ℕ, _+_, _-_, _≤_, _<_}
 use native.Mathlib.Nat.{add-zero, add-sub-cancel-left}
 use native.Mathlib.Omega.{arith}
+use native.Mathlib.Decide.{decLe}
 use lib.ListN.{length, take, drop, length-drop}
 use lib.Seq.{take-all, take-nil}
 use lib.Dec.{leb}
-use native.Mathlib.Decide.{decLe}
 use borrow.Author.Tests.{lt-ltb, le-ltb, le-leb, lt-leb}
 use Rattle.lists.proofs.Parts.{drop-none}
 use Rattle.block.specs.Settings.{valid, capacityOf, dataOffsetOf}
@@ -16,7 +16,7 @@ use Rattle.block.specs.Verdict.{lengthOf}
 use Rattle.block.specs.declared.Settings.{Settings}
 use Rattle.block.specs.declared.Verdict.{Verdict}
 use Rattle.stream.specs.Stream.{contentOf}
-use Rattle.stream.specs.Scan.{Scan, Read, scan, fold, given, refused, scanned, readOf}
+use Rattle.stream.specs.Scan.{Scan, scan, fold, given, refused, scanned, readOf}
 use Rattle.stream.specs.Internal.{from, Reads}
 use Rattle.stream.specs.declared.Reader.{Reader}
 use Rattle.stream.specs.declared.Answer.the-variants.{Setting, Room, State, Pending}

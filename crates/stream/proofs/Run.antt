@@ -1,11 +1,11 @@
 -- Laws of the whole stream's definition: bytes in two pieces, and a stretch of a block without SB or EB.
 use mathlib.Core.Path.{_≡_, refl, sym, ap, _∙_}
 use mathlib.Core.List.{List, [], _∷_, _++_, append-assoc, append-nil}
-use mathlib.Core.Bool.{Bool, true, false, cond, _||_, true≢false}
+use mathlib.Core.Bool.{false, _||_}
 use Prim.Native.Nat.{ℕ, suc, _+_}
-use native.Mathlib.Nat.{add-zero, add-assoc}
+use native.Mathlib.Nat.{add-zero}
 use native.Mathlib.Omega.{arith}
-use lib.ListN.{length, take, drop, getD}
+use lib.ListN.{length, take}
 use lib.Dec.{eqb}
 use Rattle.lists.proofs.Tests.{cond-ind}
 use Rattle.lists.specs.Bytes.{clear, hasAny}

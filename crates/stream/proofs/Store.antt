@@ -1,16 +1,16 @@
 -- What storing a stretch leaves in the buffer, by the two tests of the code.
-use mathlib.Core.Path.{_≡_, refl, sym, ap, _∙_}
+use mathlib.Core.Path.{_≡_, sym, ap, _∙_}
 use mathlib.Core.List.{List}
+use mathlib.Core.Bool.{true, _||_, or-self}
 use Prim.Native.Nat.{ℕ, _+_, _-_, _≤_, _<_}
 use native.Mathlib.Omega.{arith}
+use native.Mathlib.Nat.{add-sub-cancel-left}
 use lib.ListN.{length, take, drop, getD, length-drop}
 use lib.Dec.{eqb}
-use mathlib.Core.Bool.{true, _||_, or-self}
-use native.Mathlib.Nat.{add-sub-cancel-left}
 use lib.Seq.{take-all, length-take-le, getD-drop}
 use borrow.Author.Tests.{lt-ltb, le-ltb, le-leb, lt-leb, ne-eqb, eqb-true}
 use borrow.Rule.Slice.PartMut.{midOf, putMid}
-use Rattle.lists.proofs.Put.{back, over-fits, put-none}
+use Rattle.lists.proofs.Put.{back, over-fits}
 use Rattle.lists.specs.Bytes.{overwritten, put, clear}
 use Rattle.lists.proofs.Search.{clear-most, clear-hit}
 use Rattle.block.specs.Settings.{capacityOf}

@@ -1,37 +1,28 @@
+-- `block::Settings::hybrid` meets its contract.
 use mathlib.Core.Path.{sym, _∙_}
 use borrow.Author.Tests.{lt-ltb, le-ltb}
 use borrow.Author.Needs.{needs}
 use Rattle.block.proofs.Settings.hybrid.Statement.{statement}
 use Rattle.block.proofs.Settings.hybrid.Tie as tie
-use Rattle.block.proofs.Settings.hybrid.Reads as reads
-use Rattle.block.proofs.Settings.hybrid.Lts as lts
-use Rattle.block.proofs.Settings.is_valid.Reads as is-valid-reads
 
--- src/lib.rt:58:13
 returns : tie.Need-returns
 returns c = simp (lt-ltb _ _ (c .if1 .taken))
 
--- src/lib.rt:61:13
 returns-2 : tie.Need-returns-2
 returns-2 c = simp (le-ltb _ _ (c .before .if1 .left), lt-ltb _ _ (c .if2 .taken))
 
--- src/lib.rt:65:26
 cast-t7 : tie.Need-cast-t7
 cast-t7 c = search needs
 
--- src/lib.rt:66:24
 cast-t8 : tie.Need-cast-t8
 cast-t8 c = search needs
 
--- src/lib.rt:69:12
 is-valid-requires : tie.Need-is-valid-requires
 is-valid-requires c κs = search needs
 
--- src/lib.rt:54:5
 returns-3 : tie.Need-returns-3
 returns-3 c = simp (le-ltb _ _ (c .before .before .before .if1 .left), le-ltb _ _ (c .before .before .if2 .left), (sym (c .before .is-valid .ensures) ∙ c .if3 .taken))
 
--- src/lib.rt:54:5
 returns-4 : tie.Need-returns-4
 returns-4 c = simp (le-ltb _ _ (c .before .before .before .if1 .left), le-ltb _ _ (c .before .before .if2 .left), (sym (c .before .is-valid .ensures) ∙ c .if3 .left))
 

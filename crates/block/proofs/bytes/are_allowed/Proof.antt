@@ -1,14 +1,13 @@
-use Rattle.block.specs.Format.{allAllowed}
-use Rattle.block.proofs.Laws.{allowed-more, allowed-none}
+-- `block::bytes::are_allowed` meets its contract.
+use mathlib.Core.Bool.{_&&_}
+use mathlib.Core.Path.{_≡_, sym, _∙_}
+use Prim.Native.Nat.{_≤_, _-_}
 use lib.ListN.{length, drop}
 use borrow.Author.Needs.{needs}
-use mathlib.Core.Bool.{_&&_}
-use mathlib.Core.Path.{_≡_, sym, ap, _∙_}
-use Prim.Native.Nat.{_≤_, _-_}
+use Rattle.block.specs.Format.{allAllowed}
+use Rattle.block.proofs.Laws.{allowed-more, allowed-none}
 use Rattle.block.proofs.bytes.are_allowed.Statement.{statement}
 use Rattle.block.proofs.bytes.are_allowed.Tie as tie
-use Rattle.block.proofs.bytes.are_allowed.Reads as reads
-use Rattle.block.proofs.bytes.are_allowed.Lts as lts
 
 abbrev Inv-loop : tie.InvT-loop
 Inv-loop s good₀ i₀ good i = (i ≤ length s) × ((good && allAllowed (drop i s)) ≡ allAllowed s)
@@ -16,27 +15,21 @@ Inv-loop s good₀ i₀ good i = (i ≤ length s) × ((good && allAllowed (drop 
 abbrev μ-loop : tie.MeasureT-loop
 μ-loop s good₀ i₀ good i = length s - i
 
--- src/bytes.rt:18:5
 loop-holds : tie.Need-loop-holds Inv-loop μ-loop
 loop-holds c = search needs
 
--- src/bytes.rt:19:17
 shared-slice-read-x : tie.Need-shared-slice-read-x Inv-loop μ-loop
 shared-slice-read-x c = search needs
 
--- src/bytes.rt:21:9
 add-i : tie.Need-add-i Inv-loop μ-loop
 add-i c = search needs
 
--- src/bytes.rt:18:5
 loop-less : tie.Need-loop-less Inv-loop μ-loop
 loop-less c = search needs
 
--- src/bytes.rt:18:5
 loop-again : tie.Need-loop-again Inv-loop μ-loop
 loop-again c = (search needs, allowed-more _ (c .before .before .loop .i) (c .before .before .loop .good) (c .before .loop-test .taken) ∙ c .before .before .loop .inv .1)
 
--- src/bytes.rt:13:1
 returns : tie.Need-returns Inv-loop μ-loop
 returns c = sym (allowed-none _ (c .before .loop .i) (c .before .loop .good) (c .loop-test .left)) ∙ c .before .loop .inv .1
 

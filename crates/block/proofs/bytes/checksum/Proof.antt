@@ -1,14 +1,13 @@
-use Rattle.lists.proofs.Parts.{drop-more, drop-none}
+-- `block::bytes::checksum` meets its contract.
 use mathlib.Core.List.{List}
 use mathlib.Core.Path.{_≡_, sym, ap, _∙_}
 use Prim.Native.Nat.{ℕ, _≤_, _-_}
-use Rattle.block.specs.Format.{xorFrom}
 use lib.ListN.{length, drop}
 use borrow.Author.Needs.{needs}
+use Rattle.lists.proofs.Parts.{drop-more, drop-none}
+use Rattle.block.specs.Format.{xorFrom}
 use Rattle.block.proofs.bytes.checksum.Statement.{statement}
 use Rattle.block.proofs.bytes.checksum.Tie as tie
-use Rattle.block.proofs.bytes.checksum.Reads as reads
-use Rattle.block.proofs.bytes.checksum.Lts as lts
 
 abbrev Inv-loop : tie.InvT-loop
 Inv-loop seed s sum₀ i₀ sum i = (i ≤ length s) × (xorFrom sum (drop i s) ≡ xorFrom seed s)
@@ -16,23 +15,18 @@ Inv-loop seed s sum₀ i₀ sum i = (i ≤ length s) × (xorFrom sum (drop i s) 
 abbrev μ-loop : tie.MeasureT-loop
 μ-loop seed s sum₀ i₀ sum i = length s - i
 
--- src/bytes.rt:47:5
 loop-holds : tie.Need-loop-holds Inv-loop μ-loop
 loop-holds c = search needs
 
--- src/bytes.rt:48:21
 shared-slice-read-sum : tie.Need-shared-slice-read-sum Inv-loop μ-loop
 shared-slice-read-sum c = search needs
 
--- src/bytes.rt:49:9
 add-i : tie.Need-add-i Inv-loop μ-loop
 add-i c = search needs
 
--- src/bytes.rt:47:5
 loop-less : tie.Need-loop-less Inv-loop μ-loop
 loop-less c = search needs
 
--- src/bytes.rt:47:5
 loop-again : tie.Need-loop-again Inv-loop μ-loop
 loop-again c =
     let s = c .before .before .before .args .s .now in (
@@ -40,7 +34,6 @@ loop-again c =
       sym (ap (λ (l : List ℕ). xorFrom (c .before .before .loop .sum) l) (drop-more s (c .before .before .loop .i) (c .before .loop-test .taken))) ∙ c .before .before .loop .inv .1,
     )
 
--- src/bytes.rt:42:1
 returns : tie.Need-returns Inv-loop μ-loop
 returns c = sym (ap (λ (l : List ℕ). xorFrom (c .before .loop .sum) l) (drop-none _ (c .before .loop .i) (c .loop-test .left))) ∙ c .before .loop .inv .1
 

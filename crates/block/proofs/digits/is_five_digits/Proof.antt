@@ -1,53 +1,40 @@
+-- `block::digits::is_five_digits` meets its contract.
+use borrow.Author.Needs.{needs}
 use Rattle.block.specs.Format.{fiveDigits}
 use Rattle.block.proofs.Laws.{five-same}
-use borrow.Author.Needs.{needs}
 use Rattle.block.proofs.digits.is_five_digits.Statement.{statement}
 use Rattle.block.proofs.digits.is_five_digits.Tie as tie
-use Rattle.block.proofs.digits.is_five_digits.Reads as reads
-use Rattle.block.proofs.digits.is_five_digits.Lts as lts
-use Rattle.block.proofs.digits.digit_of.Reads as digit-of-reads
 
--- src/digits.rt:36:18
 shared-slice-read-first : tie.Need-shared-slice-read-first
 shared-slice-read-first c = search needs
 
--- src/digits.rt:36:26
 digit-of-requires : tie.Need-digit-of-requires
 digit-of-requires c κs = search needs
 
--- src/digits.rt:36:50
 shared-slice-read-first-2 : tie.Need-shared-slice-read-first-2
 shared-slice-read-first-2 c = search needs
 
--- src/digits.rt:36:58
 digit-of-requires-2 : tie.Need-digit-of-requires-2
 digit-of-requires-2 c κs = search needs
 
--- src/digits.rt:37:17
 shared-slice-read-last : tie.Need-shared-slice-read-last
 shared-slice-read-last c = search needs
 
--- src/digits.rt:37:25
 digit-of-requires-3 : tie.Need-digit-of-requires-3
 digit-of-requires-3 c κs = search needs
 
--- src/digits.rt:37:48
 shared-slice-read-last-2 : tie.Need-shared-slice-read-last-2
 shared-slice-read-last-2 c = search needs
 
--- src/digits.rt:37:56
 digit-of-requires-4 : tie.Need-digit-of-requires-4
 digit-of-requires-4 c κs = search needs
 
--- src/digits.rt:37:77
 shared-slice-read-last-3 : tie.Need-shared-slice-read-last-3
 shared-slice-read-last-3 c = search needs
 
--- src/digits.rt:37:85
 digit-of-requires-5 : tie.Need-digit-of-requires-5
 digit-of-requires-5 c κs = search needs
 
--- src/digits.rt:32:1
 returns : tie.Need-returns
 unfolding fiveDigits
 returns c =

@@ -1,30 +1,22 @@
-use Rattle.block.specs.Format.{threeDigits}
+-- `block::digits::is_three_digits` meets its contract.
 use mathlib.Core.Path.{_∙_}
 use borrow.Author.Needs.{needs}
+use Rattle.block.specs.Format.{threeDigits}
 use Rattle.block.proofs.digits.is_three_digits.Statement.{statement}
 use Rattle.block.proofs.digits.is_three_digits.Tie as tie
-use Rattle.block.proofs.digits.is_three_digits.Reads as reads
-use Rattle.block.proofs.digits.is_three_digits.Lts as lts
-use Rattle.block.proofs.digits.digit_of.Reads as digit-of-reads
-use Rattle.block.proofs.digits.is_three.Reads as is-three-reads
 
--- src/digits.rt:28:17
 digit-of-requires : tie.Need-digit-of-requires
 digit-of-requires c κs = search needs
 
--- src/digits.rt:28:36
 digit-of-requires-2 : tie.Need-digit-of-requires-2
 digit-of-requires-2 c κs = search needs
 
--- src/digits.rt:28:54
 digit-of-requires-3 : tie.Need-digit-of-requires-3
 digit-of-requires-3 c κs = search needs
 
--- src/digits.rt:28:5
 is-three-requires : tie.Need-is-three-requires
 is-three-requires c κs = search needs
 
--- src/digits.rt:24:1
 returns : tie.Need-returns
 unfolding threeDigits
 returns c = c .is-three .ensures ∙ rw (c .before .before .before .digit-of .ensures, c .before .before .digit-of2 .ensures, c .before .digit-of3 .ensures)

@@ -1,99 +1,71 @@
-use Rattle.block.proofs.Laws.{hybrid-parts}
-use Rattle.block.specs.Judge.{dataOf}
-use Rattle.block.specs.Judge.{judgeHybrid, headerOk, judgeParts}
-use native.Mathlib.Omega.{arith}
+-- `block::judge::judge_hybrid` meets its contract.
+use mathlib.Core.Path.{sym, _∙_}
 use borrow.Author.Tests.{lt-leb, le-leb, not-true, not-false}
-use lib.ListN.{length, take, drop, getD}
-use Prim.Native.Nat.{ℕ, _-_}
-use mathlib.Core.List.{List}
-use mathlib.Core.Path.{sym, ap, _∙_}
 use borrow.Author.Needs.{needs}
+use Rattle.block.proofs.Laws.{hybrid-parts}
+use Rattle.block.specs.Judge.{judgeHybrid, headerOk}
 use Rattle.block.proofs.judge.judge_hybrid.Statement.{statement}
 use Rattle.block.proofs.judge.judge_hybrid.Tie as tie
-use Rattle.block.proofs.judge.judge_hybrid.Reads as reads
-use Rattle.block.proofs.judge.judge_hybrid.Lts as lts
-use Rattle.block.proofs.digits.is_three.Reads as is-three-reads
-use Rattle.block.proofs.judge.judge_parts.Reads as judge-parts-reads
 
--- src/judge.rt:78:9
 returns : tie.Need-returns
 unfolding judgeHybrid headerOk
 returns c = simp (lt-leb _ _ (c .if1 .taken))
 
--- src/judge.rt:80:18
 sub-is-three : tie.Need-sub-is-three
 sub-is-three c = search needs
 
--- src/judge.rt:80:18
 part-is-three-start : tie.Need-part-is-three-start
 part-is-three-start c = search needs
 
--- src/judge.rt:80:18
 part-is-three-end : tie.Need-part-is-three-end
 part-is-three-end c = search needs
 
--- src/judge.rt:80:9
 is-three-requires : tie.Need-is-three-requires
 is-three-requires c κs = search needs
 
--- src/judge.rt:81:9
 returns-2 : tie.Need-returns-2
 unfolding judgeHybrid headerOk
 returns-2 c = simp (le-leb _ _ (c .before .before .before .if1 .left), (sym (c .before .is-three .ensures) ∙ not-true _ (c .if2 .taken)))
 
--- src/judge.rt:83:17
 sub-count : tie.Need-sub-count
 sub-count c = search needs
 
--- src/judge.rt:84:15
 sub-sum : tie.Need-sub-sum
 sub-sum c = search needs
 
--- src/judge.rt:87:9
 shared-slice-read-judge-parts : tie.Need-shared-slice-read-judge-parts
 shared-slice-read-judge-parts c = search needs
 
--- src/judge.rt:88:9
 sub-judge-parts : tie.Need-sub-judge-parts
 sub-judge-parts c = search needs
 
--- src/judge.rt:88:9
 part-judge-parts-start : tie.Need-part-judge-parts-start
 part-judge-parts-start c = search needs
 
--- src/judge.rt:88:9
 part-judge-parts-end : tie.Need-part-judge-parts-end
 part-judge-parts-end c = search needs
 
--- src/judge.rt:89:9
 sub-judge-parts-2 : tie.Need-sub-judge-parts-2
 sub-judge-parts-2 c = search needs
 
--- src/judge.rt:89:9
 part-judge-parts-start-2 : tie.Need-part-judge-parts-start-2
 part-judge-parts-start-2 c = search needs
 
--- src/judge.rt:89:9
 part-judge-parts-end-2 : tie.Need-part-judge-parts-end-2
 part-judge-parts-end-2 c = search needs
 
--- src/judge.rt:90:9
 sub-judge-parts-3 : tie.Need-sub-judge-parts-3
 sub-judge-parts-3 c = search needs
 
--- src/judge.rt:90:9
 part-judge-parts-start-3 : tie.Need-part-judge-parts-start-3
 part-judge-parts-start-3 c = search needs
 
--- src/judge.rt:90:9
 part-judge-parts-end-3 : tie.Need-part-judge-parts-end-3
 part-judge-parts-end-3 c = search needs
 
--- src/judge.rt:85:5
 judge-parts-requires : tie.Need-judge-parts-requires
 judge-parts-requires c κs = search needs
 
--- src/judge.rt:74:1
 returns-3 : tie.Need-returns-3
 returns-3 c = c .judge-parts .ensures ∙ hybrid-parts (c .before .before .before .before .before .before .before .before .before .before .args .start-block) (c .before .before .before .before .before .before .before .before .before .before .args .body .now) (c .before .before .before .before .before .before .before .before .if1 .left) (sym (c .before .before .before .before .before .before .is-three .ensures) ∙ not-false _ (c .before .before .before .before .before .if2 .left))
 

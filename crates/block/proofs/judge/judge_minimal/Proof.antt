@@ -1,27 +1,20 @@
-use Rattle.block.specs.Judge.{judgeMinimal}
+-- `block::judge::judge_minimal` meets its contract.
 use mathlib.Core.Path.{sym, _∙_}
 use borrow.Author.Needs.{needs}
+use Rattle.block.specs.Judge.{judgeMinimal}
 use Rattle.block.proofs.judge.judge_minimal.Statement.{statement}
 use Rattle.block.proofs.judge.judge_minimal.Tie as tie
-use Rattle.block.proofs.judge.judge_minimal.Reads as reads
-use Rattle.block.proofs.judge.judge_minimal.Lts as lts
-use Rattle.block.proofs.bytes.are_allowed.Reads as are-allowed-reads
-use Rattle.block.proofs.bytes.first_forbidden.Reads as first-forbidden-reads
 
--- src/judge.rt:107:8
 are-allowed-requires : tie.Need-are-allowed-requires
 are-allowed-requires c κs = search needs
 
--- src/judge.rt:110:23
 first-forbidden-requires : tie.Need-first-forbidden-requires
 first-forbidden-requires c κs = search needs
 
--- src/judge.rt:104:1
 returns : tie.Need-returns
 unfolding judgeMinimal
 returns c = simp (sym (c .before .are-allowed .ensures) ∙ c .if1 .taken)
 
--- src/judge.rt:104:1
 returns-2 : tie.Need-returns-2
 unfolding judgeMinimal
 returns-2 c = simp ((sym (c .before .before .are-allowed .ensures) ∙ c .before .if1 .left), c .first-forbidden .ensures)

@@ -1,52 +1,37 @@
+-- `block::judge::judge_parts` meets its contract.
+use mathlib.Core.Path.{sym, ap, _∙_}
+use borrow.Author.Tests.{not-true, not-false}
+use borrow.Author.Needs.{needs}
 use Rattle.block.proofs.Laws.{parts-shape, parts-byte, parts-count, parts-check, parts-accepted}
 use Rattle.block.specs.Format.{countField}
 use Rattle.block.specs.declared.Verdict.the-variants.{Byte}
-use mathlib.Core.Path.{sym, ap, _∙_}
-use borrow.Author.Tests.{not-true, not-false}
-use mathlib.Core.Path.{sym, _∙_}
-use borrow.Author.Needs.{needs}
 use Rattle.block.proofs.judge.judge_parts.Statement.{statement}
 use Rattle.block.proofs.judge.judge_parts.Tie as tie
-use Rattle.block.proofs.judge.judge_parts.Reads as reads
-use Rattle.block.proofs.judge.judge_parts.Lts as lts
-use Rattle.block.proofs.bytes.are_allowed.Reads as are-allowed-reads
-use Rattle.block.proofs.bytes.first_forbidden.Reads as first-forbidden-reads
-use Rattle.block.proofs.digits.is_five_digits.Reads as is-five-digits-reads
-use Rattle.block.proofs.judge.checksum_matches.Reads as checksum-matches-reads
-use Rattle.block.proofs.judge.type_matches.Reads as type-matches-reads
 
--- src/judge.rt:59:9
 type-matches-requires : tie.Need-type-matches-requires
 type-matches-requires c κs = search needs
 
--- src/judge.rt:60:9
 returns : tie.Need-returns
 returns c = parts-shape _ _ _ _ _ (sym (c .before .type-matches .ensures) ∙ not-true _ (c .if1 .taken))
 
--- src/judge.rt:62:9
 are-allowed-requires : tie.Need-are-allowed-requires
 are-allowed-requires c κs = search needs
 
--- src/judge.rt:63:30
 first-forbidden-requires : tie.Need-first-forbidden-requires
 first-forbidden-requires c κs = search needs
 
--- src/judge.rt:63:9
 returns-2 : tie.Need-returns-2
 returns-2 c =
     let a = c .before .before .before .before .before .before .before .before .args in
     ap Byte (c .first-forbidden .ensures) ∙ parts-byte (a .start-block) (a .t) (a .s .now) (a .count .now) (a .sum .now)
     (sym (c .before .before .before .before .type-matches .ensures) ∙ not-false _ (c .before .before .before .if1 .left)) (sym (c .before .before .are-allowed .ensures) ∙ not-true _ (c .before .if2 .taken))
 
--- src/judge.rt:65:31
 add-is-five-digits : tie.Need-add-is-five-digits
 add-is-five-digits c = search needs
 
--- src/judge.rt:65:9
 is-five-digits-requires : tie.Need-is-five-digits-requires
 is-five-digits-requires c κs = search needs
 
--- src/judge.rt:66:9
 returns-3 : tie.Need-returns-3
 unfolding countField
 returns-3 c =
@@ -55,11 +40,9 @@ returns-3 c =
     (sym (c .before .before .before .before .before .type-matches .ensures) ∙ not-false _ (c .before .before .before .before .if1 .left)) (sym (c .before .before .before .are-allowed .ensures) ∙ not-false _ (c .before .before .if2 .left))
     (sym (c .before .is-five-digits .ensures) ∙ not-true _ (c .if3 .taken))
 
--- src/judge.rt:68:9
 checksum-matches-requires : tie.Need-checksum-matches-requires
 checksum-matches-requires c κs = search needs
 
--- src/judge.rt:69:9
 returns-4 : tie.Need-returns-4
 unfolding countField
 returns-4 c =
@@ -68,7 +51,6 @@ returns-4 c =
     (sym (c .before .before .before .before .before .before .before .type-matches .ensures) ∙ not-false _ (c .before .before .before .before .before .before .if1 .left)) (sym (c .before .before .before .before .before .are-allowed .ensures) ∙ not-false _ (c .before .before .before .before .if2 .left))
     (sym (c .before .before .before .is-five-digits .ensures) ∙ not-false _ (c .before .before .if3 .left)) (sym (c .before .checksum-matches .ensures) ∙ not-true _ (c .if4 .taken))
 
--- src/judge.rt:54:1
 returns-5 : tie.Need-returns-5
 unfolding countField
 returns-5 c =

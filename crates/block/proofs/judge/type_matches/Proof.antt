@@ -1,28 +1,22 @@
-use Rattle.block.specs.Judge.{typeMatches}
+-- `block::judge::type_matches` meets its contract.
 use mathlib.Core.Path.{_∙_}
 use borrow.Author.Tests.{eq-eqb, ne-eqb}
 use borrow.Author.Needs.{needs}
+use Rattle.block.specs.Judge.{typeMatches}
 use Rattle.block.proofs.judge.type_matches.Statement.{statement}
 use Rattle.block.proofs.judge.type_matches.Tie as tie
-use Rattle.block.proofs.judge.type_matches.Reads as reads
-use Rattle.block.proofs.judge.type_matches.Lts as lts
-use Rattle.block.proofs.judge.is_reason.Reads as is-reason-reads
 
--- src/judge.rt:34:9
 returns : tie.Need-returns
 unfolding typeMatches
 returns c = simp (eq-eqb _ _ (c .if1 .taken))
 
--- src/judge.rt:36:18
 is-reason-requires : tie.Need-is-reason-requires
 is-reason-requires c κs = search needs
 
--- src/judge.rt:30:1
 returns-2 : tie.Need-returns-2
 unfolding typeMatches
 returns-2 c = c .is-reason .ensures ∙ simp (ne-eqb _ _ (c .before .before .if1 .left), eq-eqb _ _ (c .before .if2 .taken))
 
--- src/judge.rt:30:1
 returns-3 : tie.Need-returns-3
 unfolding typeMatches
 returns-3 c = simp (ne-eqb _ _ (c .before .if1 .left), ne-eqb _ _ (c .if2 .left))

@@ -1,55 +1,39 @@
-use Rattle.giamuvich.proofs.Laws.{read-known}
-use mathlib.Core.Path.{_≡_, sym, ap, _∙_}
+-- `giamuvich::read::read_with` meets its contract.
 use borrow.Author.Needs.{needs}
+use Rattle.giamuvich.proofs.Laws.{read-known}
 use Rattle.giamuvich.proofs.read.read_with.Statement.{statement}
 use Rattle.giamuvich.proofs.read.read_with.Tie as tie
-use Rattle.giamuvich.proofs.read.read_with.Reads as reads
-use Rattle.giamuvich.proofs.read.read_with.Lts as lts
-use Rattle.giamuvich.proofs.read.finish.Reads as finish-reads
-use Rattle.giamuvich.proofs.words.read_reader.Reads as read-reader-reads
-use Rattle.stream.proofs.read.Reads as read-reads
 
--- src/read.rt:56:34
 read-reader-requires : tie.Need-read-reader-requires
 read-reader-requires c κs = search needs
 
--- src/read.rt:56:24
 enum-known-reader : tie.Need-enum-known-reader
 enum-known-reader c = search needs
 
--- src/read.rt:57:9
 enum-told : tie.Need-enum-told
 enum-told c = search needs
 
--- src/read.rt:57:9
 same-length : tie.Need-same-length
 same-length c = search needs
 
--- src/read.rt:57:9
 returns : tie.Need-returns
 returns c = rw (← (c .before .before .read-reader .ensures), c .enum-told .given .1)
 
--- src/read.rt:59:9
 read-requires : tie.Need-read-requires
 read-requires c κs = search needs
 
--- src/read.rt:60:5
 finish-requires : tie.Need-finish-requires
 finish-requires c κs = search needs
 
--- src/read.rt:45:1
 same-length-2 : tie.Need-same-length-2
 same-length-2 c = search needs
 
--- src/read.rt:45:1
 same-length-3 : tie.Need-same-length-3
 same-length-3 c = search needs
 
--- src/read.rt:45:1
 same-length-4 : tie.Need-same-length-4
 same-length-4 c = search needs
 
--- src/read.rt:45:1
 returns-2 : tie.Need-returns-2
 returns-2 c =
     let a = c .before .before .before .before .before .before .before .before .before .before .before .before .before .before .before .before .before .before .before .before .args in

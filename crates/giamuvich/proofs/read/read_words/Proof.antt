@@ -1,71 +1,55 @@
-use Rattle.giamuvich.proofs.Laws.{read-refused, read-few-state, read-few-verdict, read-few-buffer, read-done}
+-- `giamuvich::read::read_words` meets its contract.
+use mathlib.Core.Path.{sym, _∙_}
 use borrow.Author.Tests.{not-true, not-false}
-use mathlib.Core.Path.{_≡_, sym, ap, _∙_}
 use borrow.Author.Needs.{needs}
+use Rattle.giamuvich.proofs.Laws.{read-refused, read-few-state, read-few-verdict, read-few-buffer, read-done}
 use Rattle.giamuvich.proofs.read.read_words.Statement.{statement}
 use Rattle.giamuvich.proofs.read.read_words.Tie as tie
-use Rattle.giamuvich.proofs.read.read_words.Reads as reads
-use Rattle.giamuvich.proofs.read.read_words.Lts as lts
-use Rattle.giamuvich.proofs.read.read_with.Reads as read-with-reads
-use Rattle.stream.proofs.buffer_fits.Reads as buffer-fits-reads
 
--- src/read.rt:72:21
 enum-known-made : tie.Need-enum-known-made
 enum-known-made c = search needs
 
--- src/read.rt:73:9
 enum-told : tie.Need-enum-told
 enum-told c = search needs
 
--- src/read.rt:73:9
 returns : tie.Need-returns
 returns c =
     let a = c .before .before .before .before .before .before .args in
     rw (c .enum-told .given .1) (read-refused (a .state .now) (a .part .now) (a .buffer .now) (a .verdict .now))
 
--- src/read.rt:76:9
 returns-2 : tie.Need-returns-2
 returns-2 c =
     let a = c .before .before .before .before .before .before .before .before .args in
     rw (c .before .before .made .given .1) (read-few-state _ (a .state .now) (a .part .now) (a .buffer .now) (a .verdict .now) (c .if1 .taken))
 
--- src/read.rt:79:9
 returns-3 : tie.Need-returns-3
 returns-3 c =
     let a = c .before .before .before .before .before .before .before .before .before .args in
     rw (c .before .before .before .made .given .1) (read-few-verdict _ (a .state .now) (a .part .now) (a .buffer .now) (a .verdict .now) (c .before .if1 .left) (c .if2 .taken))
 
--- src/read.rt:81:9
 buffer-fits-requires : tie.Need-buffer-fits-requires
 buffer-fits-requires c κs = search needs
 
--- src/read.rt:82:9
 same-length : tie.Need-same-length
 same-length c = search needs
 
--- src/read.rt:82:9
 returns-4 : tie.Need-returns-4
 returns-4 c =
     let a = c .before .before .before .before .before .before .before .before .before .before .before .before .args in
     rw (c .before .before .before .before .before .before .made .given .1) (read-few-buffer _ (a .state .now) (a .part .now) (a .buffer .now) (a .verdict .now) (c .before .before .before .before .if1 .left) (c .before .before .before .if2 .left) (sym (c .before .buffer-fits .ensures) ∙ not-true _ (c .if3 .taken)))
 
--- src/read.rt:84:5
 read-with-requires : tie.Need-read-with-requires
 read-with-requires c κs = search needs
 
--- src/read.rt:63:1
 same-length-2 : tie.Need-same-length-2
 same-length-2 c = search needs
 
--- src/read.rt:63:1
 same-length-3 : tie.Need-same-length-3
 same-length-3 c = search needs
 
--- src/read.rt:63:1
 same-length-4 : tie.Need-same-length-4
 same-length-4 c = search needs
 
--- src/read.rt:63:1
 returns-5 : tie.Need-returns-5
 returns-5 c =
     let a = c .before .before .before .before .before .before .before .before .before .before .before .before .before .before .before .before .before .before .before .before .before .before .args in

@@ -1,56 +1,43 @@
+-- `giamuvich::words::write_pending` meets its contract.
+use mathlib.Core.Path.{_∙_}
+use native.Mathlib.Omega.{arith}
+use lib.ListN.{length-set}
+use borrow.Author.Needs.{needs}
 use Rattle.giamuvich.proofs.Laws.{eight}
 use Rattle.giamuvich.specs.Words.{pendingWords}
-use mathlib.Core.Path.{_≡_, _∙_}
-use lib.ListN.{length-set}
-use native.Mathlib.Omega.{arith}
-use borrow.Author.Needs.{needs}
 use Rattle.giamuvich.proofs.words.write_pending.Statement.{statement}
 use Rattle.giamuvich.proofs.words.write_pending.Tie as tie
-use Rattle.giamuvich.proofs.words.write_pending.Reads as reads
-use Rattle.giamuvich.proofs.words.write_pending.Lts as lts
-use Rattle.giamuvich.proofs.words.word.Reads as word-reads
 
--- src/words.rt:123:5
 slice-write-words : tie.Need-slice-write-words
 slice-write-words c = omega arith
 
--- src/words.rt:124:5
 slice-write-words-2 : tie.Need-slice-write-words-2
 slice-write-words-2 c = simp length-set (omega arith)
 
--- src/words.rt:125:5
 slice-write-words-3 : tie.Need-slice-write-words-3
 slice-write-words-3 c = simp length-set (omega arith)
 
--- src/words.rt:126:5
 slice-write-words-4 : tie.Need-slice-write-words-4
 slice-write-words-4 c = simp length-set (omega arith)
 
--- src/words.rt:127:5
 slice-write-words-5 : tie.Need-slice-write-words-5
 slice-write-words-5 c = simp length-set (omega arith)
 
--- src/words.rt:128:5
 slice-write-words-6 : tie.Need-slice-write-words-6
 slice-write-words-6 c = simp length-set (omega arith)
 
--- src/words.rt:129:5
 slice-write-words-7 : tie.Need-slice-write-words-7
 slice-write-words-7 c = simp length-set (omega arith)
 
--- src/words.rt:130:16
 word-requires : tie.Need-word-requires
 word-requires c κs = search needs
 
--- src/words.rt:130:5
 slice-write-words-8 : tie.Need-slice-write-words-8
 slice-write-words-8 c = simp length-set (omega arith)
 
--- src/words.rt:119:1
 same-length : tie.Need-same-length
 same-length c = simp length-set
 
--- src/words.rt:119:1
 returns : tie.Need-returns
 unfolding pendingWords
 returns c = eight (c .before .before .args .words .now) _ _ _ _ _ _ _ _ (c .before .before .pre) ∙ rw (c .word .ensures)

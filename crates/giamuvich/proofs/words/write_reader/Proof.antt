@@ -1,53 +1,40 @@
+-- `giamuvich::words::write_reader` meets its contract.
+use mathlib.Core.Path.{_∙_}
+use native.Mathlib.Omega.{arith}
+use lib.ListN.{length-set}
+use borrow.Author.Needs.{needs}
 use Rattle.giamuvich.proofs.Laws.{four}
 use Rattle.giamuvich.specs.Words.{readerWords}
-use mathlib.Core.Path.{_≡_, _∙_}
-use lib.ListN.{length-set}
-use native.Mathlib.Omega.{arith}
-use borrow.Author.Needs.{needs}
 use Rattle.giamuvich.proofs.words.write_reader.Statement.{statement}
 use Rattle.giamuvich.proofs.words.write_reader.Tie as tie
-use Rattle.giamuvich.proofs.words.write_reader.Reads as reads
-use Rattle.giamuvich.proofs.words.write_reader.Lts as lts
-use Rattle.giamuvich.proofs.words.phase_number.Reads as phase-number-reads
-use Rattle.giamuvich.proofs.words.word.Reads as word-reads
 
--- src/words.rt:46:16
 phase-number-requires : tie.Need-phase-number-requires
 phase-number-requires c κs = search needs
 
--- src/words.rt:46:5
 slice-write-words : tie.Need-slice-write-words
 slice-write-words c = omega arith
 
--- src/words.rt:47:16
 word-requires : tie.Need-word-requires
 word-requires c κs = search needs
 
--- src/words.rt:47:5
 slice-write-words-2 : tie.Need-slice-write-words-2
 slice-write-words-2 c = simp length-set (omega arith)
 
--- src/words.rt:48:16
 word-requires-2 : tie.Need-word-requires-2
 word-requires-2 c κs = search needs
 
--- src/words.rt:48:5
 slice-write-words-3 : tie.Need-slice-write-words-3
 slice-write-words-3 c = simp length-set (omega arith)
 
--- src/words.rt:49:16
 word-requires-3 : tie.Need-word-requires-3
 word-requires-3 c κs = search needs
 
--- src/words.rt:49:5
 slice-write-words-4 : tie.Need-slice-write-words-4
 slice-write-words-4 c = simp length-set (omega arith)
 
--- src/words.rt:41:1
 same-length : tie.Need-same-length
 same-length c = simp length-set
 
--- src/words.rt:41:1
 returns : tie.Need-returns
 unfolding readerWords
 returns c = four (c .before .before .before .before .before .args .words .now) _ _ _ _ (c .before .before .before .before .before .pre) ∙ rw (c .before .before .before .phase-number .ensures, c .before .before .word .ensures, c .before .word2 .ensures, c .word3 .ensures)

@@ -1,102 +1,73 @@
+-- `giamuvich::words::write_verdict` meets its contract.
+use mathlib.Core.Path.{_∙_}
+use native.Mathlib.Omega.{arith}
+use lib.ListN.{length-set}
+use borrow.Author.Needs.{needs}
 use Rattle.giamuvich.proofs.Laws.{eight}
 use Rattle.giamuvich.specs.Words.{verdictWords}
-use mathlib.Core.Path.{_≡_, _∙_}
-use lib.ListN.{length-set}
-use native.Mathlib.Omega.{arith}
-use borrow.Author.Needs.{needs}
 use Rattle.giamuvich.proofs.words.write_verdict.Statement.{statement}
 use Rattle.giamuvich.proofs.words.write_verdict.Tie as tie
-use Rattle.giamuvich.proofs.words.write_verdict.Reads as reads
-use Rattle.giamuvich.proofs.words.write_verdict.Lts as lts
-use Rattle.block.proofs.Verdict.block_type.Reads as block-type-reads
-use Rattle.block.proofs.Verdict.data_length.Reads as data-length-reads
-use Rattle.block.proofs.Verdict.number.Reads as number-reads
-use Rattle.block.proofs.Verdict.place.Reads as place-reads
-use Rattle.giamuvich.proofs.words.byte_word.Reads as byte-word-reads
-use Rattle.giamuvich.proofs.words.data_place.Reads as data-place-reads
-use Rattle.giamuvich.proofs.words.word.Reads as word-reads
 
--- src/words.rt:108:5
 slice-write-words : tie.Need-slice-write-words
 slice-write-words c = omega arith
 
--- src/words.rt:109:16
 word-requires : tie.Need-word-requires
 word-requires c κs = search needs
 
--- src/words.rt:109:5
 slice-write-words-2 : tie.Need-slice-write-words-2
 slice-write-words-2 c = simp length-set (omega arith)
 
--- src/words.rt:110:16
 number-requires : tie.Need-number-requires
 number-requires c κs = search needs
 
--- src/words.rt:110:5
 slice-write-words-3 : tie.Need-slice-write-words-3
 slice-write-words-3 c = simp length-set (omega arith)
 
--- src/words.rt:111:21
 place-requires : tie.Need-place-requires
 place-requires c κs = search needs
 
--- src/words.rt:111:16
 word-requires-2 : tie.Need-word-requires-2
 word-requires-2 c κs = search needs
 
--- src/words.rt:111:5
 slice-write-words-4 : tie.Need-slice-write-words-4
 slice-write-words-4 c = simp length-set (omega arith)
 
--- src/words.rt:112:26
 block-type-requires : tie.Need-block-type-requires
 block-type-requires c κs = search needs
 
--- src/words.rt:112:16
 byte-word-requires : tie.Need-byte-word-requires
 byte-word-requires c κs = search needs
 
--- src/words.rt:112:5
 slice-write-words-5 : tie.Need-slice-write-words-5
 slice-write-words-5 c = simp length-set (omega arith)
 
--- src/words.rt:113:21
 data-place-requires : tie.Need-data-place-requires
 data-place-requires c κs = search needs
 
--- src/words.rt:113:16
 word-requires-3 : tie.Need-word-requires-3
 word-requires-3 c κs = search needs
 
--- src/words.rt:113:5
 slice-write-words-6 : tie.Need-slice-write-words-6
 slice-write-words-6 c = simp length-set (omega arith)
 
--- src/words.rt:114:21
 data-length-requires : tie.Need-data-length-requires
 data-length-requires c κs = search needs
 
--- src/words.rt:114:16
 word-requires-4 : tie.Need-word-requires-4
 word-requires-4 c κs = search needs
 
--- src/words.rt:114:5
 slice-write-words-7 : tie.Need-slice-write-words-7
 slice-write-words-7 c = simp length-set (omega arith)
 
--- src/words.rt:115:16
 word-requires-5 : tie.Need-word-requires-5
 word-requires-5 c κs = search needs
 
--- src/words.rt:115:5
 slice-write-words-8 : tie.Need-slice-write-words-8
 slice-write-words-8 c = simp length-set (omega arith)
 
--- src/words.rt:104:1
 same-length : tie.Need-same-length
 same-length c = simp length-set
 
--- src/words.rt:104:1
 returns : tie.Need-returns
 unfolding verdictWords
 returns c = eight (c .before .before .before .before .before .before .before .before .before .before .before .before .args .words .now) _ _ _ _ _ _ _ _ (c .before .before .before .before .before .before .before .before .before .before .before .before .pre) ∙ rw (c .before .before .before .before .before .before .before .before .before .before .word .ensures, c .before .before .before .before .before .before .before .before .before .number .ensures, c .before .before .before .before .before .before .before .word2 .ensures, c .before .before .before .before .before .before .before .before .place .ensures, c .before .before .before .before .before .byte-word .ensures, c .before .before .before .before .before .before .block-type .ensures, c .before .before .before .word3 .ensures, c .before .before .before .before .data-place .ensures, c .before .word4 .ensures, c .before .before .data-length .ensures, c .word5 .ensures)

@@ -1,87 +1,65 @@
+-- `giamuvich::write::report_written` meets its contract.
 use borrow.Author.Needs.{needs}
 use Rattle.giamuvich.proofs.write.report_written.Statement.{statement}
 use Rattle.giamuvich.proofs.write.report_written.Tie as tie
-use Rattle.giamuvich.proofs.write.report_written.Reads as reads
-use Rattle.giamuvich.proofs.write.report_written.Lts as lts
-use Rattle.giamuvich.proofs.write.write_report.Reads as write-report-reads
 
--- src/write.rt:28:29
 enum-told : tie.Need-enum-told
 enum-told c = search needs
 
--- src/write.rt:29:26
 enum-told-2 : tie.Need-enum-told-2
 enum-told-2 c = search needs
 
--- src/write.rt:31:26
 enum-told-3 : tie.Need-enum-told-3
 enum-told-3 c = search needs
 
--- src/write.rt:31:13
 write-report-requires : tie.Need-write-report-requires
 write-report-requires c κs = search needs
 
--- src/write.rt:35:26
 enum-told-4 : tie.Need-enum-told-4
 enum-told-4 c = search needs
 
--- src/write.rt:35:13
 write-report-requires-2 : tie.Need-write-report-requires-2
 write-report-requires-2 c κs = search needs
 
--- src/write.rt:38:23
 enum-known-written : tie.Need-enum-known-written
 enum-known-written c = search needs
 
--- src/write.rt:39:13
 write-report-requires-3 : tie.Need-write-report-requires-3
 write-report-requires-3 c κs = search needs
 
--- src/write.rt:42:24
 enum-known-written-2 : tie.Need-enum-known-written-2
 enum-known-written-2 c = search needs
 
--- src/write.rt:43:13
 write-report-requires-4 : tie.Need-write-report-requires-4
 write-report-requires-4 c κs = search needs
 
--- src/write.rt:23:1
 returns : tie.Need-returns
 returns c = rw (c .enum-told .given .1)
 
--- src/write.rt:23:1
 returns-2 : tie.Need-returns-2
 returns-2 c = rw (c .enum-told2 .given .1)
 
--- src/write.rt:23:1
 same-length : tie.Need-same-length
 same-length c = search needs
 
--- src/write.rt:23:1
 returns-3 : tie.Need-returns-3
 returns-3 c = rw (c .before .before .before .before .enum-told3 .given .1, c .before .before .write-report .ensures)
 
--- src/write.rt:23:1
 same-length-2 : tie.Need-same-length-2
 same-length-2 c = search needs
 
--- src/write.rt:23:1
 returns-4 : tie.Need-returns-4
 returns-4 c = rw (c .before .before .before .before .enum-told4 .given .1, c .before .before .write-report2 .ensures)
 
--- src/write.rt:23:1
 same-length-3 : tie.Need-same-length-3
 same-length-3 c = search needs
 
--- src/write.rt:23:1
 returns-5 : tie.Need-returns-5
 returns-5 c = rw (c .before .before .before .before .before .written .given .1, c .before .before .write-report3 .ensures)
 
--- src/write.rt:23:1
 same-length-4 : tie.Need-same-length-4
 same-length-4 c = search needs
 
--- src/write.rt:23:1
 returns-6 : tie.Need-returns-6
 returns-6 c = rw (c .before .before .before .before .before .written2 .given .1, c .before .before .write-report4 .ensures)
 

@@ -1,19 +1,15 @@
+-- `giamuvich::write::type_byte` meets its contract.
 use borrow.Author.Tests.{lt-ltb, le-ltb}
 use borrow.Author.Needs.{needs}
 use Rattle.giamuvich.proofs.write.type_byte.Statement.{statement}
 use Rattle.giamuvich.proofs.write.type_byte.Tie as tie
-use Rattle.giamuvich.proofs.write.type_byte.Reads as reads
-use Rattle.giamuvich.proofs.write.type_byte.Lts as lts
 
--- src/write.rt:54:9
 returns : tie.Need-returns
 returns c = rw (lt-ltb _ _ (c .if1 .taken))
 
--- src/write.rt:56:5
 cast-result : tie.Need-cast-result
 cast-result c = search needs
 
--- src/write.rt:50:1
 returns-2 : tie.Need-returns-2
 returns-2 c = rw (le-ltb _ _ (c .if1 .left))
 

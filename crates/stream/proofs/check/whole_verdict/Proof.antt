@@ -1,16 +1,13 @@
-use Rattle.stream.proofs.Checks.{Begins, check-unfinished, check-cut, check-cut-early, check-open, check-early, check-verdict}
-use Rattle.stream.proofs.Store.{stopped, stop-byte}
+-- `stream::check::whole_verdict` meets its contract.
+use mathlib.Core.Path.{_≡_, _∙_}
+use Prim.Native.Nat.{_+_, _<_}
 use native.Mathlib.Omega.{arith}
 use lib.ListN.{length, getD}
-use Prim.Native.Nat.{_+_, _≤_, _<_}
-use mathlib.Core.Path.{_≡_, refl, sym, ap, _∙_}
 use borrow.Author.Needs.{needs}
+use Rattle.stream.proofs.Checks.{Begins, check-unfinished, check-cut, check-cut-early, check-open, check-early, check-verdict}
+use Rattle.stream.proofs.Store.{stopped, stop-byte}
 use Rattle.stream.proofs.check.whole_verdict.Statement.{statement}
 use Rattle.stream.proofs.check.whole_verdict.Tie as tie
-use Rattle.stream.proofs.check.whole_verdict.Reads as reads
-use Rattle.stream.proofs.check.whole_verdict.Lts as lts
-use Rattle.stream.proofs.check.outcome_of.Reads as outcome-of-reads
-use Rattle.stream.proofs.find.find_stop.Reads as find-stop-reads
 
 -- the bytes begin with SB, and the search stopped
 begins : (c : tie.After-find-stop) → Begins (c .before .before .before .args .settings) (c .before .before .before .args .block .now) (c .find-stop .result)
@@ -22,79 +19,60 @@ end-byte : (c : tie.After-find-stop) → 1 + c .find-stop .result < length (c .b
     → getD (c .before .before .before .args .block .now) (1 + c .find-stop .result) 0 ≡ c .before .before .before .args .settings .«end_block»
 end-byte c l f = stop-byte _ _ (c .before .before .before .args .block .now) 1 _ (begins c .stop) l f
 
--- src/check.rt:34:30
 sub-find-stop : tie.Need-sub-find-stop
 sub-find-stop c = search needs
 
--- src/check.rt:34:30
 part-find-stop-start : tie.Need-part-find-stop-start
 part-find-stop-start c = search needs
 
--- src/check.rt:34:30
 part-find-stop-end : tie.Need-part-find-stop-end
 part-find-stop-end c = search needs
 
--- src/check.rt:34:20
 find-stop-requires : tie.Need-find-stop-requires
 find-stop-requires c κs = search needs
 
--- src/check.rt:34:16
 add-stop : tie.Need-add-stop
 add-stop c = omega (arith, begins c .stop .most)
 
--- src/check.rt:36:9
 returns : tie.Need-returns
 returns c = check-unfinished _ _ _ (begins (c .before)) (c .if1 .taken)
 
--- src/check.rt:38:17
 add-after : tie.Need-add-after
 add-after c = omega (arith, begins (c .before) .stop .most)
 
--- src/check.rt:39:8
 shared-slice-read-if2 : tie.Need-shared-slice-read-if2
 shared-slice-read-if2 c = omega (arith, begins (c .before .before) .stop .most)
 
--- src/check.rt:41:13
 returns-2 : tie.Need-returns-2
 returns-2 c = check-cut _ _ _ (begins (c .before .before .before .before .before)) (c .before .if2 .taken) (c .if3 .taken)
 
--- src/check.rt:43:9
 returns-3 : tie.Need-returns-3
 returns-3 c = check-cut-early _ _ _ (begins (c .before .before .before .before .before)) (c .before .if2 .taken) (omega (arith, begins (c .before .before .before .before .before) .stop .most))
 
--- src/check.rt:46:9
 returns-4 : tie.Need-returns-4
 returns-4 c = check-open _ _ _ (begins (c .before .before .before .before .before)) (c .before .if2 .left) (end-byte (c .before .before .before .before .before) (omega arith) (c .before .if2 .left)) (c .if4 .taken)
 
--- src/check.rt:48:8
 add-if5 : tie.Need-add-if5
 add-if5 c = omega (arith, begins (c .before .before .before .before .before) .stop .most)
 
--- src/check.rt:49:9
 returns-5 : tie.Need-returns-5
 returns-5 c = check-early _ _ _ (begins (c .before .before .before .before .before .before)) (c .before .before .if2 .left) (end-byte (c .before .before .before .before .before .before) (omega (arith, begins (c .before .before .before .before .before .before) .stop .most)) (c .before .before .if2 .left)) (omega (arith, begins (c .before .before .before .before .before .before) .stop .most))
 
--- src/check.rt:51:26
 sub-outcome-of : tie.Need-sub-outcome-of
 sub-outcome-of c = search needs
 
--- src/check.rt:51:26
 part-outcome-of-start : tie.Need-part-outcome-of-start
 part-outcome-of-start c = search needs
 
--- src/check.rt:51:26
 part-outcome-of-end : tie.Need-part-outcome-of-end
 part-outcome-of-end c = search needs
 
--- src/check.rt:51:43
 shared-slice-read-outcome-of : tie.Need-shared-slice-read-outcome-of
 shared-slice-read-outcome-of c = search needs
 
--- src/check.rt:51:5
 outcome-of-requires : tie.Need-outcome-of-requires
 outcome-of-requires c κs = search needs
 
--- src/check.rt:28:1
 returns-6 : tie.Need-returns-6
 returns-6 c = c .outcome-of .ensures ∙ check-verdict (c .before .before .before .before .before .before .before .before .before .before .before .before .args .settings) (c .before .before .before .before .before .before .before .before .before .before .before .before .args .block .now) (c .before .before .before .before .before .before .before .before .before .find-stop .result) (begins (c .before .before .before .before .before .before .before .before .before)) (c .before .before .before .before .before .if2 .left) (end-byte (c .before .before .before .before .before .before .before .before .before) (omega (arith, begins (c .before .before .before .before .before .before .before .before .before) .stop .most)) (c .before .before .before .before .before .if2 .left)) (c .before .before .before .if5 .left)
 

@@ -1,14 +1,13 @@
-use Rattle.lists.specs.Bytes.{hasAny}
-use Rattle.lists.proofs.Search.{any-more, any-none}
-use lib.ListN.{length, drop}
-use borrow.Author.Needs.{needs}
+-- `stream::find::has_stop` meets its contract.
 use mathlib.Core.Bool.{_||_}
 use mathlib.Core.Path.{_≡_, sym, _∙_}
 use Prim.Native.Nat.{_≤_, _-_}
+use lib.ListN.{length, drop}
+use borrow.Author.Needs.{needs}
+use Rattle.lists.specs.Bytes.{hasAny}
+use Rattle.lists.proofs.Search.{any-more, any-none}
 use Rattle.stream.proofs.find.has_stop.Statement.{statement}
 use Rattle.stream.proofs.find.has_stop.Tie as tie
-use Rattle.stream.proofs.find.has_stop.Reads as reads
-use Rattle.stream.proofs.find.has_stop.Lts as lts
 
 abbrev Inv-loop : tie.InvT-loop
 Inv-loop s start-block end-block hit₀ i₀ hit i = (i ≤ length s) × ((hit || hasAny start-block end-block (drop i s)) ≡ hasAny start-block end-block s)
@@ -16,27 +15,21 @@ Inv-loop s start-block end-block hit₀ i₀ hit i = (i ≤ length s) × ((hit |
 abbrev μ-loop : tie.MeasureT-loop
 μ-loop s start-block end-block hit₀ i₀ hit i = length s - i
 
--- src/find.rt:11:5
 loop-holds : tie.Need-loop-holds Inv-loop μ-loop
 loop-holds c = search needs
 
--- src/find.rt:12:17
 shared-slice-read-x : tie.Need-shared-slice-read-x Inv-loop μ-loop
 shared-slice-read-x c = search needs
 
--- src/find.rt:14:9
 add-i : tie.Need-add-i Inv-loop μ-loop
 add-i c = search needs
 
--- src/find.rt:11:5
 loop-less : tie.Need-loop-less Inv-loop μ-loop
 loop-less c = search needs
 
--- src/find.rt:11:5
 loop-again : tie.Need-loop-again Inv-loop μ-loop
 loop-again c = (search needs, any-more _ _ _ (c .before .before .loop .i) (c .before .before .loop .hit) (c .before .loop-test .taken) ∙ c .before .before .loop .inv .1)
 
--- src/find.rt:6:1
 returns : tie.Need-returns Inv-loop μ-loop
 returns c = sym (any-none _ _ _ (c .before .loop .i) (c .before .loop .hit) (c .loop-test .left)) ∙ c .before .loop .inv .1
 

@@ -1,26 +1,20 @@
+-- `stream::scan::capacity` meets its contract.
 use borrow.Author.Needs.{needs}
 use Rattle.stream.proofs.scan.capacity.Statement.{statement}
 use Rattle.stream.proofs.scan.capacity.Tie as tie
-use Rattle.stream.proofs.scan.capacity.Reads as reads
-use Rattle.stream.proofs.scan.capacity.Lts as lts
 
--- src/scan.rt:25:32
 enum-told : tie.Need-enum-told
 enum-told c = search needs
 
--- src/scan.rt:25:32
 add-result : tie.Need-add-result
 add-result c = search needs
 
--- src/scan.rt:26:33
 enum-told-2 : tie.Need-enum-told-2
 enum-told-2 c = search needs
 
--- src/scan.rt:19:1
 returns : tie.Need-returns
 returns c = rw (c .before .enum-told .given .1)
 
--- src/scan.rt:19:1
 returns-2 : tie.Need-returns-2
 returns-2 c = rw (c .enum-told2 .given .1)
 

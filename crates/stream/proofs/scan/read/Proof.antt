@@ -1,79 +1,59 @@
+-- `stream::scan::read` meets its contract.
+use mathlib.Core.Path.{sym, ap, _∙_}
+use native.Mathlib.Omega.{arith}
+use borrow.Author.Tests.{not-true, not-false}
+use borrow.Author.Needs.{needs}
+use Rattle.block.proofs.Laws.{valid-limit}
 use Rattle.stream.proofs.Returns.{read-setting, read-room, read-state, read-scanned}
 use Rattle.stream.specs.declared.Reading.{Reading}
 use Rattle.stream.specs.Scan.{given}
-use Rattle.block.proofs.Laws.{valid-limit}
-use Rattle.block.specs.Settings.{valid, capacityOf}
-use borrow.Author.Tests.{not-true, not-false}
-use native.Mathlib.Omega.{arith}
-use Prim.Native.Nat.{ℕ, _≤_, _+_, _-_}
-use mathlib.Core.List.{List}
-use mathlib.Core.Path.{_≡_, sym, ap, _∙_}
-use borrow.Author.Needs.{needs}
 use Rattle.stream.proofs.scan.read.Statement.{statement}
 use Rattle.stream.proofs.scan.read.Tie as tie
-use Rattle.stream.proofs.scan.read.Reads as reads
-use Rattle.stream.proofs.scan.read.Lts as lts
-use Rattle.block.proofs.Settings.is_valid.Reads as is-valid-reads
-use Rattle.stream.proofs.scan.capacity.Reads as capacity-reads
-use Rattle.stream.proofs.scan.read_part.Reads as read-part-reads
-use Rattle.stream.proofs.scan.refuse.Reads as refuse-reads
 
--- src/scan.rt:220:9
 is-valid-requires : tie.Need-is-valid-requires
 is-valid-requires c κs = search needs
 
--- src/scan.rt:221:9
 refuse-requires : tie.Need-refuse-requires
 refuse-requires c κs = search needs
 
--- src/scan.rt:221:9
 returns : tie.Need-returns
 returns c =
     let a = c .before .before .before .before .before .args in
     ap (λ (r : Reading). given r (a .buffer .now)) (c .refuse .ensures) ∙ read-setting (a .settings) (a .reader) (a .part .now) (a .buffer .now) (sym (c .before .before .is-valid .ensures) ∙ not-true _ (c .before .if1 .taken))
 
--- src/scan.rt:223:23
 capacity-requires : tie.Need-capacity-requires
 capacity-requires c κs = valid-limit (c .before .before .before .before .args .settings) (sym (c .before .is-valid .ensures) ∙ not-false _ (c .if1 .left))
 
--- src/scan.rt:224:9
 refuse-requires-2 : tie.Need-refuse-requires-2
 refuse-requires-2 c κs = search needs
 
--- src/scan.rt:224:9
 returns-2 : tie.Need-returns-2
 returns-2 c =
     let a = c .before .before .before .before .before .before .before .args in
     let e = c .before .before .capacity .ensures in
     ap (λ (r : Reading). given r (a .buffer .now)) (c .refuse2 .ensures) ∙ read-room (a .settings) (a .reader) (a .part .now) (a .buffer .now) (sym (c .before .before .before .before .is-valid .ensures) ∙ not-false _ (c .before .before .before .if1 .left)) (omega arith)
 
--- src/scan.rt:226:8
 sub-if3 : tie.Need-sub-if3
 sub-if3 c = search needs
 
--- src/scan.rt:227:9
 refuse-requires-3 : tie.Need-refuse-requires-3
 refuse-requires-3 c κs = search needs
 
--- src/scan.rt:227:9
 returns-3 : tie.Need-returns-3
 returns-3 c =
     let a = c .before .before .before .before .before .before .before .before .before .args in
     let e = c .before .before .before .before .capacity .ensures in
     ap (λ (r : Reading). given r (a .buffer .now)) (c .refuse3 .ensures) ∙ read-state (a .settings) (a .reader) (a .part .now) (a .buffer .now) (sym (c .before .before .before .before .before .before .is-valid .ensures) ∙ not-false _ (c .before .before .before .before .before .if1 .left)) (omega arith) (c .before .if3 .taken)
 
--- src/scan.rt:229:5
 read-part-requires : tie.Need-read-part-requires
 read-part-requires c κs =
     let a = c .before .before .before .before .before .before .before .before .before .args in
     let e = c .before .before .before .before .capacity .ensures in
     record { limit = valid-limit (a .settings) (sym (c .before .before .before .before .before .before .is-valid .ensures) ∙ not-false _ (c .before .before .before .before .before .if1 .left)); room = omega arith; offsets = omega arith; within = omega arith }
 
--- src/scan.rt:217:1
 same-length : tie.Need-same-length
 same-length c = search needs
 
--- src/scan.rt:217:1
 returns-4 : tie.Need-returns-4
 returns-4 c =
     let a = c .before .before .before .before .before .before .before .before .before .before .before .before .args in

@@ -1,35 +1,27 @@
-use Rattle.stream.proofs.Steps.{from-end, from-skip, from-opens}
-use Rattle.stream.proofs.Store.{reads, reads-also, first-byte}
-use Rattle.lists.proofs.Search.{clear-most}
+-- `stream::scan::read_between` meets its contract.
+use mathlib.Core.Path.{refl, sym, _∙_}
+use Prim.Native.Nat.{_≤_, _<_}
 use native.Mathlib.Omega.{arith}
 use lib.ListN.{length}
-use Prim.Native.Nat.{_+_, _≤_, _<_}
-use mathlib.Core.Path.{_≡_, refl, sym, ap, _∙_}
 use borrow.Author.Needs.{needs}
+use Rattle.lists.proofs.Search.{clear-most}
+use Rattle.stream.proofs.Steps.{from-end, from-skip, from-opens}
+use Rattle.stream.proofs.Store.{reads, reads-also, first-byte}
 use Rattle.stream.proofs.scan.read_between.Statement.{statement}
 use Rattle.stream.proofs.scan.read_between.Tie as tie
-use Rattle.stream.proofs.scan.read_between.Reads as reads
-use Rattle.stream.proofs.scan.read_between.Lts as lts
-use Rattle.stream.proofs.find.find_stop.Reads as find-stop-reads
-use Rattle.stream.proofs.scan.pending.Reads as pending-reads
-use Rattle.stream.proofs.scan.read_inside.Reads as read-inside-reads
 
 stop-most : (c : tie.After-find-stop) → c .find-stop .result ≤ length (c .before .before .before .args .part .now)
 stop-most c = rw (c .find-stop .ensures) (clear-most _ _ (c .before .before .before .args .part .now))
 
--- src/scan.rt:181:9
 find-stop-requires : tie.Need-find-stop-requires
 find-stop-requires c κs = search needs
 
--- src/scan.rt:182:16
 add-here : tie.Need-add-here
 add-here c = omega (arith, stop-most c)
 
--- src/scan.rt:184:9
 pending-requires : tie.Need-pending-requires
 pending-requires c κs = search needs
 
--- src/scan.rt:184:9
 returns : tie.Need-returns
 returns c =
     let a = c .before .before .before .before .before .args in
@@ -37,19 +29,15 @@ returns c =
     reads _ _ _ _ _ _ _ (c .pending .ensures)
     (sym (from-skip (a .settings) (a .part .now) (a .buffer .now) (a .held) (a .start) (a .position) ∙ rw (← e) (from-end (a .settings) (a .part .now) (a .buffer .now) (a .held) (a .start) (a .position) _ (c .before .before .find-stop .result) (omega arith)))) refl
 
--- src/scan.rt:186:52
 add-read-inside : tie.Need-add-read-inside
 add-read-inside c = omega (arith, stop-most (c .before))
 
--- src/scan.rt:186:5
 read-inside-requires : tie.Need-read-inside-requires
 read-inside-requires c κs = record { limit = c .before .before .before .before .before .pre .limit; room = c .before .before .before .before .before .pre .room; offsets = c .before .before .before .before .before .pre .offsets; within = omega (arith, stop-most (c .before .before)) }
 
--- src/scan.rt:170:1
 same-length : tie.Need-same-length
 same-length c = search needs
 
--- src/scan.rt:170:1
 returns-2 : tie.Need-returns-2
 returns-2 c =
     let a = c .before .before .before .before .before .before .before .before .args in

@@ -1,23 +1,16 @@
+-- `stream::scan::read_inside` meets its contract.
+use mathlib.Core.Path.{_≡_, refl, sym, _∙_}
+use Prim.Native.Nat.{_+_, _<_}
+use native.Mathlib.Nat.{add-assoc}
+use native.Mathlib.Omega.{arith}
+use lib.ListN.{length}
+use borrow.Author.Needs.{needs}
 use Rattle.stream.specs.Internal.{from}
 use Rattle.stream.specs.declared.Phase.the-variants.{Inside}
 use Rattle.stream.proofs.Steps.{from-end, from-cut, from-ends}
 use Rattle.stream.proofs.Store.{reads, reads-also, Stopped, stopped, stop-byte, after-store, capacity-most}
-use native.Mathlib.Nat.{add-assoc}
-use native.Mathlib.Omega.{arith}
-use lib.ListN.{length}
-use Prim.Native.Nat.{_+_, _≤_, _<_}
-use mathlib.Core.Path.{_≡_, refl, sym, ap, _∙_}
-use borrow.Author.Needs.{needs}
 use Rattle.stream.proofs.scan.read_inside.Statement.{statement}
 use Rattle.stream.proofs.scan.read_inside.Tie as tie
-use Rattle.stream.proofs.scan.read_inside.Reads as reads
-use Rattle.stream.proofs.scan.read_inside.Lts as lts
-use Rattle.stream.proofs.find.find_stop.Reads as find-stop-reads
-use Rattle.stream.proofs.scan.capacity.Reads as capacity-reads
-use Rattle.stream.proofs.scan.found_inside.Reads as found-inside-reads
-use Rattle.stream.proofs.scan.pending.Reads as pending-reads
-use Rattle.stream.proofs.scan.read_ended.Reads as read-ended-reads
-use Rattle.stream.proofs.scan.store.Reads as store-reads
 
 -- where the search stopped
 stop-at : (c : tie.After-find-stop)
@@ -34,88 +27,68 @@ stored-at c =
     after-store (a .settings) (a .part .now) (a .buffer .now) (c .store .last .1 .1 .1 .0) (a .held) (a .start) (a .position) (a .at) (c .before .before .before .before .find-stop .result) (c .before .before .before .capacity .result) (c .store .result)
     (stop-at (c .before .before .before .before)) (c .before .before .before .capacity .ensures) (c .before .before .before .before .before .before .before .before .pre .room) (c .store .ensures .0) (c .store .ensures .1)
 
--- src/scan.rt:156:31
 sub-find-stop : tie.Need-sub-find-stop
 sub-find-stop c = search needs
 
--- src/scan.rt:156:31
 part-find-stop-start : tie.Need-part-find-stop-start
 part-find-stop-start c = search needs
 
--- src/scan.rt:156:31
 part-find-stop-end : tie.Need-part-find-stop-end
 part-find-stop-end c = search needs
 
--- src/scan.rt:156:21
 find-stop-requires : tie.Need-find-stop-requires
 find-stop-requires c κs = search needs
 
--- src/scan.rt:156:16
 add-stop : tie.Need-add-stop
 add-stop c = omega (arith, stop-at c .most)
 
--- src/scan.rt:157:22
 capacity-requires : tie.Need-capacity-requires
 capacity-requires c κs = search needs
 
--- src/scan.rt:157:48
 sub-store : tie.Need-sub-store
 sub-store c = search needs
 
--- src/scan.rt:157:48
 part-store-start : tie.Need-part-store-start
 part-store-start c = search needs
 
--- src/scan.rt:157:48
 part-store-end : tie.Need-part-store-end
 part-store-end c = omega (arith, stop-at (c .before) .most)
 
--- src/scan.rt:157:9
 store-requires : tie.Need-store-requires
 store-requires c κs =
     let e = c .before .before .capacity .ensures in
     (omega arith, omega (arith, capacity-most (c .before .before .before .before .before .before .before .args .settings) (c .before .before .before .before .before .before .before .pre .limit)))
 
--- src/scan.rt:158:16
 add-here : tie.Need-add-here
 add-here c = omega (arith, stop-at (c .before .before .before .before .before .before) .most)
 
--- src/scan.rt:160:9
 pending-requires : tie.Need-pending-requires
 pending-requires c κs = search needs
 
--- src/scan.rt:160:9
 same-length : tie.Need-same-length
 same-length c = search needs
 
--- src/scan.rt:160:9
 returns : tie.Need-returns
 returns c =
     let a = c .before .before .before .before .before .before .before .before .before .before .before .before .args in
     reads _ _ _ _ _ _ _ (c .pending .ensures)
     (sym (stored-at (c .before .before .before .before) ∙ from-end (a .settings) (a .part .now) (c .before .before .before .before .store .last .1 .1 .1 .0) (c .before .before .before .before .store .result) (a .start) (a .position) _ (a .at + c .before .before .before .before .before .before .before .before .find-stop .result) (omega arith))) refl
 
--- src/scan.rt:162:13
 shared-slice-read-x : tie.Need-shared-slice-read-x
 shared-slice-read-x c = omega (arith, stop-at (c .before .before .before .before .before .before .before .before) .most)
 
--- src/scan.rt:164:56
 add-found-inside : tie.Need-add-found-inside
 add-found-inside c = omega (arith, stop-at (c .before .before .before .before .before .before .before .before .before .before) .most)
 
--- src/scan.rt:164:66
 add-found-inside-2 : tie.Need-add-found-inside-2
 add-found-inside-2 c = omega (arith, stop-at (c .before .before .before .before .before .before .before .before .before .before) .most)
 
--- src/scan.rt:164:9
 found-inside-requires : tie.Need-found-inside-requires
 found-inside-requires c κs = search needs
 
--- src/scan.rt:164:9
 same-length-2 : tie.Need-same-length-2
 same-length-2 c = search needs
 
--- src/scan.rt:164:9
 returns-2 : tie.Need-returns-2
 returns-2 c =
     let a = c .before .before .before .before .before .before .before .before .before .before .before .before .before .before .before .args in
@@ -123,21 +96,17 @@ returns-2 c =
     reads _ _ _ _ _ _ _ (c .found-inside .ensures)
     (sym (stored-at (c .before .before .before .before .before .before .before) ∙ from-cut (a .settings) (a .part .now) (c .before .before .before .before .before .before .before .store .last .1 .1 .1 .0) (c .before .before .before .before .before .before .before .store .result) (a .start) (a .position) (a .at + c .before .before .before .before .before .before .before .before .before .before .before .find-stop .result) h (c .before .if2 .taken))) (add-assoc _ _ _)
 
--- src/scan.rt:166:55
 add-read-ended : tie.Need-add-read-ended
 add-read-ended c = omega (arith, stop-at (c .before .before .before .before .before .before .before .before .before .before) .most)
 
--- src/scan.rt:166:5
 read-ended-requires : tie.Need-read-ended-requires
 read-ended-requires c κs =
     let k : length (c .before .before .before .before .before .before .before .store .last .1 .1 .1 .0) ≡ length (c .before .before .before .before .before .before .before .before .before .before .before .before .before .before .before .args .buffer .now) = c .before .before .before .before .before .before .before .store .kept .1 .1 .1 .0 in
     record { limit = c .before .before .before .before .before .before .before .before .before .before .before .before .before .before .before .pre .limit; room = omega (arith, c .before .before .before .before .before .before .before .before .before .before .before .before .before .before .before .pre .room); offsets = c .before .before .before .before .before .before .before .before .before .before .before .before .before .before .before .pre .offsets; within = omega (arith, stop-at (c .before .before .before .before .before .before .before .before .before .before .before) .most) }
 
--- src/scan.rt:144:1
 same-length-3 : tie.Need-same-length-3
 same-length-3 c = search needs
 
--- src/scan.rt:144:1
 returns-3 : tie.Need-returns-3
 returns-3 c =
     let a = c .before .before .before .before .before .before .before .before .before .before .before .before .before .before .before .before .before .before .args in

@@ -1,22 +1,17 @@
-use Rattle.stream.specs.Scan.{verdictOf}
-use Rattle.block.specs.Settings.{capacityOf}
-use lib.Seq.{length-take-le}
+-- `stream::scan::verdict_on` meets its contract.
+use mathlib.Core.Path.{sym}
 use native.Mathlib.Omega.{arith}
+use lib.Seq.{length-take-le}
 use borrow.Author.Tests.{lt-ltb, le-ltb, eq-eqb, ne-eqb}
-use mathlib.Core.Path.{sym, _∙_}
 use borrow.Author.Needs.{needs}
+use Rattle.block.specs.Settings.{capacityOf}
+use Rattle.stream.specs.Scan.{verdictOf}
 use Rattle.stream.proofs.scan.verdict_on.Statement.{statement}
 use Rattle.stream.proofs.scan.verdict_on.Tie as tie
-use Rattle.stream.proofs.scan.verdict_on.Reads as reads
-use Rattle.stream.proofs.scan.verdict_on.Lts as lts
-use Rattle.block.proofs.judge_block.Reads as judge-block-reads
-use Rattle.stream.proofs.scan.capacity.Reads as capacity-reads
 
--- src/scan.rt:55:8
 capacity-requires : tie.Need-capacity-requires
 capacity-requires c κs = search needs
 
--- src/scan.rt:56:9
 returns : tie.Need-returns
 unfolding verdictOf
 returns c =
@@ -24,7 +19,6 @@ returns c =
     let e = c .before .capacity .ensures in
     rw (lt-ltb (capacityOf (a .settings)) (a .held) (omega arith))
 
--- src/scan.rt:59:9
 returns-2 : tie.Need-returns-2
 unfolding verdictOf
 returns-2 c =
@@ -32,17 +26,14 @@ returns-2 c =
     let e = c .before .before .capacity .ensures in
     rw (le-ltb (capacityOf (a .settings)) (a .held) (omega arith), ne-eqb _ _ (c .if2 .taken))
 
--- src/scan.rt:61:34
 slice-aggregate-judge-block : tie.Need-slice-aggregate-judge-block
 slice-aggregate-judge-block c =
     let e = c .before .before .before .capacity .ensures in
     sym (length-take-le _ _ (omega arith))
 
--- src/scan.rt:61:5
 judge-block-requires : tie.Need-judge-block-requires
 judge-block-requires c κs = search needs
 
--- src/scan.rt:50:1
 returns-3 : tie.Need-returns-3
 unfolding verdictOf
 returns-3 c =
