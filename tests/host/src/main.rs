@@ -13,11 +13,22 @@ use std::time::Instant;
 
 const SEED: u64 = 20_261_115;
 
+/// How many inputs a whole run compares at least.
+const LEAST_INPUTS: u64 = 1_000_000;
+
 /// A seed of its own for each group, so that one group can be run alone.
 fn group_seed(seed: u64, name: &str) -> u64 {
     name.bytes().fold(seed, |mixed, byte| {
         (mixed.rotate_left(9) ^ u64::from(byte)).wrapping_mul(0x0000_0100_0000_01B3)
     })
+}
+
+/// A run that compared fewer inputs than promised has failed, whatever they gave.
+fn too_few(inputs: u64) -> bool {
+    if inputs < LEAST_INPUTS {
+        println!("FAIL inputs: {inputs}, and {LEAST_INPUTS} are promised");
+    }
+    inputs < LEAST_INPUTS
 }
 
 fn main() -> ExitCode {
@@ -52,6 +63,7 @@ fn main() -> ExitCode {
         }
         inputs += compare.inputs;
     }
+    failed += u64::from(only.is_none() && too_few(inputs));
     let seconds = begun.elapsed().as_secs_f64();
     println!("{inputs} inputs in {seconds:.1} s, seed {seed}");
     println!("host: {passed} passed, {failed} failed");
