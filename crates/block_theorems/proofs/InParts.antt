@@ -30,10 +30,11 @@ pub reads-back-in-parts : (g : Settings) (t : ℕ) (d : List ℕ) (k : ℕ) (r :
 reads-back-in-parts g t d k r b parts w h e l =
     let p : Serves g k between b (blockOf g t d) (session g r b parts) = rw e at (session-from g (w .settings) parts k between r b (rw e l) h) in
     let z = reads-back g t d w in
-    record
-      { says = p .says ∙ ap (λ (x : List ℕ). run g k between x) (sym (append-nil (blockOf g t d))) ∙ z .verdict k []
-          ∙ ap (λ (x : List Said). accepted k (typeRead g t) d ∷ x) (run-none g (k + length (blockOf g t d)) between)
-      ; stands = rw (z .rest k) at (p .stands) }
+    record {
+      says = p .says ∙ ap (λ (x : List ℕ). run g k between x) (sym (append-nil (blockOf g t d))) ∙ z .verdict k []
+          ∙ ap (λ (x : List Said). accepted k (typeRead g t) d ∷ x) (run-none g (k + length (blockOf g t d)) between);
+      stands = rw (z .rest k) at (p .stands);
+    }
 
 -- and none before the last byte
 pub silent-in-parts : (g : Settings) (t : ℕ) (d : List ℕ) (k : ℕ) (r : Reader) (b : List ℕ) (parts : List (List ℕ))
