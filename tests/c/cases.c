@@ -27,7 +27,7 @@ static const block_case cases[] = {
     {"P5 P1 with sum 256", BLOCK("\x0B" "D23\r" "00005" "256" "\x1C\r"), GMV_CHECK, 0, 0},
     {"P6 P1 with count 6", BLOCK("\x0B" "D23\r" "00006" "067" "\x1C\r"), GMV_COUNT, 0, 0},
     {"P7 P1 with count 6, sum 068", BLOCK("\x0B" "D23\r" "00006" "068" "\x1C\r"), GMV_COUNT, 0, 0},
-    {"P8 SB D SB", BLOCK("\x0B" "D" "\x0B"), GMV_CUT, 0, 0},
+    {"P8 SB D SB", BLOCK("\x0B" "D" "\x0B"), GMV_INTERRUPTED, 0, 0},
 };
 enum { CASES = sizeof cases / sizeof cases[0] };
 
@@ -39,23 +39,23 @@ static const uint8_t *bytes_of(const block_case *c)
 }
 
 /* The verdict is the case's; data_offset is where an accepted block's data begins. */
-static void check_verdict(const block_case *c, const lent *verdict, uint64_t data_offset)
+static void check_verdict(const block_case *c, const guarded *verdict, uint64_t data_offset)
 {
     if (c->number == GMV_OK)
         CHECK(says_accepted(verdict, c->type, data_offset, c->data_length));
     else
         CHECK(says_refused(verdict, c->number, 0));
-    CHECK(words_of(verdict)[GMV_OFFSET] == 0);
+    CHECK(words_of(verdict)[GMV_VERDICT_OFFSET] == 0);
 }
 
 static void checked_whole(const block_case *c)
 {
-    lent block = lend_copy(c->bytes, c->length);
-    lent verdict = lend(GMV_VERDICT_WORDS * sizeof(uint64_t), 0xEE);
+    guarded block = lend_copy(c->bytes, c->length);
+    guarded verdict = lend(GMV_VERDICT_WORDS * sizeof(uint64_t), 0xEE);
 
     CHECK(check_block(link_of_cases, block.at, block.size, &verdict) == c->number);
     check_verdict(c, &verdict, 5);
-    CHECK(words_of(&verdict)[GMV_USED] == c->length);
+    CHECK(words_of(&verdict)[GMV_VERDICT_USED] == c->length);
     CHECK(unchanged(&block));
     CHECK(same_from(&verdict, verdict.size));
     give_back(&block);
@@ -65,12 +65,12 @@ static void checked_whole(const block_case *c)
 /* In parts of `size` bytes there is one verdict, with the last byte, and the buffer has the body. */
 static void read_in_parts(const block_case *c, size_t size)
 {
-    lent buffer, verdict;
+    guarded buffer, verdict;
     listing list = read_stream(link_of_cases, bytes_of(c), c->length, size, &buffer);
-    size_t body = c->number == GMV_CUT ? c->length - 2 : c->length - 3;
+    size_t body = c->number == GMV_INTERRUPTED ? c->length - 2 : c->length - 3;
 
     CHECK(list.count == 1);
-    CHECK(list.words[0][GMV_USED] == c->length);
+    CHECK(list.words[0][GMV_VERDICT_USED] == c->length);
     verdict = lend_copy(list.words[0], sizeof list.words[0]);
     check_verdict(c, &verdict, 4);
     CHECK(memcmp(buffer.at, c->bytes + 1, body) == 0);
@@ -81,13 +81,13 @@ static void read_in_parts(const block_case *c, size_t size)
 
 static void written(const block_case *c)
 {
-    lent content = lend_copy(c->bytes + 5, c->data_length);
-    lent buffer = lend(c->length, 0x55);
-    lent report = lend(GMV_REPORT_WORDS * sizeof(uint64_t), 0xEE);
+    guarded content = lend_copy(c->bytes + 5, c->data_length);
+    guarded buffer = lend(c->length, 0x55);
+    guarded report = lend(GMV_REPORT_WORDS * sizeof(uint64_t), 0xEE);
 
     CHECK(write_block(link_of_cases, c->type, &content, &buffer, 0, &report) == GMV_OK);
-    CHECK(words_of(&report)[GMV_BLOCK_LENGTH] == c->length);
-    CHECK(words_of(&report)[GMV_REFUSED_PLACE] == 0);
+    CHECK(words_of(&report)[GMV_REPORT_BLOCK_LENGTH] == c->length);
+    CHECK(words_of(&report)[GMV_REPORT_FORBIDDEN_OFFSET] == 0);
     CHECK(memcmp(buffer.at, c->bytes, c->length) == 0);
     give_back(&content);
     give_back(&buffer);
@@ -119,13 +119,13 @@ static void p1_then_p3(void)
     memcpy(bytes, cases[0].bytes, cases[0].length);
     memcpy(bytes + cases[0].length, cases[2].bytes, cases[2].length);
     for (size_t size = 1; size <= length; size++) {
-        lent buffer;
+        guarded buffer;
         listing list = read_stream(link_of_cases, bytes, length, size, &buffer);
 
         CHECK(list.count == 2);
-        CHECK(list.words[0][GMV_OFFSET] == 0 && list.words[1][GMV_OFFSET] == 15);
-        CHECK(list.words[0][GMV_NUMBER] == 0 && list.words[1][GMV_NUMBER] == 0);
-        CHECK(list.words[0][GMV_DATA_LENGTH] == 0 && list.words[1][GMV_DATA_LENGTH] == 1);
+        CHECK(list.words[0][GMV_VERDICT_OFFSET] == 0 && list.words[1][GMV_VERDICT_OFFSET] == 15);
+        CHECK(list.words[0][GMV_VERDICT_NUMBER] == 0 && list.words[1][GMV_VERDICT_NUMBER] == 0);
+        CHECK(list.words[0][GMV_VERDICT_DATA_LENGTH] == 0 && list.words[1][GMV_VERDICT_DATA_LENGTH] == 1);
         give_back(&buffer);
     }
 }

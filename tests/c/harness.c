@@ -52,7 +52,7 @@ static void broken(const char *what)
     exit(2);
 }
 
-/* ---- lent memory */
+/* ---- guarded memory */
 
 enum { GUARD = 64, ROOM = 1 << 17, PAGE_AREAS = 8 };
 
@@ -86,7 +86,7 @@ static uint8_t *page_memory(size_t size)
             area_lent[i] = 1;
             return area_end[i] - size;
         }
-    broken("more memory lent at once than there are areas");
+    broken("more memory guarded at once than there are areas");
     return NULL;
 }
 
@@ -99,9 +99,9 @@ static uint8_t *malloc_memory(size_t size)
     return start + GUARD;
 }
 
-lent lend(size_t size, uint8_t paint)
+guarded lend(size_t size, uint8_t paint)
 {
-    lent memory = {NULL, size, malloc(size + 1), memory_kind == FENCED_PAGES};
+    guarded memory = {NULL, size, malloc(size + 1), memory_kind == FENCED_PAGES};
 
     if (!memory.kept || size + GUARD > ROOM)
         broken("no memory of that size");
@@ -112,9 +112,9 @@ lent lend(size_t size, uint8_t paint)
     return memory;
 }
 
-lent lend_copy(const void *bytes, size_t size)
+guarded lend_copy(const void *bytes, size_t size)
 {
-    lent memory = lend(size, 0);
+    guarded memory = lend(size, 0);
 
     if (size > 0)
         memcpy(memory.at, bytes, size);
@@ -122,7 +122,7 @@ lent lend_copy(const void *bytes, size_t size)
     return memory;
 }
 
-void give_back(lent *memory)
+void give_back(guarded *memory)
 {
     free(memory->kept);
     if (memory->pages) {
@@ -135,23 +135,23 @@ void give_back(lent *memory)
     memory->at = NULL;
 }
 
-uint64_t *words_of(const lent *memory)
+uint64_t *words_of(const guarded *memory)
 {
     return (uint64_t *)(void *)memory->at;
 }
 
-size_t word_count(const lent *memory)
+size_t word_count(const guarded *memory)
 {
     return memory->size / sizeof(uint64_t);
 }
 
-void keep(lent *memory)
+void keep(guarded *memory)
 {
     if (memory->size > 0)
         memcpy(memory->kept, memory->at, memory->size);
 }
 
-int same_from(const lent *memory, size_t from)
+int same_from(const guarded *memory, size_t from)
 {
     for (size_t i = 1; i <= GUARD; i++)
         if (memory->at[-(ptrdiff_t)i] != guard_paint)
@@ -160,7 +160,7 @@ int same_from(const lent *memory, size_t from)
            memcmp(memory->at + from, memory->kept + from, memory->size - from) == 0;
 }
 
-int unchanged(const lent *memory)
+int unchanged(const guarded *memory)
 {
     return same_from(memory, 0);
 }
@@ -189,8 +189,8 @@ size_t overhead_of(settings link)
     return link.minimal ? 3 : 15;
 }
 
-uint64_t read_part(settings link, lent *state, const uint8_t *part, size_t part_length,
-                   lent *buffer, lent *verdict)
+uint64_t read_part(settings link, guarded *state, const uint8_t *part, size_t part_length,
+                   guarded *buffer, guarded *verdict)
 {
     if (link.minimal)
         return gmv_minimal_read(link.data_limit, words_of(state), word_count(state), part,
@@ -201,7 +201,7 @@ uint64_t read_part(settings link, lent *state, const uint8_t *part, size_t part_
                            words_of(verdict), word_count(verdict));
 }
 
-uint64_t check_block(settings link, const uint8_t *block, size_t length, lent *verdict)
+uint64_t check_block(settings link, const uint8_t *block, size_t length, guarded *verdict)
 {
     if (link.minimal)
         return gmv_minimal_check(link.data_limit, block, length, words_of(verdict),
@@ -210,8 +210,8 @@ uint64_t check_block(settings link, const uint8_t *block, size_t length, lent *v
                             words_of(verdict), word_count(verdict));
 }
 
-uint64_t write_block(settings link, uint64_t type, const lent *content, lent *buffer, size_t place,
-                     lent *report)
+uint64_t write_block(settings link, uint64_t type, const guarded *content, guarded *buffer, size_t place,
+                     guarded *report)
 {
     if (link.minimal)
         return gmv_minimal_write(link.data_limit, content->at, content->size, buffer->at,
@@ -221,33 +221,33 @@ uint64_t write_block(settings link, uint64_t type, const lent *content, lent *bu
                             word_count(report));
 }
 
-int says_accepted(const lent *verdict, uint64_t type, uint64_t data_offset, uint64_t data_length)
+int says_accepted(const guarded *verdict, uint64_t type, uint64_t data_offset, uint64_t data_length)
 {
     const uint64_t *words = words_of(verdict);
 
-    return words[GMV_FOUND] == 1 && words[GMV_NUMBER] == GMV_OK && words[GMV_PLACE] == 0 &&
-           words[GMV_TYPE] == type && words[GMV_DATA_OFFSET] == data_offset &&
-           words[GMV_DATA_LENGTH] == data_length;
+    return words[GMV_VERDICT_FOUND] == 1 && words[GMV_VERDICT_NUMBER] == GMV_OK && words[GMV_VERDICT_FORBIDDEN_OFFSET] == 0 &&
+           words[GMV_VERDICT_TYPE] == type && words[GMV_VERDICT_DATA_OFFSET] == data_offset &&
+           words[GMV_VERDICT_DATA_LENGTH] == data_length;
 }
 
-int says_refused(const lent *verdict, uint64_t number, uint64_t place)
+int says_refused(const guarded *verdict, uint64_t number, uint64_t place)
 {
     const uint64_t *words = words_of(verdict);
 
-    return words[GMV_FOUND] == 1 && words[GMV_NUMBER] == number && words[GMV_PLACE] == place &&
-           words[GMV_TYPE] == 0 && words[GMV_DATA_OFFSET] == 0 && words[GMV_DATA_LENGTH] == 0;
+    return words[GMV_VERDICT_FOUND] == 1 && words[GMV_VERDICT_NUMBER] == number && words[GMV_VERDICT_FORBIDDEN_OFFSET] == place &&
+           words[GMV_VERDICT_TYPE] == 0 && words[GMV_VERDICT_DATA_OFFSET] == 0 && words[GMV_VERDICT_DATA_LENGTH] == 0;
 }
 
 /* ---- streams */
 
 /* Reads one part to its end, call by call, and lists the verdicts. */
-static void read_whole_part(settings link, lent *state, const uint8_t *bytes, size_t start,
-                            size_t end, lent *buffer, lent *verdict, listing *list)
+static void read_whole_part(settings link, guarded *state, const uint8_t *bytes, size_t start,
+                            size_t end, guarded *buffer, guarded *verdict, listing *list)
 {
     size_t at = start;
 
     do {
-        lent part = lend_copy(bytes + at, end - at);
+        guarded part = lend_copy(bytes + at, end - at);
         uint64_t answer = read_part(link, state, part.at, part.size, buffer, verdict);
         const uint64_t *words = words_of(verdict);
 
@@ -256,23 +256,23 @@ static void read_whole_part(settings link, lent *state, const uint8_t *bytes, si
         give_back(&part);
         if (answer != GMV_OK)
             return;
-        CHECK(words[GMV_USED] <= end - at);
-        CHECK(words[GMV_FOUND] == 1 || words[GMV_USED] == end - at);
-        at += words[GMV_USED];
-        CHECK(words_of(state)[GMV_POSITION] == at);
-        CHECK(words_of(state)[GMV_BODY_LENGTH] <= need_of(link) + 1);
-        if (words[GMV_FOUND] == 1 && list->count < LISTED) {
+        CHECK(words[GMV_VERDICT_USED] <= end - at);
+        CHECK(words[GMV_VERDICT_FOUND] == 1 || words[GMV_VERDICT_USED] == end - at);
+        at += words[GMV_VERDICT_USED];
+        CHECK(words_of(state)[GMV_READER_POSITION] == at);
+        CHECK(words_of(state)[GMV_READER_BODY_LENGTH] <= need_of(link) + 1);
+        if (words[GMV_VERDICT_FOUND] == 1 && list->count < LISTED) {
             memcpy(list->words[list->count], words, sizeof list->words[0]);
-            list->words[list->count++][GMV_USED] = at;
+            list->words[list->count++][GMV_VERDICT_USED] = at;
         }
     } while (at < end);
 }
 
-listing read_stream(settings link, const uint8_t *bytes, size_t length, size_t size, lent *buffer)
+listing read_stream(settings link, const uint8_t *bytes, size_t length, size_t size, guarded *buffer)
 {
     listing list = {0, {{0}}};
-    lent state = lend(GMV_READER_WORDS * sizeof(uint64_t), 0xEE);
-    lent verdict = lend(GMV_VERDICT_WORDS * sizeof(uint64_t), 0xEE);
+    guarded state = lend(GMV_READER_WORDS * sizeof(uint64_t), 0xEE);
+    guarded verdict = lend(GMV_VERDICT_WORDS * sizeof(uint64_t), 0xEE);
     size_t at = 0;
 
     *buffer = lend(need_of(link), 0x55);

@@ -1,4 +1,4 @@
-/* What the C tests share: named tests, memory lent with guards, a driver's line, random numbers. */
+/* What the C tests share: named tests, memory guarded with guards, a driver's line, random numbers. */
 #ifndef HARNESS_H
 #define HARNESS_H
 
@@ -20,21 +20,21 @@ typedef struct {
     size_t size;
     uint8_t *kept;
     int pages;
-} lent;
+} guarded;
 
 enum memory_kind { FENCED_PAGES, EXACT_MALLOC };
 void use_memory(enum memory_kind kind);
 
-lent lend(size_t size, uint8_t paint);
-lent lend_copy(const void *bytes, size_t size);
-void give_back(lent *memory);
-uint64_t *words_of(const lent *memory);
-size_t word_count(const lent *memory);
+guarded lend(size_t size, uint8_t paint);
+guarded lend_copy(const void *bytes, size_t size);
+void give_back(guarded *memory);
+uint64_t *words_of(const guarded *memory);
+size_t word_count(const guarded *memory);
 
-void keep(lent *memory);
+void keep(guarded *memory);
 /* The content from `from` on is as kept, and the guard before the memory is whole. */
-int same_from(const lent *memory, size_t from);
-int unchanged(const lent *memory);
+int same_from(const guarded *memory, size_t from);
+int unchanged(const guarded *memory);
 
 /* The settings of a link. Minimal links use the limit alone. */
 typedef struct {
@@ -48,26 +48,26 @@ size_t need_of(settings link);     /* the bytes that the reader's buffer must ha
 size_t overhead_of(settings link); /* a block's bytes besides its data: 15 or 3 */
 
 /* The six functions, by the kind of the link. */
-uint64_t read_part(settings link, lent *state, const uint8_t *part, size_t part_length,
-                   lent *buffer, lent *verdict);
-uint64_t check_block(settings link, const uint8_t *block, size_t length, lent *verdict);
-uint64_t write_block(settings link, uint64_t type, const lent *content, lent *buffer, size_t place,
-                     lent *report);
+uint64_t read_part(settings link, guarded *state, const uint8_t *part, size_t part_length,
+                   guarded *buffer, guarded *verdict);
+uint64_t check_block(settings link, const uint8_t *block, size_t length, guarded *verdict);
+uint64_t write_block(settings link, uint64_t type, const guarded *content, guarded *buffer, size_t place,
+                     guarded *report);
 
 /* The verdict says: a block accepted, of this type, with its data there; or refused so. */
-int says_accepted(const lent *verdict, uint64_t type, uint64_t data_offset, uint64_t data_length);
-int says_refused(const lent *verdict, uint64_t number, uint64_t place);
+int says_accepted(const guarded *verdict, uint64_t type, uint64_t data_offset, uint64_t data_length);
+int says_refused(const guarded *verdict, uint64_t number, uint64_t place);
 
 /* A list of verdicts, as a driver gets them from a stream that comes in parts. */
 enum { LISTED = 64 };
 typedef struct {
     size_t count;
-    uint64_t words[LISTED][GMV_VERDICT_WORDS]; /* GMV_USED: bytes of the stream read by then */
+    uint64_t words[LISTED][GMV_VERDICT_WORDS]; /* GMV_VERDICT_USED: bytes of the stream read by then */
 } listing;
 
 /* Reads the bytes in parts of `size` bytes each, or of random sizes from 0 to 7 where size is 0. The
  * buffer is painted with 55 first and left for the caller to look at and give back. */
-listing read_stream(settings link, const uint8_t *bytes, size_t length, size_t size, lent *buffer);
+listing read_stream(settings link, const uint8_t *bytes, size_t length, size_t size, guarded *buffer);
 int same_listing(const listing *a, const listing *b);
 
 /* Random numbers that are the same in each run. */

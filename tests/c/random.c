@@ -39,16 +39,16 @@ static uint8_t random_line_byte(settings link)
 /* A good block of random data at bytes[at], if it fits. Returns its length or 0. */
 static size_t random_block(settings link, uint8_t *bytes, size_t at, size_t room)
 {
-    lent content = lend(random_below(link.data_limit + 1), 0);
-    lent block = lend_copy(bytes + at, room - at);
+    guarded content = lend(random_below(link.data_limit + 1), 0);
+    guarded block = lend_copy(bytes + at, room - at);
     uint64_t report[GMV_REPORT_WORDS] = {0, 0};
-    lent words = lend_copy(report, sizeof report);
+    guarded words = lend_copy(report, sizeof report);
     size_t length;
 
     for (size_t i = 0; i < content.size; i++)
         content.at[i] = random_data_byte();
     write_block(link, 'D', &content, &block, 0, &words);
-    length = words_of(&words)[GMV_BLOCK_LENGTH];
+    length = words_of(&words)[GMV_REPORT_BLOCK_LENGTH];
     memcpy(bytes + at, block.at, length);
     give_back(&content);
     give_back(&block);
@@ -79,7 +79,7 @@ static void parts_do_not_matter(void)
         settings link = random_link();
         uint8_t bytes[LISTED];
         size_t length = random_stream(link, bytes, sizeof bytes);
-        lent whole_buffer, byte_buffer, random_buffer;
+        guarded whole_buffer, byte_buffer, random_buffer;
         listing whole = read_stream(link, bytes, length, LISTED, &whole_buffer);
         listing by_byte = read_stream(link, bytes, length, 1, &byte_buffer);
         listing by_chance = read_stream(link, bytes, length, 0, &random_buffer);
@@ -98,10 +98,10 @@ static void parts_do_not_matter(void)
 static uint64_t check_after_stream(settings link, const uint8_t *bytes, size_t length,
                                    const listing *list)
 {
-    int one_at_the_end = list->count == 1 && list->words[0][GMV_USED] == length;
+    int one_at_the_end = list->count == 1 && list->words[0][GMV_VERDICT_USED] == length;
 
     if (length > 0 && bytes[0] == link.start_block && one_at_the_end)
-        return list->words[0][GMV_NUMBER];
+        return list->words[0][GMV_VERDICT_NUMBER];
     return GMV_SHAPE;
 }
 
@@ -111,7 +111,7 @@ static void check_answers_as_the_stream(void)
         settings link = random_link();
         uint8_t bytes[LISTED];
         size_t length = random_stream(link, bytes, sizeof bytes);
-        lent buffer, block, verdict;
+        guarded buffer, block, verdict;
         listing list;
 
         if (length > 0 && random_below(8) > 0)
@@ -147,40 +147,40 @@ static uint64_t random_word(settings link)
 /* The answer that is due before a byte is read. */
 static uint64_t early_answer(const uint64_t *state, size_t part_length)
 {
-    if (state[GMV_PHASE] > 2 || part_length > UINT64_MAX - state[GMV_POSITION])
+    if (state[GMV_READER_PHASE] > 2 || part_length > UINT64_MAX - state[GMV_READER_POSITION])
         return GMV_STATE;
     return GMV_OK;
 }
 
 static void check_found_verdict(const uint64_t *words, settings link)
 {
-    uint64_t number = words[GMV_NUMBER];
+    uint64_t number = words[GMV_VERDICT_NUMBER];
 
-    CHECK(number == GMV_OK || (number >= GMV_BYTE && number <= GMV_CUT));
+    CHECK(number == GMV_OK || (number >= GMV_BYTE && number <= GMV_INTERRUPTED));
     CHECK(!link.minimal || (number != GMV_COUNT && number != GMV_CHECK));
-    CHECK(number == GMV_BYTE || words[GMV_PLACE] == 0);
-    CHECK(words[GMV_PLACE] < link.data_limit);
-    CHECK(words[GMV_USED] >= 1);
+    CHECK(number == GMV_BYTE || words[GMV_VERDICT_FORBIDDEN_OFFSET] == 0);
+    CHECK(words[GMV_VERDICT_FORBIDDEN_OFFSET] < link.data_limit);
+    CHECK(words[GMV_VERDICT_USED] >= 1);
     if (number == GMV_OK) {
-        CHECK(words[GMV_TYPE] == 'D' || (words[GMV_TYPE] == 'N' && !link.minimal));
-        CHECK(words[GMV_DATA_OFFSET] == (link.minimal ? 0 : 4));
-        CHECK(words[GMV_DATA_LENGTH] <= link.data_limit);
+        CHECK(words[GMV_VERDICT_TYPE] == 'D' || (words[GMV_VERDICT_TYPE] == 'N' && !link.minimal));
+        CHECK(words[GMV_VERDICT_DATA_OFFSET] == (link.minimal ? 0 : 4));
+        CHECK(words[GMV_VERDICT_DATA_LENGTH] <= link.data_limit);
     } else {
-        CHECK(words[GMV_TYPE] == 0 && words[GMV_DATA_OFFSET] == 0 && words[GMV_DATA_LENGTH] == 0);
+        CHECK(words[GMV_VERDICT_TYPE] == 0 && words[GMV_VERDICT_DATA_OFFSET] == 0 && words[GMV_VERDICT_DATA_LENGTH] == 0);
     }
 }
 
 static void check_no_verdict(const uint64_t *words, size_t part_length)
 {
-    for (int i = 0; i < GMV_USED; i++)
+    for (int i = 0; i < GMV_VERDICT_USED; i++)
         CHECK(words[i] == 0);
-    CHECK(words[GMV_USED] == part_length);
+    CHECK(words[GMV_VERDICT_USED] == part_length);
 }
 
 static void check_state_after(const uint64_t *before, const uint64_t *after, uint64_t used)
 {
-    CHECK(after[GMV_PHASE] <= 2);
-    CHECK(after[GMV_POSITION] == before[GMV_POSITION] + used);
+    CHECK(after[GMV_READER_PHASE] <= 2);
+    CHECK(after[GMV_READER_POSITION] == before[GMV_READER_POSITION] + used);
 }
 
 static void any_state(void)
@@ -190,13 +190,13 @@ static void any_state(void)
     uint8_t bytes[LONGEST];
     size_t length = random_below(LONGEST);
     size_t over = random_below(4);
-    lent state, part, buffer, verdict;
+    guarded state, part, buffer, verdict;
     uint64_t answer;
 
     for (int i = 0; i < GMV_READER_WORDS; i++)
         before[i] = random_word(link);
     if (random_below(8) > 0)
-        before[GMV_PHASE] = random_below(3);
+        before[GMV_READER_PHASE] = random_below(3);
     for (size_t i = 0; i < length; i++)
         bytes[i] = random_line_byte(link);
     state = lend_copy(before, sizeof before);
@@ -214,13 +214,13 @@ static void any_state(void)
     } else {
         const uint64_t *words = words_of(&verdict);
 
-        CHECK(words[GMV_FOUND] <= 1);
-        CHECK(words[GMV_USED] <= length);
-        if (words[GMV_FOUND])
+        CHECK(words[GMV_VERDICT_FOUND] <= 1);
+        CHECK(words[GMV_VERDICT_USED] <= length);
+        if (words[GMV_VERDICT_FOUND])
             check_found_verdict(words, link);
         else
             check_no_verdict(words, length);
-        check_state_after(before, words_of(&state), words[GMV_USED]);
+        check_state_after(before, words_of(&state), words[GMV_VERDICT_USED]);
     }
     give_back(&state);
     give_back(&part);

@@ -13,7 +13,7 @@ enum { GOOD_LENGTH = sizeof good_block - 1, GOOD_MINIMAL_LENGTH = sizeof good_mi
 /* A reader's call: its memory, all of it as it should be until a test changes a part of it. */
 typedef struct {
     settings link;
-    lent state, part, buffer, verdict;
+    guarded state, part, buffer, verdict;
 } reading;
 
 static reading new_reading(settings link)
@@ -37,7 +37,7 @@ static void end_reading(reading *r)
     give_back(&r->verdict);
 }
 
-static void resize(lent *memory, size_t size, uint8_t paint)
+static void resize(guarded *memory, size_t size, uint8_t paint)
 {
     give_back(memory);
     *memory = lend(size, paint);
@@ -63,8 +63,8 @@ static void reader_accepts_the_good_block(reading *r)
 {
     CHECK(call_reader(r) == GMV_OK);
     CHECK(says_accepted(&r->verdict, 'D', r->link.minimal ? 0 : 4, 2));
-    CHECK(words_of(&r->verdict)[GMV_USED] == r->part.size);
-    CHECK(words_of(&r->state)[GMV_PHASE] == 0);
+    CHECK(words_of(&r->verdict)[GMV_VERDICT_USED] == r->part.size);
+    CHECK(words_of(&r->state)[GMV_READER_PHASE] == 0);
     CHECK(same_from(&r->state, r->state.size));
     CHECK(same_from(&r->verdict, GMV_VERDICT_WORDS * WORD));
 }
@@ -74,25 +74,25 @@ static void reader_accepts_the_good_block(reading *r)
 static void fresh_needs_words(void)
 {
     for (size_t words = 0; words < GMV_READER_WORDS; words++) {
-        lent state = lend(words * WORD, 0xEE);
+        guarded state = lend(words * WORD, 0xEE);
 
-        CHECK(gmv_reader_fresh(words_of(&state), words) == GMV_ROOM);
+        CHECK(gmv_reader_fresh(words_of(&state), words) == GMV_TOO_SHORT);
         CHECK(unchanged(&state));
         give_back(&state);
     }
-    CHECK(gmv_reader_fresh(NULL, 0) == GMV_ROOM);
+    CHECK(gmv_reader_fresh(NULL, 0) == GMV_TOO_SHORT);
 }
 
 static void fresh_changes_four_words(void)
 {
     for (size_t words = GMV_READER_WORDS; words < 12; words++) {
-        lent state = lend(words * WORD, 0xEE);
+        guarded state = lend(words * WORD, 0xEE);
 
         CHECK(gmv_reader_fresh(words_of(&state), words) == GMV_OK);
-        CHECK(words_of(&state)[GMV_PHASE] == 0);
-        CHECK(words_of(&state)[GMV_BODY_LENGTH] == 0);
-        CHECK(words_of(&state)[GMV_BLOCK_OFFSET] == 0);
-        CHECK(words_of(&state)[GMV_POSITION] == 0);
+        CHECK(words_of(&state)[GMV_READER_PHASE] == 0);
+        CHECK(words_of(&state)[GMV_READER_BODY_LENGTH] == 0);
+        CHECK(words_of(&state)[GMV_READER_BLOCK_OFFSET] == 0);
+        CHECK(words_of(&state)[GMV_READER_POSITION] == 0);
         CHECK(same_from(&state, GMV_READER_WORDS * WORD));
         give_back(&state);
     }
@@ -104,7 +104,7 @@ static void reader_needs_state_words(settings link)
         reading r = new_reading(link);
 
         resize(&r.state, words * WORD, 0);
-        reader_refuses(&r, GMV_ROOM);
+        reader_refuses(&r, GMV_TOO_SHORT);
         end_reading(&r);
     }
 }
@@ -115,7 +115,7 @@ static void reader_needs_verdict_words(settings link)
         reading r = new_reading(link);
 
         resize(&r.verdict, words * WORD, 0xEE);
-        reader_refuses(&r, GMV_ROOM);
+        reader_refuses(&r, GMV_TOO_SHORT);
         end_reading(&r);
     }
 }
@@ -126,7 +126,7 @@ static void reader_needs_buffer(settings link)
         reading r = new_reading(link);
 
         resize(&r.buffer, size, 0x55);
-        reader_refuses(&r, GMV_ROOM);
+        reader_refuses(&r, GMV_TOO_SHORT);
         end_reading(&r);
     }
 }
@@ -138,7 +138,7 @@ static void reader_needs_buffer_for_nothing(settings link)
 
     resize(&r.part, 0, 0);
     resize(&r.buffer, need_of(link) - 1, 0x55);
-    reader_refuses(&r, GMV_ROOM);
+    reader_refuses(&r, GMV_TOO_SHORT);
     end_reading(&r);
 }
 
@@ -164,7 +164,7 @@ static void check_needs_verdict_words(settings link)
         reading r = new_reading(link);
 
         resize(&r.verdict, words * WORD, 0xEE);
-        CHECK(check_block(link, r.part.at, r.part.size, &r.verdict) == GMV_ROOM);
+        CHECK(check_block(link, r.part.at, r.part.size, &r.verdict) == GMV_TOO_SHORT);
         CHECK(unchanged(&r.verdict));
         end_reading(&r);
     }
@@ -176,7 +176,7 @@ static void reader_refuses_phase(settings link, uint64_t phase)
 {
     reading r = new_reading(link);
 
-    words_of(&r.state)[GMV_PHASE] = phase;
+    words_of(&r.state)[GMV_READER_PHASE] = phase;
     reader_refuses(&r, GMV_STATE);
     resize(&r.part, 0, 0);
     reader_refuses(&r, GMV_STATE);
@@ -189,13 +189,13 @@ static void reader_refuses_used_up_offsets(settings link)
         reading r = new_reading(link);
         size_t length = r.part.size;
 
-        words_of(&r.state)[GMV_POSITION] = UINT64_MAX - left;
+        words_of(&r.state)[GMV_READER_POSITION] = UINT64_MAX - left;
         if (left < length) {
             reader_refuses(&r, GMV_STATE);
         } else {
             reader_accepts_the_good_block(&r);
-            CHECK(words_of(&r.verdict)[GMV_OFFSET] == UINT64_MAX - left);
-            CHECK(words_of(&r.state)[GMV_POSITION] == UINT64_MAX - left + length);
+            CHECK(words_of(&r.verdict)[GMV_VERDICT_OFFSET] == UINT64_MAX - left);
+            CHECK(words_of(&r.state)[GMV_READER_POSITION] == UINT64_MAX - left + length);
         }
         end_reading(&r);
     }
@@ -216,9 +216,9 @@ static void reader_order(settings link)
 {
     reading r = new_reading(link);
 
-    words_of(&r.state)[GMV_PHASE] = 3;
+    words_of(&r.state)[GMV_READER_PHASE] = 3;
     resize(&r.buffer, need_of(link) - 1, 0x55);
-    reader_refuses(&r, GMV_ROOM);
+    reader_refuses(&r, GMV_TOO_SHORT);
     r.link.data_limit = 0;
     reader_refuses(&r, GMV_SETTING);
     end_reading(&r);
@@ -226,9 +226,9 @@ static void reader_order(settings link)
 
 static void check_order(settings link)
 {
-    lent verdict = lend(0, 0);
+    guarded verdict = lend(0, 0);
 
-    CHECK(check_block(link, NULL, 0, &verdict) == GMV_ROOM);
+    CHECK(check_block(link, NULL, 0, &verdict) == GMV_TOO_SHORT);
     link.data_limit = 99995;
     CHECK(check_block(link, NULL, 0, &verdict) == GMV_SETTING);
     give_back(&verdict);
@@ -253,18 +253,18 @@ static void null_pointers(void)
     uint64_t state[GMV_READER_WORDS] = {0}, verdict[GMV_VERDICT_WORDS], report[GMV_REPORT_WORDS];
     uint8_t buffer[15];
 
-    CHECK(gmv_hybrid_read(11, 28, 1, NULL, 0, NULL, 0, NULL, 0, NULL, 0) == GMV_ROOM);
-    CHECK(gmv_minimal_read(1, NULL, 0, NULL, 0, NULL, 0, NULL, 0) == GMV_ROOM);
+    CHECK(gmv_hybrid_read(11, 28, 1, NULL, 0, NULL, 0, NULL, 0, NULL, 0) == GMV_TOO_SHORT);
+    CHECK(gmv_minimal_read(1, NULL, 0, NULL, 0, NULL, 0, NULL, 0) == GMV_TOO_SHORT);
     CHECK(gmv_hybrid_read(11, 28, 1, state, GMV_READER_WORDS, NULL, 0, NULL, 0, verdict,
-                          GMV_VERDICT_WORDS) == GMV_ROOM);
-    CHECK(gmv_hybrid_check(11, 28, 1, NULL, 0, NULL, 0) == GMV_ROOM);
-    CHECK(gmv_minimal_check(1, NULL, 0, NULL, 0) == GMV_ROOM);
+                          GMV_VERDICT_WORDS) == GMV_TOO_SHORT);
+    CHECK(gmv_hybrid_check(11, 28, 1, NULL, 0, NULL, 0) == GMV_TOO_SHORT);
+    CHECK(gmv_minimal_check(1, NULL, 0, NULL, 0) == GMV_TOO_SHORT);
     CHECK(gmv_hybrid_check(11, 28, 1, NULL, 0, verdict, GMV_VERDICT_WORDS) == GMV_SHAPE);
     CHECK(gmv_minimal_check(1, NULL, 0, verdict, GMV_VERDICT_WORDS) == GMV_SHAPE);
-    CHECK(gmv_hybrid_write(11, 28, 1, 'D', NULL, 0, NULL, 0, 0, NULL, 0) == GMV_ROOM);
-    CHECK(gmv_minimal_write(1, NULL, 0, NULL, 0, 0, NULL, 0) == GMV_ROOM);
+    CHECK(gmv_hybrid_write(11, 28, 1, 'D', NULL, 0, NULL, 0, 0, NULL, 0) == GMV_TOO_SHORT);
+    CHECK(gmv_minimal_write(1, NULL, 0, NULL, 0, 0, NULL, 0) == GMV_TOO_SHORT);
     CHECK(gmv_hybrid_write(11, 28, 1, 'D', NULL, 0, NULL, 0, 0, report, GMV_REPORT_WORDS) ==
-          GMV_ROOM);
+          GMV_TOO_SHORT);
     CHECK(gmv_hybrid_write(11, 28, 1, 'D', NULL, 0, buffer, 15, 0, report, GMV_REPORT_WORDS) ==
           GMV_OK);
     CHECK(gmv_minimal_write(1, NULL, 0, buffer, 3, 0, report, GMV_REPORT_WORDS) == GMV_OK);
@@ -276,19 +276,19 @@ static void null_pointers(void)
 static void block_refused(settings link, const void *bytes, size_t length, uint64_t number,
                           uint64_t place)
 {
-    lent block = lend_copy(bytes, length);
-    lent verdict = lend(GMV_VERDICT_WORDS * WORD, 0xEE);
+    guarded block = lend_copy(bytes, length);
+    guarded verdict = lend(GMV_VERDICT_WORDS * WORD, 0xEE);
 
     CHECK(check_block(link, block.at, block.size, &verdict) == number);
     CHECK(says_refused(&verdict, number, place));
-    CHECK(words_of(&verdict)[GMV_OFFSET] == 0 && words_of(&verdict)[GMV_USED] == length);
+    CHECK(words_of(&verdict)[GMV_VERDICT_OFFSET] == 0 && words_of(&verdict)[GMV_VERDICT_USED] == length);
     give_back(&verdict);
     for (size_t size = 1; size <= length; size++) {
-        lent buffer;
+        guarded buffer;
         listing list = read_stream(link, block.at, length, size, &buffer);
 
-        CHECK(list.count == 1 && list.words[0][GMV_USED] == length);
-        CHECK(list.words[0][GMV_NUMBER] == number && list.words[0][GMV_PLACE] == place);
+        CHECK(list.count == 1 && list.words[0][GMV_VERDICT_USED] == length);
+        CHECK(list.words[0][GMV_VERDICT_NUMBER] == number && list.words[0][GMV_VERDICT_FORBIDDEN_OFFSET] == place);
         give_back(&buffer);
     }
     give_back(&block);
@@ -355,9 +355,9 @@ static void hybrid_check_digits(void)
 
 static void hybrid_cut(void)
 {
-    REFUSED(hybrid(9), "\x0B" "\x0B", GMV_CUT, 0);
-    REFUSED(hybrid(9), "\x0B" "D23\r" "00005" "067" "\x0B", GMV_CUT, 0);
-    REFUSED(hybrid(1), "\x0B" "far over the limit, and no EB" "\x0B", GMV_CUT, 0);
+    REFUSED(hybrid(9), "\x0B" "\x0B", GMV_INTERRUPTED, 0);
+    REFUSED(hybrid(9), "\x0B" "D23\r" "00005" "067" "\x0B", GMV_INTERRUPTED, 0);
+    REFUSED(hybrid(1), "\x0B" "far over the limit, and no EB" "\x0B", GMV_INTERRUPTED, 0);
 }
 
 static void minimal_refusals(void)
@@ -368,19 +368,19 @@ static void minimal_refusals(void)
     REFUSED(minimal(2), "\x0B" "ab\x01" "\x1C" "x", GMV_LONG, 0);
     REFUSED(minimal(9), "\x0B" "a\x01" "\x1C" "x", GMV_SHAPE, 0);
     REFUSED(minimal(9), "\x0B" "\x1C\x1C", GMV_SHAPE, 0);
-    REFUSED(minimal(9), "\x0B" "\x0B", GMV_CUT, 0);
-    REFUSED(minimal(2), "\x0B" "abcdef" "\x0B", GMV_CUT, 0);
+    REFUSED(minimal(9), "\x0B" "\x0B", GMV_INTERRUPTED, 0);
+    REFUSED(minimal(2), "\x0B" "abcdef" "\x0B", GMV_INTERRUPTED, 0);
 }
 
 /* Bytes that are not one whole block: the check answers 5. */
 static void not_one_block(settings link, const void *bytes, size_t length)
 {
-    lent block = lend_copy(bytes, length);
-    lent verdict = lend(GMV_VERDICT_WORDS * WORD, 0xEE);
+    guarded block = lend_copy(bytes, length);
+    guarded verdict = lend(GMV_VERDICT_WORDS * WORD, 0xEE);
 
     CHECK(check_block(link, block.at, block.size, &verdict) == GMV_SHAPE);
     CHECK(says_refused(&verdict, GMV_SHAPE, 0));
-    CHECK(words_of(&verdict)[GMV_OFFSET] == 0 && words_of(&verdict)[GMV_USED] == length);
+    CHECK(words_of(&verdict)[GMV_VERDICT_OFFSET] == 0 && words_of(&verdict)[GMV_VERDICT_USED] == length);
     give_back(&block);
     give_back(&verdict);
 }
@@ -415,13 +415,13 @@ static void block_after_lost_cr(void)
     const char *bytes = "\x0B" "D23\r" "00005" "067" "\x1C" "\x0B" "D23\r" "00005" "067" "\x1C\r";
 
     for (size_t size = 1; size <= 29; size++) {
-        lent buffer;
+        guarded buffer;
         listing list = read_stream(hybrid(9), (const uint8_t *)bytes, 29, size, &buffer);
 
         CHECK(list.count == 2);
-        CHECK(list.words[0][GMV_OFFSET] == 0 && list.words[0][GMV_NUMBER] == GMV_SHAPE);
-        CHECK(list.words[0][GMV_USED] == 15);
-        CHECK(list.words[1][GMV_OFFSET] == 14 && list.words[1][GMV_NUMBER] == GMV_OK);
+        CHECK(list.words[0][GMV_VERDICT_OFFSET] == 0 && list.words[0][GMV_VERDICT_NUMBER] == GMV_SHAPE);
+        CHECK(list.words[0][GMV_VERDICT_USED] == 15);
+        CHECK(list.words[1][GMV_VERDICT_OFFSET] == 14 && list.words[1][GMV_VERDICT_NUMBER] == GMV_OK);
         give_back(&buffer);
     }
 }
@@ -432,13 +432,13 @@ static void block_after_cut(void)
     const char *bytes = "\x0B" "D23" "\x0B" "D23\r" "00005" "067" "\x1C\r";
 
     for (size_t size = 1; size <= 19; size++) {
-        lent buffer;
+        guarded buffer;
         listing list = read_stream(hybrid(9), (const uint8_t *)bytes, 19, size, &buffer);
 
         CHECK(list.count == 2);
-        CHECK(list.words[0][GMV_OFFSET] == 0 && list.words[0][GMV_NUMBER] == GMV_CUT);
-        CHECK(list.words[0][GMV_USED] == 5);
-        CHECK(list.words[1][GMV_OFFSET] == 4 && list.words[1][GMV_NUMBER] == GMV_OK);
+        CHECK(list.words[0][GMV_VERDICT_OFFSET] == 0 && list.words[0][GMV_VERDICT_NUMBER] == GMV_INTERRUPTED);
+        CHECK(list.words[0][GMV_VERDICT_USED] == 5);
+        CHECK(list.words[1][GMV_VERDICT_OFFSET] == 4 && list.words[1][GMV_VERDICT_NUMBER] == GMV_OK);
         give_back(&buffer);
     }
 }
@@ -448,8 +448,8 @@ static void endless_block(settings link, uint64_t body_length)
 {
     reading r = new_reading(link);
 
-    words_of(&r.state)[GMV_PHASE] = 1;
-    words_of(&r.state)[GMV_BODY_LENGTH] = body_length;
+    words_of(&r.state)[GMV_READER_PHASE] = 1;
+    words_of(&r.state)[GMV_READER_BODY_LENGTH] = body_length;
     give_back(&r.part);
     r.part = lend_copy("abc\x1C\r", 5);
     CHECK(call_reader(&r) == GMV_OK);
@@ -473,7 +473,7 @@ static void endless_blocks(settings link)
 typedef struct {
     settings link;
     uint64_t type;
-    lent content, buffer, report;
+    guarded content, buffer, report;
     size_t place;
 } writing;
 
@@ -515,8 +515,8 @@ static void writer_refuses_early(writing *w, uint64_t number)
 static void writer_refuses(writing *w, uint64_t number, uint64_t place)
 {
     CHECK(call_writer(w) == number);
-    CHECK(words_of(&w->report)[GMV_BLOCK_LENGTH] == 0);
-    CHECK(words_of(&w->report)[GMV_REFUSED_PLACE] == place);
+    CHECK(words_of(&w->report)[GMV_REPORT_BLOCK_LENGTH] == 0);
+    CHECK(words_of(&w->report)[GMV_REPORT_FORBIDDEN_OFFSET] == place);
     CHECK(unchanged(&w->content));
     CHECK(unchanged(&w->buffer));
 }
@@ -527,7 +527,7 @@ static void writer_needs_report_words(settings link)
         writing w = new_writing(link, "ab", 40);
 
         resize(&w.report, words * WORD, 0xEE);
-        writer_refuses_early(&w, GMV_ROOM);
+        writer_refuses_early(&w, GMV_TOO_SHORT);
         end_writing(&w);
     }
 }
@@ -538,7 +538,7 @@ static void writer_changes_two_report_words(settings link)
 
     resize(&w.report, 7 * WORD, 0xEE);
     CHECK(call_writer(&w) == GMV_OK);
-    CHECK(words_of(&w.report)[GMV_BLOCK_LENGTH] == 2 + overhead_of(link));
+    CHECK(words_of(&w.report)[GMV_REPORT_BLOCK_LENGTH] == 2 + overhead_of(link));
     CHECK(same_from(&w.report, GMV_REPORT_WORDS * WORD));
     end_writing(&w);
 }
@@ -548,7 +548,7 @@ static void writer_needs_room(settings link)
     for (size_t room = 0; room < 2 + overhead_of(link); room++) {
         writing w = new_writing(link, "ab", room);
 
-        writer_refuses_early(&w, GMV_ROOM);
+        writer_refuses_early(&w, GMV_TOO_SHORT);
         end_writing(&w);
     }
 }
@@ -558,7 +558,7 @@ static void writer_refuses_place(settings link, size_t place)
     writing w = new_writing(link, "ab", 2 + overhead_of(link));
 
     w.place = place;
-    writer_refuses_early(&w, GMV_ROOM);
+    writer_refuses_early(&w, GMV_TOO_SHORT);
     end_writing(&w);
 }
 
@@ -580,7 +580,7 @@ static void writer_order(settings link)
 
     w.link.data_limit = 2;
     w.type = 'x';
-    writer_refuses_early(&w, GMV_ROOM);
+    writer_refuses_early(&w, GMV_TOO_SHORT);
     w.link.data_limit = 0;
     writer_refuses_early(&w, GMV_SETTING);
     w.link.data_limit = 2;

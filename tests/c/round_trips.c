@@ -3,9 +3,9 @@
 
 #include <string.h>
 
-static lent random_content(size_t length)
+static guarded random_content(size_t length)
 {
-    lent content = lend(length, 0);
+    guarded content = lend(length, 0);
 
     for (size_t i = 0; i < length; i++)
         content.at[i] = random_data_byte();
@@ -14,9 +14,9 @@ static lent random_content(size_t length)
 }
 
 /* The written bytes, checked whole, are an accepted block with this content. */
-static void checks_back(settings link, uint64_t type, const lent *block, const lent *content)
+static void checks_back(settings link, uint64_t type, const guarded *block, const guarded *content)
 {
-    lent verdict = lend(GMV_VERDICT_WORDS * sizeof(uint64_t), 0xEE);
+    guarded verdict = lend(GMV_VERDICT_WORDS * sizeof(uint64_t), 0xEE);
     size_t start = link.minimal ? 1 : 5;
 
     CHECK(check_block(link, block->at, block->size, &verdict) == GMV_OK);
@@ -26,31 +26,31 @@ static void checks_back(settings link, uint64_t type, const lent *block, const l
 }
 
 /* Read in parts, they give one verdict, with the last byte, and the buffer has the content. */
-static void reads_back(settings link, uint64_t type, const lent *block, const lent *content,
+static void reads_back(settings link, uint64_t type, const guarded *block, const guarded *content,
                        size_t part_size)
 {
-    lent buffer;
+    guarded buffer;
     listing list = read_stream(link, block->at, block->size, part_size, &buffer);
     size_t start = link.minimal ? 0 : 4;
 
     CHECK(list.count == 1);
-    CHECK(list.words[0][GMV_USED] == block->size);
-    CHECK(list.words[0][GMV_NUMBER] == GMV_OK);
-    CHECK(list.words[0][GMV_TYPE] == type);
-    CHECK(list.words[0][GMV_DATA_OFFSET] == start);
-    CHECK(list.words[0][GMV_DATA_LENGTH] == content->size);
+    CHECK(list.words[0][GMV_VERDICT_USED] == block->size);
+    CHECK(list.words[0][GMV_VERDICT_NUMBER] == GMV_OK);
+    CHECK(list.words[0][GMV_VERDICT_TYPE] == type);
+    CHECK(list.words[0][GMV_VERDICT_DATA_OFFSET] == start);
+    CHECK(list.words[0][GMV_VERDICT_DATA_LENGTH] == content->size);
     CHECK(memcmp(buffer.at + start, content->at, content->size) == 0);
     give_back(&buffer);
 }
 
-static void round_trip(settings link, uint64_t type, lent *content)
+static void round_trip(settings link, uint64_t type, guarded *content)
 {
-    lent block = lend(content->size + overhead_of(link), 0x55);
-    lent report = lend(GMV_REPORT_WORDS * sizeof(uint64_t), 0xEE);
+    guarded block = lend(content->size + overhead_of(link), 0x55);
+    guarded report = lend(GMV_REPORT_WORDS * sizeof(uint64_t), 0xEE);
 
     CHECK(write_block(link, type, content, &block, 0, &report) == GMV_OK);
-    CHECK(words_of(&report)[GMV_BLOCK_LENGTH] == block.size);
-    CHECK(words_of(&report)[GMV_REFUSED_PLACE] == 0);
+    CHECK(words_of(&report)[GMV_REPORT_BLOCK_LENGTH] == block.size);
+    CHECK(words_of(&report)[GMV_REPORT_FORBIDDEN_OFFSET] == 0);
     CHECK(unchanged(content));
     checks_back(link, type, &block, content);
     reads_back(link, type, &block, content, block.size);
@@ -65,13 +65,13 @@ static void round_trip(settings link, uint64_t type, lent *content)
 /* One byte over the limit is refused, with the report written and the buffer as it was. */
 static void one_too_many(settings link)
 {
-    lent content = random_content(link.data_limit + 1);
-    lent block = lend(content.size + overhead_of(link), 0x55);
-    lent report = lend(GMV_REPORT_WORDS * sizeof(uint64_t), 0xEE);
+    guarded content = random_content(link.data_limit + 1);
+    guarded block = lend(content.size + overhead_of(link), 0x55);
+    guarded report = lend(GMV_REPORT_WORDS * sizeof(uint64_t), 0xEE);
 
     CHECK(write_block(link, 'D', &content, &block, 0, &report) == GMV_LONG);
-    CHECK(words_of(&report)[GMV_BLOCK_LENGTH] == 0);
-    CHECK(words_of(&report)[GMV_REFUSED_PLACE] == 0);
+    CHECK(words_of(&report)[GMV_REPORT_BLOCK_LENGTH] == 0);
+    CHECK(words_of(&report)[GMV_REPORT_FORBIDDEN_OFFSET] == 0);
     CHECK(unchanged(&block));
     give_back(&content);
     give_back(&block);
@@ -85,7 +85,7 @@ static void around_limit(settings link)
 
     for (size_t i = 0; i < sizeof lengths / sizeof lengths[0]; i++)
         if (lengths[i] <= limit) {
-            lent content = random_content(lengths[i]);
+            guarded content = random_content(lengths[i]);
 
             round_trip(link, 'D', &content);
             give_back(&content);
@@ -107,7 +107,7 @@ static void around_limits(const char *name, settings link)
 static void every_short_length(settings link)
 {
     for (size_t length = 0; length <= link.data_limit; length++) {
-        lent content = random_content(length);
+        guarded content = random_content(length);
 
         round_trip(link, 'D', &content);
         give_back(&content);
@@ -117,7 +117,7 @@ static void every_short_length(settings link)
 static void nak_blocks(settings link)
 {
     for (const char *reason = "CXBG"; *reason; reason++) {
-        lent content = lend_copy(reason, 1);
+        guarded content = lend_copy(reason, 1);
 
         round_trip(link, 'N', &content);
         give_back(&content);
@@ -140,14 +140,14 @@ static void other_settings(void)
 /* Only the block's bytes change, wherever in the buffer it is put. */
 static void at_place(settings link, size_t place, size_t after)
 {
-    lent content = random_content(9);
+    guarded content = random_content(9);
     size_t length = content.size + overhead_of(link);
-    lent buffer = lend(place + length + after, 0x55);
-    lent report = lend(GMV_REPORT_WORDS * sizeof(uint64_t), 0xEE);
-    lent block;
+    guarded buffer = lend(place + length + after, 0x55);
+    guarded report = lend(GMV_REPORT_WORDS * sizeof(uint64_t), 0xEE);
+    guarded block;
 
     CHECK(write_block(link, 'D', &content, &buffer, place, &report) == GMV_OK);
-    CHECK(words_of(&report)[GMV_BLOCK_LENGTH] == length);
+    CHECK(words_of(&report)[GMV_REPORT_BLOCK_LENGTH] == length);
     CHECK(memcmp(buffer.at, buffer.kept, place) == 0);
     CHECK(same_from(&buffer, place + length));
     block = lend_copy(buffer.at + place, length);
@@ -170,17 +170,17 @@ static void at_every_place(settings link)
 /* A byte is written, and read, exactly if it is 20 to 7E or CR. */
 static void byte_value(settings link, unsigned value, size_t offset)
 {
-    lent content = lend(5, 'x');
-    lent block = lend(content.size + overhead_of(link), 0x55);
-    lent report = lend(GMV_REPORT_WORDS * sizeof(uint64_t), 0xEE);
+    guarded content = lend(5, 'x');
+    guarded block = lend(content.size + overhead_of(link), 0x55);
+    guarded report = lend(GMV_REPORT_WORDS * sizeof(uint64_t), 0xEE);
     int allowed = value == '\r' || (value >= 0x20 && value <= 0x7E);
     uint64_t answer;
 
     content.at[offset] = (uint8_t)value;
     answer = write_block(link, 'D', &content, &block, 0, &report);
     CHECK(answer == (allowed ? GMV_OK : GMV_BYTE));
-    CHECK(words_of(&report)[GMV_BLOCK_LENGTH] == (allowed ? block.size : 0));
-    CHECK(words_of(&report)[GMV_REFUSED_PLACE] == (allowed ? 0 : offset));
+    CHECK(words_of(&report)[GMV_REPORT_BLOCK_LENGTH] == (allowed ? block.size : 0));
+    CHECK(words_of(&report)[GMV_REPORT_FORBIDDEN_OFFSET] == (allowed ? 0 : offset));
     CHECK(allowed || unchanged(&block));
     if (allowed)
         checks_back(link, 'D', &block, &content);

@@ -4,7 +4,7 @@
 enum { WORD = sizeof(uint64_t) };
 
 typedef struct {
-    lent state, part, buffer, verdict, report;
+    guarded state, part, buffer, verdict, report;
 } memory;
 
 static memory new_memory(void)

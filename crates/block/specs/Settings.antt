@@ -17,7 +17,7 @@ limitValid d = leb 1 d && leb d 99994
 abbrev pub hybridValid : ℕ → ℕ → ℕ → Bool
 hybridValid sb eb d = not (allowed sb) && not (allowed eb) && not (eqb sb eb) && limitValid d
 
--- "Minimal block: with 0B and 1C fixed, .. and the same D"
+-- a minimal block has "0B and 1C fixed" and "the same D"
 abbrev pub minimalValid : ℕ → ℕ → ℕ → Bool
 minimalValid sb eb d = eqb sb 11 && eqb eb 28 && limitValid d
 

@@ -1,7 +1,7 @@
 -- Document 01, 'Numbers that say no': the number, place and values of each verdict.
 use Prim.Native.Nat.{ℕ}
 use Rattle.block.specs.declared.Verdict.{Verdict}
-use Rattle.block.specs.declared.Verdict.the-variants.{Accepted, Byte, Long, Shape, Count, Check, Cut}
+use Rattle.block.specs.declared.Verdict.the-variants.{Accepted, Byte, Long, Shape, Count, Check, Interrupted}
 
 abbrev pub numberOf : Verdict → ℕ
 numberOf (Accepted t n) = 0
@@ -10,17 +10,17 @@ numberOf Long = 4
 numberOf Shape = 5
 numberOf Count = 6
 numberOf Check = 7
-numberOf Cut = 8
+numberOf Interrupted = 8
 
 -- "Except 3, the place is 0."
-abbrev pub placeOf : Verdict → ℕ
-placeOf (Byte p) = p
-placeOf (Accepted t n) = 0
-placeOf Long = 0
-placeOf Shape = 0
-placeOf Count = 0
-placeOf Check = 0
-placeOf Cut = 0
+abbrev pub forbiddenOffsetOf : Verdict → ℕ
+forbiddenOffsetOf (Byte p) = p
+forbiddenOffsetOf (Accepted t n) = 0
+forbiddenOffsetOf Long = 0
+forbiddenOffsetOf Shape = 0
+forbiddenOffsetOf Count = 0
+forbiddenOffsetOf Check = 0
+forbiddenOffsetOf Interrupted = 0
 
 -- the type of an accepted block, D or N; 0 for a refused one
 abbrev pub typeOf : Verdict → ℕ
@@ -30,7 +30,7 @@ typeOf Long = 0
 typeOf Shape = 0
 typeOf Count = 0
 typeOf Check = 0
-typeOf Cut = 0
+typeOf Interrupted = 0
 
 -- the data length of an accepted block; 0 for a refused one
 abbrev pub lengthOf : Verdict → ℕ
@@ -40,4 +40,4 @@ lengthOf Long = 0
 lengthOf Shape = 0
 lengthOf Count = 0
 lengthOf Check = 0
-lengthOf Cut = 0
+lengthOf Interrupted = 0

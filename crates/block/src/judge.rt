@@ -101,7 +101,8 @@ fn judge_minimal(body: &[u8]) -> Verdict
     }
 }
 
-// The verdict on a block of either kind.
+// The verdict on a block of either kind that fits in the reader's buffer. Callers test that first (number 4); the settings
+// are theirs to check too (number 1).
 pub fn judge_block(settings: Settings, body: &[u8]) -> Verdict
     ensures { λ r. ⌜ r ≡ judge settings (now (body .entry)) ⌝ }
 {

@@ -11,7 +11,7 @@ pub use judge::judge_block;
 pub use judge::type_matches;
 ghost use mathlib.Core.Path.{_≡_};
 ghost use Rattle.block.specs.Settings.{valid, dataOffsetOf, hybridOf, minimalOf};
-ghost use Rattle.block.specs.Verdict.{numberOf, placeOf, typeOf, lengthOf};
+ghost use Rattle.block.specs.Verdict.{numberOf, forbiddenOffsetOf, typeOf, lengthOf};
 
 // The two lower layer protocols (000, C.2 and C.4).
 pub enum Kind {
@@ -44,7 +44,7 @@ pub enum Verdict {
     Count,
     Check,
     // SB came inside it.
-    Cut,
+    Interrupted,
 }
 
 impl Settings {
@@ -139,21 +139,21 @@ impl Verdict {
             Verdict::Shape => 5,
             Verdict::Count => 6,
             Verdict::Check => 7,
-            Verdict::Cut => 8,
+            Verdict::Interrupted => 8,
         }
     }
 
-    pub fn place(self) -> usize
-        ensures { λ r. ⌜ r ≡ placeOf self ⌝ }
+    pub fn forbidden_offset(self) -> usize
+        ensures { λ r. ⌜ r ≡ forbiddenOffsetOf self ⌝ }
     {
         match self {
             Verdict::Accepted(_, _) => 0,
-            Verdict::Byte(place) => place,
+            Verdict::Byte(offset) => offset,
             Verdict::Long => 0,
             Verdict::Shape => 0,
             Verdict::Count => 0,
             Verdict::Check => 0,
-            Verdict::Cut => 0,
+            Verdict::Interrupted => 0,
         }
     }
 
@@ -168,7 +168,7 @@ impl Verdict {
             Verdict::Shape => 0,
             Verdict::Count => 0,
             Verdict::Check => 0,
-            Verdict::Cut => 0,
+            Verdict::Interrupted => 0,
         }
     }
 
@@ -183,7 +183,7 @@ impl Verdict {
             Verdict::Shape => 0,
             Verdict::Count => 0,
             Verdict::Check => 0,
-            Verdict::Cut => 0,
+            Verdict::Interrupted => 0,
         }
     }
 }

@@ -23,7 +23,7 @@ fn print_number(n: u64) {
 fn write_and_check(settings: Settings, content: &[u8], buffer: &mut [u8]) {
     let written = writer::write(settings, 68, content, buffer, 0);
     print_number(written.number());
-    print_number(written.place() as u64);
+    print_number(written.forbidden_offset() as u64);
     let length = written.length();
     if 0 < length {
         if length <= buffer.len() {
@@ -39,7 +39,7 @@ fn print_check(settings: Settings, bytes: &[u8]) {
         return;
     };
     print_number(verdict.number());
-    print_number(verdict.place() as u64);
+    print_number(verdict.forbidden_offset() as u64);
     print_number(verdict.data_length() as u64);
 }
 
@@ -49,7 +49,7 @@ fn print_reading(settings: Settings, part: &[u8]) {
     let answer = reading.answer;
     match answer {
         Answer::Setting => print_text(b" setting"),
-        Answer::Room => print_text(b" room"),
+        Answer::TooShort => print_text(b" remaining"),
         Answer::State => print_text(b" state"),
         Answer::Pending => print_text(b" pending"),
         Answer::Found(_, verdict) => print_number(verdict.number()),

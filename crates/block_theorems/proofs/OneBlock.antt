@@ -41,10 +41,10 @@ module _ (g : Settings) where
   stirs k x (ended s body) at-end = inl (omega arith)
 
   -- SB in a block brings a verdict
-  cuts : (k : ℕ) (m : Mode) → Busy m → 1 ≤ length (move g k m (g .«start_block») .says)
+  interrupts : (k : ℕ) (m : Mode) → Busy m → 1 ≤ length (move g k m (g .«start_block») .says)
   unfolding move
-  cuts k (inside s body) in-block = rw (eq-eqb (g .«start_block») (g .«start_block») refl) (omega arith)
-  cuts k (ended s body) at-end = omega arith
+  interrupts k (inside s body) in-block = rw (eq-eqb (g .«start_block») (g .«start_block») refl) (omega arith)
+  interrupts k (ended s body) at-end = omega arith
 
   run-length : (k x : ℕ) (m : Mode) (xs : List ℕ) → length (run g k m (x ∷ xs)) ≡ length (move g k m x .says) + length (run g (k + 1) (move g k m x .mode) xs)
   unfolding run
@@ -60,7 +60,7 @@ module _ (g : Settings) where
 
   -- a block that has begun brings a verdict by the next SB
   spoken : (b : List ℕ) (k j : ℕ) (m : Mode) → Busy m → 1 ≤ length (run g k m b) + length (move g j (after g k m b) (g .«start_block») .says)
-  spoken [] k j m h = rw (after-none k m) (omega (arith, cuts j m h))
+  spoken [] k j m h = rw (after-none k m) (omega (arith, interrupts j m h))
   spoken (x ∷ b) k j m h = rw (run-length k x m b, after-cons k x m b) (go (λ u. spoken b (k + 1) j (move g k m x .mode) u) (stirs k x m h))
     where
       go : (Busy (move g k m x .mode) → 1 ≤ length (run g (k + 1) (move g k m x .mode) b) + length (move g j (after g (k + 1) (move g k m x .mode) b) (g .«start_block») .says))

@@ -15,7 +15,7 @@ use Rattle.block.specs.Settings.{valid}
 use Rattle.block.specs.Verdict.{numberOf}
 use Rattle.block.specs.declared.Settings.{Settings}
 use Rattle.block.specs.declared.Verdict.{Verdict}
-use Rattle.block.specs.declared.Verdict.the-variants.{Accepted, Byte, Long, Shape, Count, Check, Cut}
+use Rattle.block.specs.declared.Verdict.the-variants.{Accepted, Byte, Long, Shape, Count, Check, Interrupted}
 use Rattle.stream.proofs.Run.{run-append}
 use Rattle.stream.specs.Stream.{Said, verdicts, Mode, between, inside, ended, Moved, moved, said, contentOf, outcome, move, run, after}
 use Rattle.block_theorems.proofs.Accepted.{outcome-sound, body-good}
@@ -107,8 +107,8 @@ module _ (g : Settings) (k : ℕ) where
       regroup : (a b c d : List ℕ) → (a ++ (b ++ c)) ++ d ≡ a ++ (b ++ (c ++ d))
       regroup a b c d = simp append-assoc
 
-  no-cut : (s t n : ℕ) (body : List ℕ) (w : Said) → w ≡ said g s Cut body → w .verdict ≡ Accepted t n → ⊥
-  no-cut s t n body w e v = omega (arith, ap numberOf (sym (ap (λ (z : Said). z .verdict) e) ∙ v))
+  no-interruption : (s t n : ℕ) (body : List ℕ) (w : Said) → w ≡ said g s Interrupted body → w .verdict ≡ Accepted t n → ⊥
+  no-interruption s t n body w e v = omega (arith, ap numberOf (sym (ap (λ (z : Said). z .verdict) e) ∙ v))
 
   content-body : (t : ℕ) (d body : List ℕ) → Body g t d body → contentOf g (Accepted t (length d)) body ≡ d
   unfolding contentOf
@@ -149,7 +149,7 @@ module _ (g : Settings) (k : ℕ) where
   step-sound read i x t n between w a h v = absurd (List·Memᴰ·not-nil h)
   step-sound read i x t n (inside s body) w a h v =
       cond-ind (λ (o : Moved). List·Memᴰ w (o .says) → w .verdict ≡ Accepted t n → Stands g k (read ++ x ∷ []) w) (eqb x (g .«start_block»)) _ _
-      (λ q h v. absurd (no-cut s t n body w (List·Memᴰ·eq-of-singleton h) v))
+      (λ q h v. absurd (no-interruption s t n body w (List·Memᴰ·eq-of-singleton h) v))
       (λ q. cond-ind (λ (o : Moved). List·Memᴰ w (o .says) → w .verdict ≡ Accepted t n → Stands g k (read ++ x ∷ []) w) (eqb x (g .«end_block»))
       (moved [] (ended s body)) (moved [] (inside s (body ++ x ∷ []))) (λ r h v. absurd (List·Memᴰ·not-nil h)) (λ r h v. absurd (List·Memᴰ·not-nil h))) h v
   step-sound read i x t n (ended s body) w (at-ended p f e) h v = ended-sound read s x t n body p w f e (List·Memᴰ·eq-of-singleton h) v
@@ -168,8 +168,8 @@ module _ (g : Settings) (k : ℕ) where
   one-more x xs read i t n m w a v f (inl u) = further (read ++ x ∷ []) w xs (step-sound read i x t n m w a u v)
   one-more x xs read i t n m w a v f (inr u) = f u
 
-  next-place : (read : List ℕ) (i x : ℕ) → i ≡ k + length read → i + 1 ≡ k + length (read ++ x ∷ [])
-  next-place read i x e = let l : length (read ++ x ∷ []) ≡ length read + 1 = length-append read (x ∷ []) in omega arith
+  next-start : (read : List ℕ) (i x : ℕ) → i ≡ k + length read → i + 1 ≡ k + length (read ++ x ∷ [])
+  next-start read i x e = let l : length (read ++ x ∷ []) ≡ length read + 1 = length-append read (x ∷ []) in omega arith
 
   regrouped : (x : ℕ) (xs read : List ℕ) (w : Said) → Stands g k (read ++ x ∷ [] ++ xs) w → Stands g k (read ++ x ∷ xs) w
   regrouped x xs read w h = rw (← append-snoc read x xs) h
@@ -179,7 +179,7 @@ module _ (g : Settings) (k : ℕ) where
   run-sound [] read i t n m w e a h v = absurd (run-empty i m w h)
   run-sound (x ∷ xs) read i t n m w e a h v =
       regrouped x xs read w (one-more x xs read i t n m w a v
-      (λ u. run-sound xs (read ++ x ∷ []) (i + 1) t n (move g i m x .mode) w (next-place read i x e) (at-step read i x m e a) u v)
+      (λ u. run-sound xs (read ++ x ∷ []) (i + 1) t n (move g i m x .mode) w (next-start read i x e) (at-step read i x m e a) u v)
       (run-cases i x m xs w h))
 
   -- sound: an accepted verdict's block stands in the input at its offset
@@ -194,7 +194,7 @@ accepted-of g k xs w Long e h z = absurd (omega arith)
 accepted-of g k xs w Shape e h z = absurd (omega arith)
 accepted-of g k xs w Count e h z = absurd (omega arith)
 accepted-of g k xs w Check e h z = absurd (omega arith)
-accepted-of g k xs w Cut e h z = absurd (omega arith)
+accepted-of g k xs w Interrupted e h z = absurd (omega arith)
 
 -- "the number (0 if accepted)": the accepted verdicts of an input are those on the formatted blocks that stand in it
 pub accepted-exactly : (g : Settings) (xs : List ℕ) (w : Said) → valid g ≡ true → (List·Memᴰ w (verdicts g xs) × (numberOf (w .verdict) ≡ 0)) ↔ Stands g 0 xs w

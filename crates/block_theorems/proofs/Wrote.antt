@@ -14,25 +14,25 @@ use Rattle.block.specs.Settings.{valid}
 use Rattle.block.specs.declared.Settings.{Settings}
 use Rattle.writer.proofs.Laws.{write-all}
 use Rattle.writer.specs.Write.{Outcome, numberOf, lengthOf, needOf, typeValid, refused, wrote, writeOf}
-use Rattle.writer.specs.declared.Written.the-variants.{Setting, Room, Long, Shape, Byte, Block}
+use Rattle.writer.specs.declared.Written.the-variants.{Setting, TooShort, Long, Shape, Byte, Block}
 use Rattle.block_theorems.proofs.RoundTrip.{reads-back}
 use Rattle.block_theorems.specs.Shapes.{Writable, Wrote}
 
-module _ (g : Settings) (t : ℕ) (d : List ℕ) (place : ℕ) (b : List ℕ) where
+module _ (g : Settings) (t : ℕ) (d : List ℕ) (start : ℕ) (b : List ℕ) where
   -- what the tests of the writer have shown where it wrote
   record Tested (n : ℕ) : Type 0 where
     able : Writable g t d
-    room : place + needOf g d ≤ length b
+    enough : start + needOf g d ≤ length b
     size : length (blockOf g t d) ≡ n
-    buffer : writeOf g t d place b .buffer ≡ put b place (blockOf g t d)
+    buffer : writeOf g t d start b .buffer ≡ put b start (blockOf g t d)
 
-  tested : (n : ℕ) → writeOf g t d place b .answer ≡ Block n → Tested n
+  tested : (n : ℕ) → writeOf g t d start b .answer ≡ Block n → Tested n
   unfolding writeOf
-  tested n = go (valid g) (leb (place + needOf g d) (length b)) (leb (length d) (g .«data_limit»)) (typeValid (g .kind) t d) (allAllowed d) refl refl refl refl refl
+  tested n = go (valid g) (leb (start + needOf g d) (length b)) (leb (length d) (g .«data_limit»)) (typeValid (g .kind) t d) (allAllowed d) refl refl refl refl refl
     where
-      go : (p q r s u : Bool) → valid g ≡ p → leb (place + needOf g d) (length b) ≡ q → leb (length d) (g .«data_limit») ≡ r
+      go : (p q r s u : Bool) → valid g ≡ p → leb (start + needOf g d) (length b) ≡ q → leb (length d) (g .«data_limit») ≡ r
           → typeValid (g .kind) t d ≡ s → allAllowed d ≡ u
-          → cond p (cond q (cond r (cond s (cond u (wrote b place (blockOf g t d)) (refused (Byte (firstForbidden d)) b)) (refused Shape b)) (refused Long b)) (refused Room b)) (refused Setting b) .answer ≡ Block n
+          → cond p (cond q (cond r (cond s (cond u (wrote b start (blockOf g t d)) (refused (Byte (firstForbidden d)) b)) (refused Shape b)) (refused Long b)) (refused TooShort b)) (refused Setting b) .answer ≡ Block n
           → Tested n
       go false q r s u e₁ e₂ e₃ e₄ e₅ h = absurd (omega (arith, ap numberOf h))
       go true false r s u e₁ e₂ e₃ e₄ e₅ h = absurd (omega (arith, ap numberOf h))
@@ -43,9 +43,9 @@ module _ (g : Settings) (t : ℕ) (d : List ℕ) (place : ℕ) (b : List ℕ) wh
           let f = leb-true (length d) (g .«data_limit») e₃ in
           record {
             able = record { settings = e₁; fits = f; type = e₄; bytes = e₅ };
-            room = leb-true (place + needOf g d) (length b) e₂;
+            enough = leb-true (start + needOf g d) (length b) e₂;
             size = ap lengthOf h;
-            buffer = ap (λ (o : Outcome). o .buffer) (sym (write-all g t d place b e₁ e₂ f e₄ e₅));
+            buffer = ap (λ (o : Outcome). o .buffer) (sym (write-all g t d start b e₁ e₂ f e₄ e₅));
           }
 
 -- the bytes that were written, at their place
@@ -56,11 +56,11 @@ part-put l vs a h =
     (take-at vs (drop (a + length vs) l) (length vs) refl)
 
 -- "The writer writes D blocks of 0 to D data bytes, or N blocks, always with the computed sum. It writes into the caller's buffer from a place the caller names"
-pub wrote-reads-back : (g : Settings) (t : ℕ) (d : List ℕ) (place : ℕ) (b : List ℕ) (n : ℕ) → writeOf g t d place b .answer ≡ Block n
-    → Wrote g t d (take n (drop place (writeOf g t d place b .buffer)))
-wrote-reads-back g t d place b n e =
-    let w = tested g t d place b n e in
-    let h : place ≤ length b = omega (arith, w .room) in
-    let i : take n (drop place (writeOf g t d place b .buffer)) ≡ blockOf g t d =
-    ap (λ (l : List ℕ). take n (drop place l)) (w .buffer) ∙ ap (λ (m : ℕ). take m (drop place (put b place (blockOf g t d)))) (sym (w .size)) ∙ part-put b (blockOf g t d) place h in
+pub wrote-reads-back : (g : Settings) (t : ℕ) (d : List ℕ) (start : ℕ) (b : List ℕ) (n : ℕ) → writeOf g t d start b .answer ≡ Block n
+    → Wrote g t d (take n (drop start (writeOf g t d start b .buffer)))
+wrote-reads-back g t d start b n e =
+    let w = tested g t d start b n e in
+    let h : start ≤ length b = omega (arith, w .enough) in
+    let i : take n (drop start (writeOf g t d start b .buffer)) ≡ blockOf g t d =
+    ap (λ (l : List ℕ). take n (drop start l)) (w .buffer) ∙ ap (λ (m : ℕ). take m (drop start (put b start (blockOf g t d)))) (sym (w .size)) ∙ part-put b (blockOf g t d) start h in
     record { is = i; able = w .able; reads = rw i (reads-back g t d (w .able)) }

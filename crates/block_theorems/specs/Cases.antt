@@ -6,7 +6,7 @@ use Rattle.block.specs.Format.{hybridBlock}
 use Rattle.block.specs.Verdict.{numberOf, lengthOf}
 use Rattle.block.specs.declared.Kind.the-variants.{Hybrid}
 use Rattle.block.specs.declared.Settings.{Settings}
-use Rattle.block.specs.declared.Verdict.the-variants.{Accepted, Shape, Count, Check, Cut}
+use Rattle.block.specs.declared.Verdict.the-variants.{Accepted, Shape, Count, Check, Interrupted}
 use Rattle.stream.specs.Stream.{Said, verdicts}
 use Rattle.stream.specs.Whole.{checkOf}
 use Rattle.stream.specs.declared.Checked.{Checked}
@@ -100,7 +100,7 @@ cases =
     ∷ (check (emptyBlock 54 48 54 56) ≡ Judged Count)
     -- "P8 SB D SB: 8."
     ∷ (lines (11 ∷ 68 ∷ 11 ∷ []) ≡ line 0 8 0 ∷ [])
-    ∷ (check (11 ∷ 68 ∷ 11 ∷ []) ≡ Judged Cut)
+    ∷ (check (11 ∷ 68 ∷ 11 ∷ []) ≡ Judged Interrupted)
     -- "For P1 followed by P3 it prints exactly `0 0 0` and `15 0 1`"
     ∷ (lines (p1 ++ p3) ≡ line 0 0 0 ∷ line 15 0 1 ∷ [])
     ∷ (check (p1 ++ p3) ≡ Judged Shape)

@@ -19,12 +19,12 @@ use Rattle.stream.specs.declared.Reading.{Reading}
 use Rattle.stream.specs.declared.Checked.{Checked}
 use Rattle.stream.specs.Whole.{checkOf}
 use Rattle.stream.specs.declared.Answer.{Answer}
-use Rattle.stream.specs.declared.Answer.the-variants.{Setting, Room, State, Pending, Found}
+use Rattle.stream.specs.declared.Answer.the-variants.{Setting, TooShort, State, Pending, Found}
 use Rattle.stream.specs.declared.Phase.the-variants.{Between, Inside, Ended}
 use Rattle.stream.specs.declared.Reader.{Reader}
 use Rattle.writer.specs.Write.{Outcome, writeOf}
 use Rattle.writer.specs.declared.Written.{Written}
-use Rattle.writer.specs.declared.Written.the-variants.{Block, Setting as WrongSetting, Room as NoRoom, Long as LongContent, Shape as WrongType, Byte as ForbiddenByte}
+use Rattle.writer.specs.declared.Written.the-variants.{Block, Setting as WrongSetting, TooShort as WriterTooShort, Long as LongContent, Shape as WrongType, Byte as ForbiddenByte}
 use Rattle.giamuvich.specs.Words.{over, decoded, withPhase}
 use Rattle.giamuvich.specs.Calls.{WriteCall, writeCalled, writeFinished, typeByte, writeCall, ReadCall, readCalled, readAnswered, readFinished, readDecoded, readCall, checkCalled, checkFinished, checkCall}
 use Rattle.giamuvich.specs.declared.Decoded.the-variants.{Unknown}
@@ -62,7 +62,7 @@ pub answered : (g : Settings) (st v : List ℕ) (r : Reader) (c : List ℕ) (use
 answered g st v r c used Pending = refl
 answered g st v r c used (Found s w) = refl
 answered g st v r c used Setting = refl
-answered g st v r c used Room = refl
+answered g st v r c used TooShort = refl
 answered g st v r c used State = refl
 
 module _ (g : Settings) (st xs b v : List ℕ) where
@@ -121,28 +121,28 @@ pub two : (l : List ℕ) (a b : ℕ) → 2 ≤ length l → set (set l 0 a) 1 b 
 two l a b h = sets-eq (a ∷ b ∷ []) l 0 h
 
 -- ---- a call of the writer
-pub write-refused : (t : ℕ) (d b : List ℕ) (place : ℕ) (p : List ℕ) → writeCalled 1 b p ≡ writeCall Refused t d b place p
+pub write-refused : (t : ℕ) (d b : List ℕ) (start : ℕ) (p : List ℕ) → writeCalled 1 b p ≡ writeCall Refused t d b start p
 unfolding writeCall
-write-refused t d b place p = refl
+write-refused t d b start p = refl
 
-pub write-few : (g : Settings) (t : ℕ) (d b : List ℕ) (place : ℕ) (p : List ℕ) → length p < 2 → writeCalled 2 b p ≡ writeCall (Valid g) t d b place p
+pub write-few : (g : Settings) (t : ℕ) (d b : List ℕ) (start : ℕ) (p : List ℕ) → length p < 2 → writeCalled 2 b p ≡ writeCall (Valid g) t d b start p
 unfolding writeCall
-write-few g t d b place p h = rw (lt-ltb (length p) 2 h)
+write-few g t d b start p h = rw (lt-ltb (length p) 2 h)
 
 abbrev withWritten : List ℕ → WriteCall → WriteCall
 withWritten c t = writeCalled (t .number) c (t .report)
 
 written : (c p : List ℕ) (w : Written) → withWritten c (writeFinished [] p w) ≡ writeFinished c p w
 written c p WrongSetting = refl
-written c p NoRoom = refl
+written c p WriterTooShort = refl
 written c p LongContent = refl
 written c p WrongType = refl
 written c p (ForbiddenByte i) = refl
 written c p (Block n) = refl
 
-pub write-done : (g : Settings) (t : ℕ) (d b : List ℕ) (place : ℕ) (p c q : List ℕ) (w : Written) (n : ℕ) → 2 ≤ length p
-    → writeCalled n [] q ≡ writeFinished [] p w → _≡_ {A = Outcome} (record { answer = w; buffer = c }) (writeOf g (typeByte t) d place b)
-    → writeCalled n c q ≡ writeCall (Valid g) t d b place p
+pub write-done : (g : Settings) (t : ℕ) (d b : List ℕ) (start : ℕ) (p c q : List ℕ) (w : Written) (n : ℕ) → 2 ≤ length p
+    → writeCalled n [] q ≡ writeFinished [] p w → _≡_ {A = Outcome} (record { answer = w; buffer = c }) (writeOf g (typeByte t) d start b)
+    → writeCalled n c q ≡ writeCall (Valid g) t d b start p
 unfolding writeCall
-write-done g t d b place p c q w n h e f =
+write-done g t d b start p c q w n h e f =
     rw (le-ltb (length p) 2 h) (ap (withWritten c) e ∙ written c p w ∙ ap (λ (o : Outcome). writeFinished (o .buffer) p (o .answer)) f)

@@ -13,12 +13,12 @@ use Rattle.stream.specs.Scan.{Read, readOf, fresh, answerNumber}
 use Rattle.stream.specs.Whole.{checkOf, checkedNumber}
 use Rattle.stream.specs.declared.Reader.{Reader}
 use Rattle.stream.specs.declared.Answer.{Answer}
-use Rattle.stream.specs.declared.Answer.the-variants.{Setting, Room, State, Pending, Found}
+use Rattle.stream.specs.declared.Answer.the-variants.{Setting, TooShort, State, Pending, Found}
 use Rattle.stream.specs.declared.Checked.{Checked}
 use Rattle.stream.specs.declared.Checked.the-variants.{Setting as BadSetting, Judged}
-use Rattle.writer.specs.Write.{Outcome, writeOf, numberOf as writtenNumber, placeOf as writtenPlace, lengthOf as writtenLength}
+use Rattle.writer.specs.Write.{Outcome, writeOf, numberOf as writtenNumber, forbiddenOffsetOf as writtenForbiddenOffset, lengthOf as writtenLength}
 use Rattle.writer.specs.declared.Written.{Written}
-use Rattle.writer.specs.declared.Written.the-variants.{Block, Setting as WrongSetting, Room as NoRoom, Long as LongContent, Shape as WrongType, Byte as ForbiddenByte}
+use Rattle.writer.specs.declared.Written.the-variants.{Block, Setting as WrongSetting, TooShort as WriterTooShort, Long as LongContent, Shape as WrongType, Byte as ForbiddenByte}
 use Rattle.giamuvich.specs.Words.{over, readerWords, decoded, verdictWords, pendingWords}
 use Rattle.giamuvich.specs.declared.Decoded.{Decoded}
 use Rattle.giamuvich.specs.declared.Decoded.the-variants.{Unknown, Known}
@@ -48,7 +48,7 @@ readAnswered g st v r c used Pending = readCalled (answerNumber Pending) (over s
 readAnswered g st v r c used (Found s w) =
     readCalled (answerNumber (Found s w)) (over st (readerWords r)) c (over v (verdictWords s w (dataOffsetOf g) used))
 readAnswered g st v r c used Setting = readCalled (answerNumber Setting) st c v
-readAnswered g st v r c used Room = readCalled (answerNumber Room) st c v
+readAnswered g st v r c used TooShort = readCalled (answerNumber TooShort) st c v
 readAnswered g st v r c used State = readCalled (answerNumber State) st c v
 
 abbrev pub readFinished : Settings → List ℕ → List ℕ → Read → ReadCall
@@ -92,14 +92,14 @@ pub record WriteCall : Type 0 where
 abbrev pub writeCalled : ℕ → List ℕ → List ℕ → WriteCall
 writeCalled n b p = record { number = n; buffer = b; report = p }
 
--- GMV_BLOCK_LENGTH, GMV_REFUSED_PLACE
+-- GMV_REPORT_BLOCK_LENGTH, GMV_REPORT_FORBIDDEN_OFFSET
 abbrev pub writeReported : List ℕ → List ℕ → Written → WriteCall
-writeReported c p w = writeCalled (writtenNumber w) c (over p (writtenLength w ∷ writtenPlace w ∷ []))
+writeReported c p w = writeCalled (writtenNumber w) c (over p (writtenLength w ∷ writtenForbiddenOffset w ∷ []))
 
 -- 1 and 2 change nothing
 abbrev pub writeFinished : List ℕ → List ℕ → Written → WriteCall
 writeFinished c p WrongSetting = writeCalled (writtenNumber WrongSetting) c p
-writeFinished c p NoRoom = writeCalled (writtenNumber NoRoom) c p
+writeFinished c p WriterTooShort = writeCalled (writtenNumber WriterTooShort) c p
 writeFinished c p LongContent = writeReported c p LongContent
 writeFinished c p WrongType = writeReported c p WrongType
 writeFinished c p (ForbiddenByte i) = writeReported c p (ForbiddenByte i)
@@ -110,7 +110,7 @@ abbrev pub typeByte : ℕ → ℕ
 typeByte t = cond (ltb 255 t) 0 t
 
 unfoldable pub writeCall : Made → ℕ → List ℕ → List ℕ → ℕ → List ℕ → WriteCall
-writeCall Refused t d b place p = writeCalled (madeNumber Refused) b p
-writeCall (Valid g) t d b place p =
+writeCall Refused t d b start p = writeCalled (madeNumber Refused) b p
+writeCall (Valid g) t d b start p =
     cond (ltb (length p) 2) (writeCalled 2 b p)
-    (writeFinished (writeOf g (typeByte t) d place b .buffer) p (writeOf g (typeByte t) d place b .answer))
+    (writeFinished (writeOf g (typeByte t) d start b .buffer) p (writeOf g (typeByte t) d start b .answer))

@@ -4,9 +4,9 @@ use mathlib.Core.Bool.{Bool, true, false, cond}
 use Prim.Native.Nat.{ℕ, _+_}
 use lib.ListN.{length, getD, drop}
 use lib.Dec.{ltb, eqb}
-use Rattle.block.specs.Verdict.{numberOf, placeOf, typeOf, lengthOf}
+use Rattle.block.specs.Verdict.{numberOf, forbiddenOffsetOf, typeOf, lengthOf}
 use Rattle.block.specs.declared.Verdict.{Verdict}
-use Rattle.block.specs.declared.Verdict.the-variants.{Accepted, Byte, Long, Shape, Count, Check, Cut}
+use Rattle.block.specs.declared.Verdict.the-variants.{Accepted, Byte, Long, Shape, Count, Check, Interrupted}
 use Rattle.stream.specs.declared.Phase.{Phase}
 use Rattle.stream.specs.declared.Phase.the-variants.{Between, Inside, Ended}
 use Rattle.stream.specs.declared.Reader.{Reader}
@@ -22,33 +22,33 @@ phaseNumber Between = 0
 phaseNumber Inside = 1
 phaseNumber Ended = 2
 
--- GMV_PHASE, GMV_BODY_LENGTH, GMV_BLOCK_OFFSET, GMV_POSITION
+-- GMV_READER_PHASE, GMV_READER_BODY_LENGTH, GMV_READER_BLOCK_OFFSET, GMV_READER_POSITION
 unfoldable pub readerWords : Reader → List ℕ
 readerWords r = phaseNumber (r .phase) ∷ r .«body_length» ∷ r .«block_offset» ∷ r .position ∷ []
 
 abbrev pub withPhase : Phase → List ℕ → Decoded
 withPhase p ws = Known (record { phase = p; «body_length» = getD ws 1 0; «block_offset» = getD ws 2 0; position = getD ws 3 0 })
 
--- "every content of those words is an input": any phase but these three encodes no state
+-- every content of the words is an input: any phase but these three encodes no state
 unfoldable pub decoded : List ℕ → Decoded
 decoded ws =
     cond (eqb (getD ws 0 0) 0) (withPhase Between ws)
     (cond (eqb (getD ws 0 0) 1) (withPhase Inside ws) (cond (eqb (getD ws 0 0) 2) (withPhase Ended ws) Unknown))
 
 -- where an accepted block's data begins; 0 for a refused block
-abbrev pub dataPlace : ℕ → Verdict → ℕ
-dataPlace o (Accepted t n) = o
-dataPlace o (Byte p) = 0
-dataPlace o Long = 0
-dataPlace o Shape = 0
-dataPlace o Count = 0
-dataPlace o Check = 0
-dataPlace o Cut = 0
+abbrev pub dataStart : ℕ → Verdict → ℕ
+dataStart o (Accepted t n) = o
+dataStart o (Byte p) = 0
+dataStart o Long = 0
+dataStart o Shape = 0
+dataStart o Count = 0
+dataStart o Check = 0
+dataStart o Interrupted = 0
 
--- GMV_FOUND, GMV_OFFSET, GMV_NUMBER, GMV_PLACE, GMV_TYPE, GMV_DATA_OFFSET, GMV_DATA_LENGTH, GMV_USED
+-- GMV_VERDICT_FOUND, GMV_VERDICT_OFFSET, GMV_VERDICT_NUMBER, GMV_VERDICT_FORBIDDEN_OFFSET, GMV_VERDICT_TYPE, GMV_VERDICT_DATA_OFFSET, GMV_VERDICT_DATA_LENGTH, GMV_VERDICT_USED
 unfoldable pub verdictWords : ℕ → Verdict → ℕ → ℕ → List ℕ
 verdictWords s v o used =
-    1 ∷ s ∷ numberOf v ∷ placeOf v ∷ typeOf v ∷ dataPlace o v ∷ lengthOf v ∷ used ∷ []
+    1 ∷ s ∷ numberOf v ∷ forbiddenOffsetOf v ∷ typeOf v ∷ dataStart o v ∷ lengthOf v ∷ used ∷ []
 
 -- no block ended yet
 unfoldable pub pendingWords : ℕ → List ℕ

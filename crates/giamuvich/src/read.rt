@@ -26,7 +26,7 @@ fn finish(settings: Settings, reading: Reading, state: &mut [u64], verdict: &mut
     let reader = reading.reader;
     match answer {
         Answer::Setting => 1,
-        Answer::Room => 2,
+        Answer::TooShort => 2,
         Answer::State => 11,
         Answer::Pending => {
             write_reader(state, reader);

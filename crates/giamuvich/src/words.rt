@@ -7,7 +7,7 @@ ghost use mathlib.Core.Path.{_≡_};
 ghost use mathlib.Core.List.{[], _∷_, _++_};
 ghost use Prim.Native.Nat.{_≤_};
 ghost use lib.ListN.{length, drop};
-ghost use Rattle.giamuvich.specs.Words.{over, phaseNumber, readerWords, decoded, dataPlace, verdictWords, pendingWords};
+ghost use Rattle.giamuvich.specs.Words.{over, phaseNumber, readerWords, decoded, dataStart, verdictWords, pendingWords};
 
 fn size(x: u64) -> usize
     ensures { λ r. ⌜ r ≡ x ⌝ }
@@ -86,8 +86,8 @@ pub fn read_reader(words: &[u64]) -> Decoded
 }
 
 // Where an accepted block's data begins; 0 for a refused block.
-fn data_place(offset: usize, verdict: Verdict) -> usize
-    ensures { λ r. ⌜ r ≡ dataPlace offset verdict ⌝ }
+fn data_start(offset: usize, verdict: Verdict) -> usize
+    ensures { λ r. ⌜ r ≡ dataStart offset verdict ⌝ }
 {
     match verdict {
         Verdict::Accepted(_, _) => offset,
@@ -96,7 +96,7 @@ fn data_place(offset: usize, verdict: Verdict) -> usize
         Verdict::Shape => 0,
         Verdict::Count => 0,
         Verdict::Check => 0,
-        Verdict::Cut => 0,
+        Verdict::Interrupted => 0,
     }
 }
 
@@ -108,9 +108,9 @@ pub fn write_verdict(words: &mut [u64], start: usize, verdict: Verdict, offset: 
     words[0] = 1;
     words[1] = word(start);
     words[2] = verdict.number();
-    words[3] = word(verdict.place());
+    words[3] = word(verdict.forbidden_offset());
     words[4] = byte_word(verdict.block_type());
-    words[5] = word(data_place(offset, verdict));
+    words[5] = word(data_start(offset, verdict));
     words[6] = word(verdict.data_length());
     words[7] = word(used);
 }

@@ -11,12 +11,12 @@ ghost use Rattle.giamuvich.specs.Words.{over};
 ghost use Rattle.giamuvich.specs.Calls.{writeCalled, writeFinished, typeByte, writeCall};
 
 // Writes over the first two words.
-fn write_report(report: &mut [u64], block_length: usize, place: usize)
+fn write_report(report: &mut [u64], block_length: usize, offset: usize)
     requires { ⌜ 2 ≤ length (now report) ⌝ }
-    ensures { λ r. ⌜ now (report .exit) ≡ over (now (report .entry)) («block_length» ∷ place ∷ []) ⌝ }
+    ensures { λ r. ⌜ now (report .exit) ≡ over (now (report .entry)) («block_length» ∷ offset ∷ []) ⌝ }
 {
     report[0] = block_length as u64;
-    report[1] = place as u64;
+    report[1] = offset as u64;
 }
 
 // The number of what the writer answered, with the report written unless it was 1 or 2.
@@ -26,7 +26,7 @@ fn report_written(written: Written, report: &mut [u64]) -> u64
 {
     match written {
         Written::Setting => 1,
-        Written::Room => 2,
+        Written::TooShort => 2,
         Written::Long => {
             write_report(report, 0, 0);
             4
@@ -35,8 +35,8 @@ fn report_written(written: Written, report: &mut [u64]) -> u64
             write_report(report, 0, 0);
             5
         }
-        Written::Byte(place) => {
-            write_report(report, 0, place);
+        Written::Byte(offset) => {
+            write_report(report, 0, offset);
             3
         }
         Written::Block(block_length) => {
@@ -61,10 +61,10 @@ fn write_words(
     t: u64,
     content: &[u8],
     buffer: &mut [u8],
-    place: usize,
+    start: usize,
     report: &mut [u64],
 ) -> u64
-    ensures { λ r. ⌜ writeCalled r (now (buffer .exit)) (now (report .exit)) ≡ writeCall made t (now (content .entry)) (now (buffer .entry)) place (now (report .entry)) ⌝ }
+    ensures { λ r. ⌜ writeCalled r (now (buffer .exit)) (now (report .exit)) ≡ writeCall made t (now (content .entry)) (now (buffer .entry)) start (now (report .entry)) ⌝ }
 {
     let Made::Valid(settings) = made else {
         return 1;
@@ -72,7 +72,7 @@ fn write_words(
     if report.len() < 2 {
         return 2;
     }
-    let written = writer::write(settings, type_byte(t), content, buffer, place);
+    let written = writer::write(settings, type_byte(t), content, buffer, start);
     report_written(written, report)
 }
 
@@ -84,17 +84,17 @@ pub extern "C" fn gmv_hybrid_write(
     t: u64,
     content: &[u8],
     buffer: &mut [u8],
-    place: usize,
+    start: usize,
     report: &mut [u64],
 ) -> u64
-    ensures { λ r. ⌜ writeCalled r (now (buffer .exit)) (now (report .exit)) ≡ writeCall (hybridOf «start_block» «end_block» «data_limit») t (now (content .entry)) (now (buffer .entry)) place (now (report .entry)) ⌝ }
+    ensures { λ r. ⌜ writeCalled r (now (buffer .exit)) (now (report .exit)) ≡ writeCall (hybridOf «start_block» «end_block» «data_limit») t (now (content .entry)) (now (buffer .entry)) start (now (report .entry)) ⌝ }
 {
     write_words(
         Settings::hybrid(start_block, end_block, data_limit),
         t,
         content,
         buffer,
-        place,
+        start,
         report,
     )
 }
@@ -104,17 +104,17 @@ pub extern "C" fn gmv_minimal_write(
     data_limit: u64,
     content: &[u8],
     buffer: &mut [u8],
-    place: usize,
+    start: usize,
     report: &mut [u64],
 ) -> u64
-    ensures { λ r. ⌜ writeCalled r (now (buffer .exit)) (now (report .exit)) ≡ writeCall (minimalOf «data_limit») 68 (now (content .entry)) (now (buffer .entry)) place (now (report .entry)) ⌝ }
+    ensures { λ r. ⌜ writeCalled r (now (buffer .exit)) (now (report .exit)) ≡ writeCall (minimalOf «data_limit») 68 (now (content .entry)) (now (buffer .entry)) start (now (report .entry)) ⌝ }
 {
     write_words(
         Settings::minimal(data_limit),
         68,
         content,
         buffer,
-        place,
+        start,
         report,
     )
 }

@@ -13,7 +13,7 @@ use Rattle.lists.proofs.Parts.{drop-more, drop-none}
 use Rattle.lists.specs.Bytes.{hasAny}
 use Rattle.block.specs.Settings.{valid}
 use Rattle.block.specs.declared.Settings.{Settings}
-use Rattle.block.specs.declared.Verdict.the-variants.{Shape, Cut}
+use Rattle.block.specs.declared.Verdict.the-variants.{Shape, Interrupted}
 use Rattle.stream.proofs.Run.{run-append, free-run, free-after, clear-free}
 use Rattle.stream.proofs.Store.{Stopped}
 use Rattle.stream.specs.Stream.{Said, Mode, between, inside, ended, said, move, run, outcome, verdicts}
@@ -101,9 +101,9 @@ module _ (g : Settings) (body : List ℕ) (free : hasAny (g .«start_block») (g
       ap (λ (l : List ℕ). verdicts g l) (append-assoc (g .«start_block» ∷ body) (g .«end_block» ∷ []) ys)
       ∙ reach-body (g .«end_block» ∷ ys) ∙ ends e ys
 
-pub move-cut : (g : Settings) (k s : ℕ) (body : List ℕ) → move g k (inside s body) (g .«start_block») ≡ record { says = said g s Cut body ∷ []; mode = inside k [] }
+pub move-interrupted : (g : Settings) (k s : ℕ) (body : List ℕ) → move g k (inside s body) (g .«start_block») ≡ record { says = said g s Interrupted body ∷ []; mode = inside k [] }
 unfolding move
-move-cut g k s body = rw (eq-eqb (g .«start_block») (g .«start_block») refl)
+move-interrupted g k s body = rw (eq-eqb (g .«start_block») (g .«start_block») refl)
 
 pub move-ended : (g : Settings) (k s x : ℕ) (body : List ℕ)
     → move g k (ended s body) x ≡ record { says = said g s (outcome g body x) body ∷ []; mode = cond (eqb x (g .«start_block»)) (inside k []) between }
@@ -145,16 +145,16 @@ module _ (g : Settings) (xs : List ℕ) (m : ℕ) (h : Begins g xs m) where
       whole-unfinished g (g .«start_block» ∷ body) (1 + length body) (inside 0 body) same-block (reach-body g body free)
       ∙ ap (λ (l : List ℕ). wholeOf g l) (sym (split-with [] (drop-none xs (1 + m) (omega arith)) ∙ append-nil (g .«start_block» ∷ body)))
 
-  pub check-cut : getD xs (1 + m) 0 ≡ g .«start_block» → 1 + m + 1 ≡ length xs → Cut ≡ wholeOf g xs
-  check-cut e l =
+  pub check-interrupted : getD xs (1 + m) 0 ≡ g .«start_block» → 1 + m + 1 ≡ length xs → Interrupted ≡ wholeOf g xs
+  check-interrupted e l =
       whole-one g (g .«start_block» ∷ body) (1 + length body) (inside 0 body) same-block (reach-body g body free)
-      (g .«start_block») (said g 0 Cut body) _ (move-cut g (1 + length body) 0 body)
+      (g .«start_block») (said g 0 Interrupted body) _ (move-interrupted g (1 + length body) 0 body)
       ∙ ap (λ (z : List ℕ). wholeOf g z) (sym (split-with (g .«start_block» ∷ []) (stop-is (omega arith) [] _ e (drop-none xs (1 + m + 1) (omega arith)))))
 
-  pub check-cut-early : getD xs (1 + m) 0 ≡ g .«start_block» → 1 + m + 1 < length xs → Shape ≡ wholeOf g xs
-  check-cut-early e l =
+  pub check-interrupted-early : getD xs (1 + m) 0 ≡ g .«start_block» → 1 + m + 1 < length xs → Shape ≡ wholeOf g xs
+  check-interrupted-early e l =
       whole-early g (g .«start_block» ∷ body) (1 + length body) (inside 0 body) same-block (reach-body g body free)
-      (g .«start_block») (getD xs (1 + m + 1) 0) (drop (1 + m + 1 + 1) xs) (said g 0 Cut body) _ (move-cut g (1 + length body) 0 body)
+      (g .«start_block») (getD xs (1 + m + 1) 0) (drop (1 + m + 1 + 1) xs) (said g 0 Interrupted body) _ (move-interrupted g (1 + length body) 0 body)
       ∙ ap (λ (z : List ℕ). wholeOf g z) (sym (split-with _ (stop-is (omega arith) _ _ e (drop-more xs (1 + m + 1) l))))
 
   module _ (f : getD xs (1 + m) 0 ≡ g .«start_block» → ⊥) (e : getD xs (1 + m) 0 ≡ g .«end_block») where

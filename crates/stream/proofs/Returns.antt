@@ -19,7 +19,7 @@ use Rattle.stream.specs.Stream.{contentOf}
 use Rattle.stream.specs.Scan.{Scan, scan, fold, given, refused, scanned, readOf}
 use Rattle.stream.specs.Internal.{from, Reads}
 use Rattle.stream.specs.declared.Reader.{Reader}
-use Rattle.stream.specs.declared.Answer.the-variants.{Setting, Room, State, Pending}
+use Rattle.stream.specs.declared.Answer.the-variants.{Setting, TooShort, State, Pending}
 use Rattle.stream.specs.declared.Reading.{Reading}
 
 module _ (g : Settings) (r : Reader) (xs b : List ℕ) where
@@ -27,9 +27,9 @@ module _ (g : Settings) (r : Reader) (xs b : List ℕ) where
   unfolding readOf
   read-setting e = rw e
 
-  pub read-room : valid g ≡ true → length b < capacityOf g → refused Room r b ≡ readOf g r xs b
+  pub read-too-short : valid g ≡ true → length b < capacityOf g → refused TooShort r b ≡ readOf g r xs b
   unfolding readOf
-  read-room e h = rw (e, lt-ltb (length b) (capacityOf g) h)
+  read-too-short e h = rw (e, lt-ltb (length b) (capacityOf g) h)
 
   pub read-state : valid g ≡ true → capacityOf g ≤ length b → 18446744073709551615 - r .position < length xs → refused State r b ≡ readOf g r xs b
   unfolding readOf

@@ -17,7 +17,7 @@ use Rattle.lists.specs.Bytes.{clear}
 use Rattle.block.specs.Settings.{capacityOf}
 use Rattle.block.specs.declared.Settings.{Settings}
 use Rattle.block.specs.declared.Verdict.{Verdict}
-use Rattle.block.specs.declared.Verdict.the-variants.{Cut}
+use Rattle.block.specs.declared.Verdict.the-variants.{Interrupted}
 use Rattle.stream.specs.Scan.{Scan, scan, step, fold, verdictOf}
 use Rattle.stream.specs.Internal.{advanced, stored, from}
 use Rattle.stream.specs.declared.Phase.{Phase}
@@ -152,9 +152,9 @@ module _ (g : Settings) (x : ℕ) (xs b : List ℕ) (n s k : ℕ) where
   unfolding fold step
   one-opens e = rw e
 
-  one-cuts : eqb x (g .«start_block») ≡ true → fold g (scan Pending Inside n s k b) (x ∷ xs) ≡ scan (Found s Cut) Inside 0 k (k + 1) b
+  one-interrupts : eqb x (g .«start_block») ≡ true → fold g (scan Pending Inside n s k b) (x ∷ xs) ≡ scan (Found s Interrupted) Inside 0 k (k + 1) b
   unfolding fold step
-  one-cuts e = rw e (fold-found g s Cut _ b xs)
+  one-interrupts e = rw e (fold-found g s Interrupted _ b xs)
 
   one-ends : eqb x (g .«start_block») ≡ false → eqb x (g .«end_block») ≡ true
       → fold g (scan Pending Inside n s k b) (x ∷ xs) ≡ fold g (scan Pending Ended n s (k + 1) b) xs
@@ -182,15 +182,15 @@ module _ (g : Settings) (xs b : List ℕ) (n s k : ℕ) where
   from-skip = fold-same g Between n n s (k + 0) k b b xs refl (add-zero k) refl ∙ skip g xs b n s k
 
   -- the byte at j, and then those after it
-  at-place : (p : Phase) (j : ℕ) → j < length xs
+  at-offset : (p : Phase) (j : ℕ) → j < length xs
       → from g p n s k b j xs ≡ fold g (scan Pending p n s (k + j) b) (getD xs j 0 ∷ drop (j + 1) xs)
   unfolding from
-  at-place p j h = ap (λ (l : List ℕ). fold g (scan Pending p n s (k + j) b) l) (drop-more xs j h)
+  at-offset p j h = ap (λ (l : List ℕ). fold g (scan Pending p n s (k + j) b) l) (drop-more xs j h)
 
   pub from-opens : (j : ℕ) → j < length xs → getD xs j 0 ≡ g .«start_block» → from g Between n s k b j xs ≡ from g Inside 0 (k + j) k b (j + 1) xs
   unfolding from
   from-opens j h e =
-      at-place Between j h ∙ one-opens g _ (drop (j + 1) xs) b n s (k + j) (eq-eqb _ _ e)
+      at-offset Between j h ∙ one-opens g _ (drop (j + 1) xs) b n s (k + j) (eq-eqb _ _ e)
       ∙ fold-same g Inside 0 0 (k + j) _ _ b b _ refl (add-assoc k j 1) refl
 
   pub from-stretch : (i : ℕ) → capacityOf g ≤ length b
@@ -205,20 +205,20 @@ module _ (g : Settings) (xs b : List ℕ) (n s k : ℕ) where
       (drop-drop (clear (g .«start_block») (g .«end_block») (drop i xs)) i xs)
       ∙ fold-same g Inside _ _ s _ _ _ _ _ refl (add-assoc k i (clear (g .«start_block») (g .«end_block») (drop i xs))) refl
 
-  pub from-cut : (j : ℕ) → j < length xs → getD xs j 0 ≡ g .«start_block» → from g Inside n s k b j xs ≡ scan (Found s Cut) Inside 0 (k + j) (k + j + 1) b
-  from-cut j h e = at-place Inside j h ∙ one-cuts g _ (drop (j + 1) xs) b n s (k + j) (eq-eqb _ _ e)
+  pub from-interrupted : (j : ℕ) → j < length xs → getD xs j 0 ≡ g .«start_block» → from g Inside n s k b j xs ≡ scan (Found s Interrupted) Inside 0 (k + j) (k + j + 1) b
+  from-interrupted j h e = at-offset Inside j h ∙ one-interrupts g _ (drop (j + 1) xs) b n s (k + j) (eq-eqb _ _ e)
 
   pub from-ends : (j : ℕ) → j < length xs → (getD xs j 0 ≡ g .«start_block» → ⊥) → getD xs j 0 ≡ g .«end_block»
       → from g Inside n s k b j xs ≡ from g Ended n s k b (j + 1) xs
   unfolding from
   from-ends j h e f =
-      at-place Inside j h ∙ one-ends g _ (drop (j + 1) xs) b n s (k + j) (ne-eqb _ _ e) (eq-eqb _ _ f)
+      at-offset Inside j h ∙ one-ends g _ (drop (j + 1) xs) b n s (k + j) (ne-eqb _ _ e) (eq-eqb _ _ f)
       ∙ fold-same g Ended n n s _ _ b b _ refl (add-assoc k j 1) refl
 
   pub from-reopens : (j : ℕ) → j < length xs → getD xs j 0 ≡ g .«start_block»
       → from g Ended n s k b j xs ≡ scan (Found s (verdictOf g n b (getD xs j 0))) Inside 0 (k + j) (k + j + 1) b
-  from-reopens j h e = at-place Ended j h ∙ one-reopens g _ (drop (j + 1) xs) b n s (k + j) (eq-eqb _ _ e)
+  from-reopens j h e = at-offset Ended j h ∙ one-reopens g _ (drop (j + 1) xs) b n s (k + j) (eq-eqb _ _ e)
 
   pub from-closes : (j : ℕ) → j < length xs → (getD xs j 0 ≡ g .«start_block» → ⊥)
       → from g Ended n s k b j xs ≡ scan (Found s (verdictOf g n b (getD xs j 0))) Between 0 0 (k + j + 1) b
-  from-closes j h e = at-place Ended j h ∙ one-closes g _ (drop (j + 1) xs) b n s (k + j) (ne-eqb _ _ e)
+  from-closes j h e = at-offset Ended j h ∙ one-closes g _ (drop (j + 1) xs) b n s (k + j) (ne-eqb _ _ e)

@@ -1,4 +1,4 @@
--- What the contracts of the reader's private functions cite. Nobody needs to believe these: the public functions' contracts cite Scan and Whole alone.
+-- What the contracts of the reader's private functions cite. Nobody needs to believe these: no public function's contract cites them.
 use mathlib.Core.Path.{_≡_}
 use mathlib.Core.List.{List, [], _∷_, _++_}
 use mathlib.Core.Bool.{Bool, true, false, cond}
@@ -28,7 +28,7 @@ from g p n s k b i xs = fold g (scan Pending p n s (k + i) b) (drop i xs)
 -- what the reader's tests have shown before the scan
 pub record Ready (g : Settings) (k i : ℕ) (xs b : List ℕ) : Type 0 where
   pub limit : g .«data_limit» ≤ 99994
-  pub room : capacityOf g ≤ length b
+  pub enough : capacityOf g ≤ length b
   pub offsets : k + length xs < 2 ^ 64
   pub within : i ≤ length xs
 

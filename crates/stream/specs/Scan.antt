@@ -8,18 +8,18 @@ use Rattle.block.specs.Settings.{valid, capacityOf}
 use Rattle.block.specs.Judge.{judge}
 use Rattle.block.specs.declared.Settings.{Settings}
 use Rattle.block.specs.declared.Verdict.{Verdict}
-use Rattle.block.specs.declared.Verdict.the-variants.{Long, Shape, Cut}
+use Rattle.block.specs.declared.Verdict.the-variants.{Long, Shape, Interrupted}
 use Rattle.stream.specs.declared.Phase.{Phase}
 use Rattle.stream.specs.declared.Phase.the-variants.{Between, Inside, Ended}
 use Rattle.stream.specs.declared.Reader.{Reader}
 use Rattle.stream.specs.declared.Answer.{Answer}
-use Rattle.stream.specs.declared.Answer.the-variants.{Setting, Room, State, Pending, Found}
+use Rattle.stream.specs.declared.Answer.the-variants.{Setting, TooShort, State, Pending, Found}
 use Rattle.stream.specs.declared.Reading.{Reading}
 
 -- the number of each answer; a verdict has a number of its own
 abbrev pub answerNumber : Answer → ℕ
 answerNumber Setting = 1
-answerNumber Room = 2
+answerNumber TooShort = 2
 answerNumber State = 11
 answerNumber Pending = 0
 answerNumber (Found s v) = 0
@@ -54,7 +54,7 @@ abbrev pub phaseStep : Settings → Phase → ℕ → ℕ → ℕ → List ℕ �
 phaseStep g Between n s k b x =
     cond (eqb x (g .«start_block»)) (scan Pending Inside 0 k (k + 1) b) (scan Pending Between n s (k + 1) b)
 phaseStep g Inside n s k b x =
-    cond (eqb x (g .«start_block»)) (scan (Found s Cut) Inside 0 k (k + 1) b)
+    cond (eqb x (g .«start_block»)) (scan (Found s Interrupted) Inside 0 k (k + 1) b)
     (cond (eqb x (g .«end_block»)) (scan Pending Ended n s (k + 1) b) (keepStep g n s k b x))
 phaseStep g Ended n s k b x = endedStep g n s k b x
 
@@ -63,7 +63,7 @@ unfoldable pub step : Settings → Answer → Reader → List ℕ → ℕ → Sc
 step g Pending r b x = phaseStep g (r .phase) (r .«body_length») (r .«block_offset») (r .position) b x
 step g (Found s v) r b x = record { answer = Found s v; reader = r; buffer = b }
 step g Setting r b x = record { answer = Setting; reader = r; buffer = b }
-step g Room r b x = record { answer = Room; reader = r; buffer = b }
+step g TooShort r b x = record { answer = TooShort; reader = r; buffer = b }
 step g State r b x = record { answer = State; reader = r; buffer = b }
 
 unfoldable pub fold : Settings → Scan → List ℕ → Scan
@@ -88,7 +88,7 @@ scanned k t = record { reading = record { answer = t .answer; reader = t .reader
 unfoldable pub readOf : Settings → Reader → List ℕ → List ℕ → Read
 readOf g r xs b =
     cond (not (valid g)) (refused Setting r b)
-    (cond (ltb (length b) (capacityOf g)) (refused Room r b)
+    (cond (ltb (length b) (capacityOf g)) (refused TooShort r b)
     (cond (ltb (18446744073709551615 - r .position) (length xs)) (refused State r b)
     (scanned (r .position) (fold g (record { answer = Pending; reader = r; buffer = b }) xs))))
 

@@ -9,7 +9,7 @@ use Rattle.block.specs.Verdict.{lengthOf}
 use Rattle.block.specs.Judge.{judge}
 use Rattle.block.specs.declared.Settings.{Settings}
 use Rattle.block.specs.declared.Verdict.{Verdict}
-use Rattle.block.specs.declared.Verdict.the-variants.{Long, Shape, Cut}
+use Rattle.block.specs.declared.Verdict.the-variants.{Long, Shape, Interrupted}
 
 -- A verdict as it is given: the offset of the block's SB in the input, the verdict (with its number, place and type), and the data, empty where the block is refused.
 pub record Said : Type 0 where
@@ -50,7 +50,7 @@ opened g k x = cond (eqb x (g .«start_block»)) (inside k []) between
 unfoldable pub move : Settings → ℕ → Mode → ℕ → Moved
 move g k between x = moved [] (opened g k x)
 move g k (inside s body) x =
-    cond (eqb x (g .«start_block»)) (moved (said g s Cut body ∷ []) (inside k []))
+    cond (eqb x (g .«start_block»)) (moved (said g s Interrupted body ∷ []) (inside k []))
     (cond (eqb x (g .«end_block»)) (moved [] (ended s body)) (moved [] (inside s (body ++ x ∷ []))))
 move g k (ended s body) x = moved (said g s (outcome g body x) body ∷ []) (opened g k x)
 

@@ -38,7 +38,7 @@ fn whole_verdict(settings: Settings, block: &[u8]) -> Verdict
     let after = stop + 1;
     if block[stop] == settings.start_block {
         if after == block.len() {
-            return Verdict::Cut;
+            return Verdict::Interrupted;
         }
         return Verdict::Shape;
     }

@@ -34,7 +34,7 @@ pub struct Reader {
 pub enum Answer {
     // Refused by 1, 2, 11.
     Setting,
-    Room,
+    TooShort,
     State,
     // All of the part was read and brought no verdict.
     Pending,

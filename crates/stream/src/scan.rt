@@ -39,12 +39,12 @@ fn store(limit: usize, held: usize, piece: &[u8], buffer: &mut [u8]) -> usize
     if limit < held {
         return held;
     }
-    let room = limit - held;
-    if piece.len() <= room {
+    let remaining = limit - held;
+    if piece.len() <= remaining {
         lists::copy_bytes(&mut buffer[held..], piece);
         return held + piece.len();
     }
-    lists::copy_bytes(&mut buffer[held..], &piece[..room]);
+    lists::copy_bytes(&mut buffer[held..], &piece[..remaining]);
     limit + 1
 }
 
@@ -163,7 +163,7 @@ fn read_inside(
     }
     let x = part[stop];
     if x == settings.start_block {
-        return found_inside(start, Verdict::Cut, here, here + 1, stop + 1);
+        return found_inside(start, Verdict::Interrupted, here, here + 1, stop + 1);
     }
     read_ended(settings, held, start, position, part, stop + 1, buffer)
 }
@@ -222,7 +222,7 @@ pub fn read(settings: Settings, reader: Reader, part: &[u8], buffer: &mut [u8]) 
         return refuse(Answer::Setting, reader);
     }
     if buffer.len() < capacity(settings) {
-        return refuse(Answer::Room, reader);
+        return refuse(Answer::TooShort, reader);
     }
     if 18446744073709551615 - reader.position < part.len() {
         return refuse(Answer::State, reader);

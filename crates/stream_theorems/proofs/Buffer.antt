@@ -119,8 +119,8 @@ module _ (g : Settings) where
   -- bytes of a block, with the bytes before them in the buffer as far as they fit
   held-stored : (xs body : List ℕ) (k s : ℕ) (b : List ℕ) → capacityOf g ≤ length b → hasAny (g .«start_block») (g .«end_block») xs ≡ false
       → held g k (inside s body) b xs ≡ stored (capacityOf g) (length body) xs b
-  held-stored [] body k s b room h = held-none k (inside s body) b ∙ sym (stored-none (capacityOf g) (length body) b)
-  held-stored (x ∷ xs) body k s b room h =
+  held-stored [] body k s b enough h = held-none k (inside s body) b ∙ sym (stored-none (capacityOf g) (length body) b)
+  held-stored (x ∷ xs) body k s b enough h =
       let sb = g .«start_block» in
       let eb = g .«end_block» in
       let cap = capacityOf g in
@@ -130,9 +130,9 @@ module _ (g : Settings) where
       let n : length (body ++ x ∷ []) ≡ length body + 1 = length-append body (x ∷ []) in
       held-more k s x b body xs (or-first (eqb x sb) (eqb x eb) q) (or-second (eqb x sb) (eqb x eb) q)
       ∙ cond-ind (λ (c : List ℕ). held g (k + 1) (inside s (body ++ x ∷ [])) c xs ≡ stored cap (length body) (x ∷ xs) b) (ltb (length body) cap) _ _
-      (λ e. ih (set b (length body) x) (simp length-set room) ∙ rw n (stored-fits cap (length body) x xs b (ltb-true _ _ e) room))
+      (λ e. ih (set b (length body) x) (simp length-set enough) ∙ rw n (stored-fits cap (length body) x xs b (ltb-true _ _ e) enough))
       (λ e. let l : cap ≤ length body = ltb-false _ _ e in
-      ih b room ∙ stored-over cap (length (body ++ x ∷ [])) xs b (omega arith) ∙ sym (stored-over cap (length body) (x ∷ xs) b l))
+      ih b enough ∙ stored-over cap (length (body ++ x ∷ [])) xs b (omega arith) ∙ sym (stored-over cap (length body) (x ∷ xs) b l))
 
   -- ---- the current block
   stored-first : (cap : ℕ) (xs b : List ℕ) → stored cap 0 xs b ≡ put b 0 (take cap xs)
@@ -142,10 +142,10 @@ module _ (g : Settings) where
   -- After any bytes xs, then SB, then bytes of a block: the buffer is what it was before SB, with as many of them as fit written over its beginning.
   pub current-block : (xs body : List ℕ) (k : ℕ) (m : Mode) (b : List ℕ) → capacityOf g ≤ length b → hasAny (g .«start_block») (g .«end_block») body ≡ false
       → held g k m b (xs ++ g .«start_block» ∷ body) ≡ put (held g k m b xs) 0 (take (capacityOf g) body)
-  current-block xs body k m b room h =
+  current-block xs body k m b enough h =
       held-append g xs (g .«start_block» ∷ body) k m b
       ∙ held-start (k + length xs) (after g k m xs) (held g k m b xs) body
-      ∙ held-stored body [] (k + length xs + 1) (k + length xs) (held g k m b xs) (rw (held-length xs k m b) room) h
+      ∙ held-stored body [] (k + length xs + 1) (k + length xs) (held g k m b xs) (rw (held-length xs k m b) enough) h
       ∙ stored-first (capacityOf g) body (held g k m b xs)
 
   -- ---- after the block
@@ -184,17 +184,17 @@ module _ (g : Settings) where
   pub last-block : (xs body ys : List ℕ) (k : ℕ) (m : Mode) (b : List ℕ) → valid g ≡ true → capacityOf g ≤ length b
       → hasAny (g .«start_block») (g .«end_block») body ≡ false → hasAny (g .«start_block») (g .«start_block») ys ≡ false
       → held g k m b ((xs ++ g .«start_block» ∷ body) ++ g .«end_block» ∷ ys) ≡ put (held g k m b xs) 0 (take (capacityOf g) body)
-  last-block xs body ys k m b v room h f =
+  last-block xs body ys k m b v enough h f =
       let zs = xs ++ g .«start_block» ∷ body in
       held-append g zs (g .«end_block» ∷ ys) k m b
       ∙ ap (λ (n : Mode). held g (k + length zs) n (held g k m b zs) (g .«end_block» ∷ ys)) (mode-of xs body k m h)
       ∙ held-end ys (k + length zs) (k + length xs) (held g k m b zs) body (markers-differ g v) f
-      ∙ current-block xs body k m b room h
+      ∙ current-block xs body k m b enough h
 
 -- the same of a caller's buffer, in whatever parts the input came
 pub session-current-block : (g : Settings) (parts : List (List ℕ)) (xs body b : List ℕ) → valid g ≡ true → capacityOf g ≤ length b
     → length (joined parts) ≤ 18446744073709551615 → hasAny (g .«start_block») (g .«end_block») body ≡ false
     → joined parts ≡ xs ++ g .«start_block» ∷ body
     → session g fresh b parts .buffer ≡ put (held g 0 between b xs) 0 (take (capacityOf g) body)
-session-current-block g parts xs body b v room l h e =
-    session-buffer g b v room parts l ∙ ap (held g 0 between b) e ∙ current-block g xs body 0 between b room h
+session-current-block g parts xs body b v enough l h e =
+    session-buffer g b v enough parts l ∙ ap (held g 0 between b) e ∙ current-block g xs body 0 between b enough h

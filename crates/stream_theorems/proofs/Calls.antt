@@ -15,7 +15,7 @@ use Rattle.stream.specs.declared.Phase.{Phase}
 use Rattle.stream.specs.declared.Phase.the-variants.{Between, Inside, Ended}
 use Rattle.stream.specs.declared.Reader.{Reader}
 use Rattle.stream.specs.declared.Answer.{Answer}
-use Rattle.stream.specs.declared.Answer.the-variants.{Setting, Room, State, Pending, Found}
+use Rattle.stream.specs.declared.Answer.the-variants.{Setting, TooShort, State, Pending, Found}
 
 -- from position k the scan is now at most n bytes further, and not before j
 record Moves (j k n : ℕ) (t : Scan) : Type 0 where
@@ -40,7 +40,7 @@ module _ (g : Settings) where
   step-moves Pending r b x = let e = step-pending r b x in record { least = omega arith; most = omega arith }
   step-moves (Found s v) r b x = record { least = omega arith; most = omega arith }
   step-moves Setting r b x = record { least = omega arith; most = omega arith }
-  step-moves Room r b x = record { least = omega arith; most = omega arith }
+  step-moves TooShort r b x = record { least = omega arith; most = omega arith }
   step-moves State r b x = record { least = omega arith; most = omega arith }
 
   fold-moves : (xs : List ℕ) (t : Scan) → Moves (t .reader .position) (t .reader .position) (length xs) (fold g t xs)

@@ -114,7 +114,7 @@ one-state cap k b c m p q n i s j (is-ended {body = body} f) (is-ended h) = rw (
 pub one-reader : (g : Settings) (k : ℕ) (m : Mode) (r q : Reader) (b c : List ℕ) → Stands g k m r b → Stands g k m q c → r ≡ q
 one-reader g k m r q b c h f =
     one-state (capacityOf g) (r .position) b c m (r .phase) (q .phase) (r .«body_length») (q .«body_length») (r .«block_offset») (q .«block_offset») (h .related) (f .related)
-    ∙ ap (λ (i : ℕ). record { phase = q .phase; «body_length» = q .«body_length»; «block_offset» = q .«block_offset»; position = i }) (h .place ∙ sym (f .place))
+    ∙ ap (λ (i : ℕ). record { phase = q .phase; «body_length» = q .«body_length»; «block_offset» = q .«block_offset»; position = i }) (h .position ∙ sym (f .position))
 
 one-served : (g : Settings) (k : ℕ) (m : Mode) (b xs : List ℕ) (t u : Served) → Serves g k m b xs t → Serves g k m b xs u → t ≡ u
 one-served g k m b xs t u p q =
@@ -146,12 +146,12 @@ same-from g v parts others k m r b e l h =
     one-served g k m b (joined others) (session g r b parts) (session g r b others) (rw e at (session-from g v parts k m r b l h)) (session-from g v others k m r b (rw e at l) h)
 
 pub fresh-stands : (g : Settings) (b : List ℕ) → capacityOf g ≤ length b → Stands g 0 between fresh b
-fresh-stands g b h = record { place = refl; room = h; related = is-between }
+fresh-stands g b h = record { position = refl; enough = h; related = is-between }
 
-module _ (g : Settings) (b : List ℕ) (v : valid g ≡ true) (room : capacityOf g ≤ length b) where
+module _ (g : Settings) (b : List ℕ) (v : valid g ≡ true) (enough : capacityOf g ≤ length b) where
   pub session-is : (parts : List (List ℕ)) → length (joined parts) ≤ 18446744073709551615
       → Serves g 0 between b (joined parts) (session g fresh b parts)
-  session-is parts l = session-from g v parts 0 between fresh b (omega arith) (fresh-stands g b room)
+  session-is parts l = session-from g v parts 0 between fresh b (omega arith) (fresh-stands g b enough)
 
   pub session-verdicts : (parts : List (List ℕ)) → length (joined parts) ≤ 18446744073709551615
       → session g fresh b parts .says ≡ verdicts g (joined parts)
@@ -165,4 +165,4 @@ module _ (g : Settings) (b : List ℕ) (v : valid g ≡ true) (room : capacityOf
   pub same-for-any-parts : (parts others : List (List ℕ)) → joined parts ≡ joined others → length (joined parts) ≤ 18446744073709551615
       → session g fresh b parts ≡ session g fresh b others
   same-for-any-parts parts others e l =
-      same-from g v parts others 0 between fresh b e (omega arith) (fresh-stands g b room)
+      same-from g v parts others 0 between fresh b e (omega arith) (fresh-stands g b enough)

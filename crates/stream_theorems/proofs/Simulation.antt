@@ -15,7 +15,7 @@ use Rattle.block.specs.Settings.{valid, capacityOf, dataOffsetOf}
 use Rattle.block.specs.Verdict.{lengthOf}
 use Rattle.block.specs.declared.Settings.{Settings}
 use Rattle.block.specs.declared.Verdict.{Verdict}
-use Rattle.block.specs.declared.Verdict.the-variants.{Cut}
+use Rattle.block.specs.declared.Verdict.the-variants.{Interrupted}
 use Rattle.stream.specs.Stream.{Said, Mode, between, inside, ended, Moved, said, contentOf, outcome, move, run, after, hold, held}
 use Rattle.stream.specs.Scan.{Scan, verdictOf, phaseStep, step, fold, readOf}
 use Rattle.stream.specs.declared.Phase.{Phase}
@@ -40,8 +40,8 @@ pub data Related (cap : ℕ) (b : List ℕ) : Phase → ℕ → ℕ → Mode →
 
 -- the reader, with its buffer, stands at offset k of an input, in the mode m
 pub record Stands (g : Settings) (k : ℕ) (m : Mode) (r : Reader) (b : List ℕ) : Type 0 where
-  pub place : r .position ≡ k
-  pub room : capacityOf g ≤ length b
+  pub position : r .position ≡ k
+  pub enough : capacityOf g ≤ length b
   pub related : Related (capacityOf g) b (r .phase) (r .«body_length») (r .«block_offset») m
 
 -- an answer of a call that was not refused
@@ -68,13 +68,13 @@ length-more : (body : List ℕ) (x : ℕ) → length (body ++ x ∷ []) ≡ leng
 length-more body x = length-append body (x ∷ [])
 
 -- whether a byte fits is the same test on both sides
-same-room : (cap n : ℕ) (b body : List ℕ) → Holds cap n b body → ltb (length body) cap ≡ ltb n cap
-same-room cap n b body (fits e l t) = rw e
-same-room cap n b body (over l m t) = le-ltb (length body) cap (omega arith) ∙ sym (le-ltb n cap (omega arith))
+same-space : (cap n : ℕ) (b body : List ℕ) → Holds cap n b body → ltb (length body) cap ≡ ltb n cap
+same-space cap n b body (fits e l t) = rw e
+same-space cap n b body (over l m t) = le-ltb (length body) cap (omega arith) ∙ sym (le-ltb n cap (omega arith))
 
-same-place : (cap n : ℕ) (b body : List ℕ) → Holds cap n b body → n < cap → n ≡ length body
-same-place cap n b body (fits e l t) h = e
-same-place cap n b body (over l m t) h = absurd (omega arith)
+same-start : (cap n : ℕ) (b body : List ℕ) → Holds cap n b body → n < cap → n ≡ length body
+same-start cap n b body (fits e l t) h = e
+same-start cap n b body (over l m t) h = absurd (omega arith)
 
 stores : (cap n x : ℕ) (b body : List ℕ) → cap ≤ length b → n < cap → Holds cap n b body → Holds cap (n + 1) (set b n x) (body ++ x ∷ [])
 stores cap n x b body r h (fits e l t) =
@@ -119,12 +119,12 @@ same-said g n s x b body h =
     ∙ ap (λ (c : List ℕ). record { offset = s; verdict = outcome g body x; content = c }) (same-content g n x b body h)
 
 -- ---- one byte
-module _ (g : Settings) (n s k x : ℕ) (b : List ℕ) (room : capacityOf g ≤ length b) where
+module _ (g : Settings) (n s k x : ℕ) (b : List ℕ) (enough : capacityOf g ≤ length b) where
   at-start : Stands g (k + 1) (inside k []) (record { phase = Inside; «body_length» = 0; «block_offset» = k; position = k + 1 }) b
-  at-start = record { place = refl; room = room; related = is-inside (holds-none (capacityOf g) b) }
+  at-start = record { position = refl; enough = enough; related = is-inside (holds-none (capacityOf g) b) }
 
   at-between : Stands g (k + 1) between (record { phase = Between; «body_length» = 0; «block_offset» = 0; position = k + 1 }) b
-  at-between = record { place = refl; room = room; related = is-between }
+  at-between = record { position = refl; enough = enough; related = is-between }
 
   step-between : Follows g k (move g k between x) (hold g between b x) (phaseStep g Between 0 0 k b x)
   unfolding move hold
@@ -147,29 +147,29 @@ module _ (g : Settings) (n s k x : ℕ) (b : List ℕ) (room : capacityOf g ≤ 
   unfolding move hold
   step-inside body h =
       by-test (eqb x (g .«start_block»))
-      (λ e. rw e (record { live = found; says = ap (λ (c : List ℕ). record { offset = s; verdict = Cut; content = c } ∷ []) (content-none g Cut b body refl); stands = at-start; buffer = refl }))
+      (λ e. rw e (record { live = found; says = ap (λ (c : List ℕ). record { offset = s; verdict = Interrupted; content = c } ∷ []) (content-none g Interrupted b body refl); stands = at-start; buffer = refl }))
       (λ e. by-test (eqb x (g .«end_block»))
-      (λ f. rw (e, f) (record { live = pending; says = refl; stands = record { place = refl; room = room; related = is-ended h }; buffer = refl }))
-      (λ f. rw (e, f, same-room (capacityOf g) n b body h)
+      (λ f. rw (e, f) (record { live = pending; says = refl; stands = record { position = refl; enough = enough; related = is-ended h }; buffer = refl }))
+      (λ f. rw (e, f, same-space (capacityOf g) n b body h)
       (by-test (ltb n (capacityOf g))
       (λ a. let l : n < capacityOf g = ltb-true _ _ a in
-      let c = stores (capacityOf g) n x b body room l h in
-      rw a (record { live = pending; says = refl; stands = record { place = refl; room = simp length-set room; related = is-inside c }; buffer = ap (λ (i : ℕ). set b i x) (same-place (capacityOf g) n b body h l) }))
+      let c = stores (capacityOf g) n x b body enough l h in
+      rw a (record { live = pending; says = refl; stands = record { position = refl; enough = simp length-set enough; related = is-inside c }; buffer = ap (λ (i : ℕ). set b i x) (same-start (capacityOf g) n b body h l) }))
       (λ a. let l : capacityOf g ≤ n = ltb-false _ _ a in
       let c = passes (capacityOf g) n x b body l h in
-      rw a (record { live = pending; says = refl; stands = record { place = refl; room = room; related = is-inside c }; buffer = refl })))))
+      rw a (record { live = pending; says = refl; stands = record { position = refl; enough = enough; related = is-inside c }; buffer = refl })))))
 
 one-byte : (g : Settings) (k x : ℕ) (m : Mode) (p : Phase) (n s : ℕ) (b : List ℕ) → capacityOf g ≤ length b → Related (capacityOf g) b p n s m
     → Follows g k (move g k m x) (hold g m b x) (phaseStep g p n s k b x)
-one-byte g k x m p n s b room is-between = step-between g 0 0 k x b room
-one-byte g k x m p n s b room (is-inside {body = body} h) = step-inside g n s k x b room body h
-one-byte g k x m p n s b room (is-ended {body = body} h) = step-ended g n s k x b room body h
+one-byte g k x m p n s b enough is-between = step-between g 0 0 k x b enough
+one-byte g k x m p n s b enough (is-inside {body = body} h) = step-inside g n s k x b enough body h
+one-byte g k x m p n s b enough (is-ended {body = body} h) = step-ended g n s k x b enough body h
 
 -- the byte x at offset k
 pub step-follows : (g : Settings) (k x : ℕ) (m : Mode) (r : Reader) (b : List ℕ) → Stands g k m r b
     → Follows g k (move g k m x) (hold g m b x) (step g Pending r b x)
 unfolding step
-step-follows g k x m r b h = rw (h .place) (one-byte g k x m (r .phase) (r .«body_length») (r .«block_offset») b (h .room) (h .related))
+step-follows g k x m r b h = rw (h .position) (one-byte g k x m (r .phase) (r .«body_length») (r .«block_offset») b (h .enough) (h .related))
 
 -- ---- one call
 -- what ended it after n of l bytes: the end of the part, or a verdict
@@ -190,7 +190,7 @@ pub record Folded (g : Settings) (k : ℕ) (m : Mode) (b xs : List ℕ) (t : Sca
   pub reaches : Reaches g k m b xs count (t .answer) (t .reader) (t .buffer)
 
 pub stands-at : {g : Settings} {k j : ℕ} {m : Mode} {r : Reader} {b : List ℕ} → k ≡ j → Stands g k m r b → Stands g j m r b
-stands-at e h = record { place = h .place ∙ e; room = h .room; related = h .related }
+stands-at e h = record { position = h .position ∙ e; enough = h .enough; related = h .related }
 
 reads-none : (g : Settings) (k : ℕ) (m : Mode) (r : Reader) (b : List ℕ) → Stands g k m r b → Reaches g k m b [] 0 Pending r b
 unfolding run after held
@@ -245,7 +245,7 @@ pub read-reaches : (g : Settings) (k : ℕ) (m : Mode) (r : Reader) (xs b : List
 read-reaches g k m r xs b e l h =
     let t = fold g (record { answer = Pending; reader = r; buffer = b }) xs in
     let d = fold-reaches g xs k m r b h in
-    let p : r .position ≡ k = h .place in
-    let q : t .reader .position ≡ k + d .count = d .reaches .stands .place in
+    let p : r .position ≡ k = h .position in
+    let q : t .reader .position ≡ k + d .count = d .reaches .stands .position in
     let u : t .reader .position - r .position ≡ d .count = omega arith in
-    rw (← read-scan g r xs b e (h .room) (omega arith), u) (d .reaches)
+    rw (← read-scan g r xs b e (h .enough) (omega arith), u) (d .reaches)

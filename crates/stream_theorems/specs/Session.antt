@@ -7,7 +7,7 @@ use Rattle.stream.specs.Stream.{Said, said}
 use Rattle.stream.specs.Scan.{readOf}
 use Rattle.stream.specs.declared.Reader.{Reader}
 use Rattle.stream.specs.declared.Answer.{Answer}
-use Rattle.stream.specs.declared.Answer.the-variants.{Setting, Room, State, Pending, Found}
+use Rattle.stream.specs.declared.Answer.the-variants.{Setting, TooShort, State, Pending, Found}
 
 -- the verdicts that the caller was given, and the reader and the buffer that it has then
 pub record Served : Type 0 where
@@ -23,7 +23,7 @@ abbrev pub spoken : Settings → Answer → List ℕ → List Said
 spoken g (Found s v) b = said g s v b ∷ []
 spoken g Pending b = []
 spoken g Setting b = []
-spoken g Room b = []
+spoken g TooShort b = []
 spoken g State b = []
 
 -- after a verdict the caller goes on, otherwise it stops
@@ -31,7 +31,7 @@ abbrev pub goOn : Answer → Served → Served → Served
 goOn (Found s v) later stop = later
 goOn Pending later stop = stop
 goOn Setting later stop = stop
-goOn Room later stop = stop
+goOn TooShort later stop = stop
 goOn State later stop = stop
 
 abbrev pub andThen : List Said → Served → Served

@@ -18,7 +18,7 @@ use Rattle.block.specs.declared.Kind.the-variants.{Hybrid, Minimal}
 use Rattle.block.specs.declared.Settings.{Settings}
 use Rattle.writer.specs.Write.{Outcome, frameOf, needOf, typeValid, refused, wrote, writeOf}
 use Rattle.writer.specs.Internal.{hybridHeader, hybridTrailer}
-use Rattle.writer.specs.declared.Written.the-variants.{Setting, Room, Long, Shape, Byte, Block}
+use Rattle.writer.specs.declared.Written.the-variants.{Setting, TooShort, Long, Shape, Byte, Block}
 
 -- the part from b on, lent after the bytes vs were written from a on, and come back with ws at its beginning
 pub next-part : (l m vs ws last : List ℕ) (a b n : ℕ) → m ≡ put l a vs → b ≡ a + length vs → length ws ≡ n → a + length vs ≤ length l
@@ -84,39 +84,39 @@ need-is s t d = go (s .kind)
     go Minimal = length-minimal s d
 
 -- the room, as the code tests it
-pub room-left : (have place frame size : ℕ) → place ≤ have → frame ≤ have - place → leb size (have - place - frame) ≡ leb (place + (size + frame)) have
-room-left have place frame size h l = go (decLe size (have - place - frame))
+pub space-left : (have start frame size : ℕ) → start ≤ have → frame ≤ have - start → leb size (have - start - frame) ≡ leb (start + (size + frame)) have
+space-left have start frame size h l = go (decLe size (have - start - frame))
   where
-    go : Dec (size ≤ have - place - frame) → leb size (have - place - frame) ≡ leb (place + (size + frame)) have
-    go (yes e) = le-leb size (have - place - frame) e ∙ sym (le-leb (place + (size + frame)) have (omega arith))
-    go (no e) = lt-leb size (have - place - frame) (omega arith) ∙ sym (lt-leb (place + (size + frame)) have (omega arith))
+    go : Dec (size ≤ have - start - frame) → leb size (have - start - frame) ≡ leb (start + (size + frame)) have
+    go (yes e) = le-leb size (have - start - frame) e ∙ sym (le-leb (start + (size + frame)) have (omega arith))
+    go (no e) = lt-leb size (have - start - frame) (omega arith) ∙ sym (lt-leb (start + (size + frame)) have (omega arith))
 
 -- what the writer says, by the first test that fails
-module _ (s : Settings) (t : ℕ) (d : List ℕ) (place : ℕ) (b : List ℕ) where
-  pub write-setting : valid s ≡ false → refused Setting b ≡ writeOf s t d place b
+module _ (s : Settings) (t : ℕ) (d : List ℕ) (start : ℕ) (b : List ℕ) where
+  pub write-setting : valid s ≡ false → refused Setting b ≡ writeOf s t d start b
   unfolding writeOf
   write-setting e = rw e
 
-  pub write-room : valid s ≡ true → leb (place + needOf s d) (length b) ≡ false → refused Room b ≡ writeOf s t d place b
+  pub write-too-short : valid s ≡ true → leb (start + needOf s d) (length b) ≡ false → refused TooShort b ≡ writeOf s t d start b
   unfolding writeOf
-  write-room e f = rw (e, f)
+  write-too-short e f = rw (e, f)
 
-  pub write-long : valid s ≡ true → leb (place + needOf s d) (length b) ≡ true → s .«data_limit» < length d → refused Long b ≡ writeOf s t d place b
+  pub write-long : valid s ≡ true → leb (start + needOf s d) (length b) ≡ true → s .«data_limit» < length d → refused Long b ≡ writeOf s t d start b
   unfolding writeOf
   write-long e f g = rw (e, f, lt-leb _ _ g)
 
-  pub write-shape : valid s ≡ true → leb (place + needOf s d) (length b) ≡ true → length d ≤ s .«data_limit» → typeValid (s .kind) t d ≡ false
-      → refused Shape b ≡ writeOf s t d place b
+  pub write-shape : valid s ≡ true → leb (start + needOf s d) (length b) ≡ true → length d ≤ s .«data_limit» → typeValid (s .kind) t d ≡ false
+      → refused Shape b ≡ writeOf s t d start b
   unfolding writeOf
   write-shape e f g h = rw (e, f, le-leb _ _ g, h)
 
-  pub write-byte : valid s ≡ true → leb (place + needOf s d) (length b) ≡ true → length d ≤ s .«data_limit» → typeValid (s .kind) t d ≡ true
-      → allAllowed d ≡ false → refused (Byte (firstForbidden d)) b ≡ writeOf s t d place b
+  pub write-byte : valid s ≡ true → leb (start + needOf s d) (length b) ≡ true → length d ≤ s .«data_limit» → typeValid (s .kind) t d ≡ true
+      → allAllowed d ≡ false → refused (Byte (firstForbidden d)) b ≡ writeOf s t d start b
   unfolding writeOf
   write-byte e f g h i = rw (e, f, le-leb _ _ g, h, i)
 
-  pub write-all : valid s ≡ true → leb (place + needOf s d) (length b) ≡ true → length d ≤ s .«data_limit» → typeValid (s .kind) t d ≡ true
-      → allAllowed d ≡ true → wrote b place (blockOf s t d) ≡ writeOf s t d place b
+  pub write-all : valid s ≡ true → leb (start + needOf s d) (length b) ≡ true → length d ≤ s .«data_limit» → typeValid (s .kind) t d ≡ true
+      → allAllowed d ≡ true → wrote b start (blockOf s t d) ≡ writeOf s t d start b
   unfolding writeOf
   write-all e f g h i = rw (e, f, le-leb _ _ g, h, i)
 
@@ -128,13 +128,13 @@ module _ (s : Settings) (t : ℕ) (d : List ℕ) (place : ℕ) (b : List ℕ) wh
   unfolding blockOf
   block-minimal e = rw e
 
-pub wrote-is : (b : List ℕ) (place n : ℕ) (m block whole : List ℕ) → n ≡ length block → m ≡ put b place block → block ≡ whole
-    → _≡_ {A = Outcome} (record { answer = Block n; buffer = m }) (wrote b place whole)
-wrote-is b place n m block whole e f g = rw (e, f, g)
+pub wrote-is : (b : List ℕ) (start n : ℕ) (m block whole : List ℕ) → n ≡ length block → m ≡ put b start block → block ≡ whole
+    → _≡_ {A = Outcome} (record { answer = Block n; buffer = m }) (wrote b start whole)
+wrote-is b start n m block whole e f g = rw (e, f, g)
 
 -- the room that was tested, for each kind
-pub room-hybrid : (k : Kind) (place n : ℕ) (d : List ℕ) → leb (place + (length d + frameOf k)) n ≡ true → k ≡ Hybrid → place + (length d + 15) ≤ n
-room-hybrid k place n d h e = leb-true (place + (length d + 15)) n (rw e at h)
+pub space-hybrid : (k : Kind) (start n : ℕ) (d : List ℕ) → leb (start + (length d + frameOf k)) n ≡ true → k ≡ Hybrid → start + (length d + 15) ≤ n
+space-hybrid k start n d h e = leb-true (start + (length d + 15)) n (rw e at h)
 
-pub room-minimal : (k : Kind) (place n : ℕ) (d : List ℕ) → leb (place + (length d + frameOf k)) n ≡ true → k ≡ Minimal → place + (length d + 3) ≤ n
-room-minimal k place n d h e = leb-true (place + (length d + 3)) n (rw e at h)
+pub space-minimal : (k : Kind) (start n : ℕ) (d : List ℕ) → leb (start + (length d + frameOf k)) n ≡ true → k ≡ Minimal → start + (length d + 3) ≤ n
+space-minimal k start n d h e = leb-true (start + (length d + 3)) n (rw e at h)

@@ -11,30 +11,30 @@ use Rattle.block.specs.Settings.{valid}
 use Rattle.block.specs.declared.Kind.{Kind}
 use Rattle.block.specs.declared.Settings.{Settings}
 use Rattle.writer.specs.declared.Written.{Written}
-use Rattle.writer.specs.declared.Written.the-variants.{Setting, Room, Long, Shape, Byte, Block}
+use Rattle.writer.specs.declared.Written.the-variants.{Setting, TooShort, Long, Shape, Byte, Block}
 
 -- the number of each answer; 0 where the block was written
 abbrev pub numberOf : Written → ℕ
 numberOf Setting = 1
-numberOf Room = 2
+numberOf TooShort = 2
 numberOf Long = 4
 numberOf Shape = 5
 numberOf (Byte p) = 3
 numberOf (Block n) = 0
 
 -- "Except 3, the place is 0."
-abbrev pub placeOf : Written → ℕ
-placeOf Setting = 0
-placeOf Room = 0
-placeOf Long = 0
-placeOf Shape = 0
-placeOf (Byte p) = p
-placeOf (Block n) = 0
+abbrev pub forbiddenOffsetOf : Written → ℕ
+forbiddenOffsetOf Setting = 0
+forbiddenOffsetOf TooShort = 0
+forbiddenOffsetOf Long = 0
+forbiddenOffsetOf Shape = 0
+forbiddenOffsetOf (Byte p) = p
+forbiddenOffsetOf (Block n) = 0
 
 -- the length of the block that was written; 0 for a refusal
 abbrev pub lengthOf : Written → ℕ
 lengthOf Setting = 0
-lengthOf Room = 0
+lengthOf TooShort = 0
 lengthOf Long = 0
 lengthOf Shape = 0
 lengthOf (Byte p) = 0
@@ -63,17 +63,17 @@ refused w b = record { answer = w; buffer = b }
 
 -- "the bytes before that place and after the block are unchanged"
 abbrev pub wrote : List ℕ → ℕ → List ℕ → Outcome
-wrote b place block = record { answer = Block (length block); buffer = put b place block }
+wrote b start block = record { answer = Block (length block); buffer = put b start block }
 
 -- "every act first 1, 2, 11; .. any other act 4, 5, 3": the block of type t with data d, written into b from the place on
 unfoldable pub writeOf : Settings → ℕ → List ℕ → ℕ → List ℕ → Outcome
-writeOf s t d place b =
+writeOf s t d start b =
     cond (valid s)
-    (cond (leb (place + needOf s d) (length b))
+    (cond (leb (start + needOf s d) (length b))
     (cond (leb (length d) (s .«data_limit»))
     (cond (typeValid (s .kind) t d)
-    (cond (allAllowed d) (wrote b place (blockOf s t d)) (refused (Byte (firstForbidden d)) b))
+    (cond (allAllowed d) (wrote b start (blockOf s t d)) (refused (Byte (firstForbidden d)) b))
     (refused Shape b))
     (refused Long b))
-    (refused Room b))
+    (refused TooShort b))
     (refused Setting b)

@@ -45,17 +45,17 @@ pub fn write_block(
     t: u8,
     content: &[u8],
     buffer: &mut [u8],
-    place: usize,
+    start: usize,
 ) -> usize
-    requires { ⌜ place + (length (now content) + 15) ≤ length (now buffer) ⌝ }
+    requires { ⌜ start + (length (now content) + 15) ≤ length (now buffer) ⌝ }
     ensures { λ r. ⌜ r ≡ length (hybridBlock settings t (now (content .entry))) ⌝ }
-    ensures { λ r. ⌜ now (buffer .exit) ≡ put (now (buffer .entry)) place (hybridBlock settings t (now (content .entry))) ⌝ }
+    ensures { λ r. ⌜ now (buffer .exit) ≡ put (now (buffer .entry)) start (hybridBlock settings t (now (content .entry))) ⌝ }
 {
     let size = content.len();
     let sum = block::block_checksum(settings.start_block, t, content);
-    let after_header = place + 5;
+    let after_header = start + 5;
     let after_content = after_header + size;
-    write_header(&mut buffer[place..], settings.start_block, t);
+    write_header(&mut buffer[start..], settings.start_block, t);
     write_content(&mut buffer[after_header..], content);
     write_trailer(
         &mut buffer[after_content..],

@@ -8,13 +8,13 @@ use block::Settings;
 ghost use mathlib.Core.Path.{_≡_};
 ghost use Prim.Native.Nat.{_+_};
 ghost use lib.Dec.{leb};
-ghost use Rattle.writer.specs.Write.{Outcome, numberOf, placeOf, lengthOf, frameOf, typeValid, writeOf};
+ghost use Rattle.writer.specs.Write.{Outcome, numberOf, forbiddenOffsetOf, lengthOf, frameOf, typeValid, writeOf};
 
 // What writing a block gives.
 pub enum Written {
     // Refused by 1, 2, 4, 5.
     Setting,
-    Room,
+    TooShort,
     Long,
     Shape,
     // Refused by 3: the offset in the data of the first byte that is not allowed.
@@ -30,7 +30,7 @@ impl Written {
     {
         match self {
             Written::Setting => 1,
-            Written::Room => 2,
+            Written::TooShort => 2,
             Written::Long => 4,
             Written::Shape => 5,
             Written::Byte(_) => 3,
@@ -38,15 +38,15 @@ impl Written {
         }
     }
 
-    pub fn place(self) -> usize
-        ensures { λ r. ⌜ r ≡ placeOf self ⌝ }
+    pub fn forbidden_offset(self) -> usize
+        ensures { λ r. ⌜ r ≡ forbiddenOffsetOf self ⌝ }
     {
         match self {
             Written::Setting => 0,
-            Written::Room => 0,
+            Written::TooShort => 0,
             Written::Long => 0,
             Written::Shape => 0,
-            Written::Byte(place) => place,
+            Written::Byte(offset) => offset,
             Written::Block(_) => 0,
         }
     }
@@ -57,7 +57,7 @@ impl Written {
     {
         match self {
             Written::Setting => 0,
-            Written::Room => 0,
+            Written::TooShort => 0,
             Written::Long => 0,
             Written::Shape => 0,
             Written::Byte(_) => 0,
@@ -77,13 +77,13 @@ fn frame(kind: Kind) -> usize
 }
 
 // Whether a block's frame and data fit from the place on in a buffer of `have` bytes.
-fn has_room(have: usize, place: usize, frame: usize, size: usize) -> bool
-    ensures { λ r. ⌜ r ≡ leb (place + (size + frame)) have ⌝ }
+fn is_long_enough(have: usize, start: usize, frame: usize, size: usize) -> bool
+    ensures { λ r. ⌜ r ≡ leb (start + (size + frame)) have ⌝ }
 {
-    if have < place {
+    if have < start {
         return false;
     }
-    let rest = have - place;
+    let rest = have - start;
     if rest < frame {
         return false;
     }
@@ -101,15 +101,15 @@ fn type_valid(kind: Kind, t: u8, content: &[u8]) -> bool
 }
 
 // Writes a block with this type and data into the buffer from the place on. A refusal writes nothing.
-pub fn write(settings: Settings, t: u8, content: &[u8], buffer: &mut [u8], place: usize) -> Written
-    ensures { λ r. ⌜ _≡_ {A = Outcome} (record { answer = r; buffer = now (buffer .exit) }) (writeOf settings t (now (content .entry)) place (now (buffer .entry))) ⌝ }
+pub fn write(settings: Settings, t: u8, content: &[u8], buffer: &mut [u8], start: usize) -> Written
+    ensures { λ r. ⌜ _≡_ {A = Outcome} (record { answer = r; buffer = now (buffer .exit) }) (writeOf settings t (now (content .entry)) start (now (buffer .entry))) ⌝ }
 {
     let kind = settings.kind;
     if !settings.is_valid() {
         return Written::Setting;
     }
-    if !has_room(buffer.len(), place, frame(kind), content.len()) {
-        return Written::Room;
+    if !is_long_enough(buffer.len(), start, frame(kind), content.len()) {
+        return Written::TooShort;
     }
     if settings.data_limit < content.len() {
         return Written::Long;
@@ -121,7 +121,7 @@ pub fn write(settings: Settings, t: u8, content: &[u8], buffer: &mut [u8], place
         return Written::Byte(block::first_forbidden(content));
     }
     match kind {
-        Kind::Hybrid => Written::Block(hybrid::write_block(settings, t, content, buffer, place)),
-        Kind::Minimal => Written::Block(minimal::write_block(settings, content, buffer, place)),
+        Kind::Hybrid => Written::Block(hybrid::write_block(settings, t, content, buffer, start)),
+        Kind::Minimal => Written::Block(minimal::write_block(settings, content, buffer, start)),
     }
 }

@@ -26,15 +26,15 @@ fn write_trailer(out: &mut [u8], end_block: u8)
 }
 
 // Writes the block from the place on, and returns its length.
-pub fn write_block(settings: Settings, content: &[u8], buffer: &mut [u8], place: usize) -> usize
-    requires { ⌜ place + (length (now content) + 3) ≤ length (now buffer) ⌝ }
+pub fn write_block(settings: Settings, content: &[u8], buffer: &mut [u8], start: usize) -> usize
+    requires { ⌜ start + (length (now content) + 3) ≤ length (now buffer) ⌝ }
     ensures { λ r. ⌜ r ≡ length (minimalBlock settings (now (content .entry))) ⌝ }
-    ensures { λ r. ⌜ now (buffer .exit) ≡ put (now (buffer .entry)) place (minimalBlock settings (now (content .entry))) ⌝ }
+    ensures { λ r. ⌜ now (buffer .exit) ≡ put (now (buffer .entry)) start (minimalBlock settings (now (content .entry))) ⌝ }
 {
     let size = content.len();
-    let after_header = place + 1;
+    let after_header = start + 1;
     let after_content = after_header + size;
-    write_header(&mut buffer[place..], settings.start_block);
+    write_header(&mut buffer[start..], settings.start_block);
     write_content(&mut buffer[after_header..], content);
     write_trailer(&mut buffer[after_content..], settings.end_block);
     size + 3

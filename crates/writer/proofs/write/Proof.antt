@@ -3,7 +3,7 @@ use borrow.Author.Tests.{not-true, not-false}
 use Rattle.block.specs.Format.{hybridBlock, minimalBlock, blockOf}
 use Rattle.writer.specs.Write.{refused}
 use Rattle.writer.specs.declared.Written.the-variants.{Byte}
-use Rattle.writer.proofs.Laws.{write-setting, write-room, write-long, write-shape, write-byte, write-all, block-hybrid, block-minimal, wrote-is, room-hybrid, room-minimal}
+use Rattle.writer.proofs.Laws.{write-setting, write-too-short, write-long, write-shape, write-byte, write-all, block-hybrid, block-minimal, wrote-is, space-hybrid, space-minimal}
 use borrow.Author.Needs.{needs}
 use Rattle.writer.proofs.write.Statement.{statement}
 use Rattle.writer.proofs.write.Tie as tie
@@ -16,13 +16,13 @@ returns c =
     let at1 = c in
     let a = at1 .before .before .before .before .args in
     let settings = sym (at1 .before .is-valid .ensures) ∙ not-true _ (at1 .if1 .taken) in
-    write-setting (a .settings) (a .t) (a .content .now) (a .place) (a .buffer .now) settings
+    write-setting (a .settings) (a .t) (a .content .now) (a .start) (a .buffer .now) settings
 
 frame-requires : tie.Need-frame-requires
 frame-requires c κs = search needs
 
-has-room-requires : tie.Need-has-room-requires
-has-room-requires c κs = search needs
+is-long-enough-requires : tie.Need-is-long-enough-requires
+is-long-enough-requires c κs = search needs
 
 returns-2 : tie.Need-returns-2
 returns-2 c =
@@ -30,8 +30,8 @@ returns-2 c =
     let at1 = at2 .before .before .before in
     let a = at1 .before .before .before .before .args in
     let settings = sym (at1 .before .is-valid .ensures) ∙ not-false _ (at1 .if1 .left) in
-    let room = sym (rw (at2 .before .before .frame .ensures) at (at2 .before .has-room .ensures)) ∙ not-true _ (at2 .if2 .taken) in
-    write-room (a .settings) (a .t) (a .content .now) (a .place) (a .buffer .now) settings room
+    let enough = sym (rw (at2 .before .before .frame .ensures) at (at2 .before .is-long-enough .ensures)) ∙ not-true _ (at2 .if2 .taken) in
+    write-too-short (a .settings) (a .t) (a .content .now) (a .start) (a .buffer .now) settings enough
 
 returns-3 : tie.Need-returns-3
 returns-3 c =
@@ -40,8 +40,8 @@ returns-3 c =
     let at1 = at2 .before .before .before in
     let a = at1 .before .before .before .before .args in
     let settings = sym (at1 .before .is-valid .ensures) ∙ not-false _ (at1 .if1 .left) in
-    let room = sym (rw (at2 .before .before .frame .ensures) at (at2 .before .has-room .ensures)) ∙ not-false _ (at2 .if2 .left) in
-    write-long (a .settings) (a .t) (a .content .now) (a .place) (a .buffer .now) settings room (at3 .if3 .taken)
+    let enough = sym (rw (at2 .before .before .frame .ensures) at (at2 .before .is-long-enough .ensures)) ∙ not-false _ (at2 .if2 .left) in
+    write-long (a .settings) (a .t) (a .content .now) (a .start) (a .buffer .now) settings enough (at3 .if3 .taken)
 
 type-valid-requires : tie.Need-type-valid-requires
 type-valid-requires c κs = search needs
@@ -54,9 +54,9 @@ returns-4 c =
     let at1 = at2 .before .before .before in
     let a = at1 .before .before .before .before .args in
     let settings = sym (at1 .before .is-valid .ensures) ∙ not-false _ (at1 .if1 .left) in
-    let room = sym (rw (at2 .before .before .frame .ensures) at (at2 .before .has-room .ensures)) ∙ not-false _ (at2 .if2 .left) in
+    let enough = sym (rw (at2 .before .before .frame .ensures) at (at2 .before .is-long-enough .ensures)) ∙ not-false _ (at2 .if2 .left) in
     let type = sym (at4 .before .type-valid .ensures) ∙ not-true _ (at4 .if4 .taken) in
-    write-shape (a .settings) (a .t) (a .content .now) (a .place) (a .buffer .now) settings room (at3 .if3 .left) type
+    write-shape (a .settings) (a .t) (a .content .now) (a .start) (a .buffer .now) settings enough (at3 .if3 .left) type
 
 are-allowed-requires : tie.Need-are-allowed-requires
 are-allowed-requires c κs = search needs
@@ -73,11 +73,11 @@ returns-5 c =
     let at1 = at2 .before .before .before in
     let a = at1 .before .before .before .before .args in
     let settings = sym (at1 .before .is-valid .ensures) ∙ not-false _ (at1 .if1 .left) in
-    let room = sym (rw (at2 .before .before .frame .ensures) at (at2 .before .has-room .ensures)) ∙ not-false _ (at2 .if2 .left) in
+    let enough = sym (rw (at2 .before .before .frame .ensures) at (at2 .before .is-long-enough .ensures)) ∙ not-false _ (at2 .if2 .left) in
     let type = sym (at4 .before .type-valid .ensures) ∙ not-false _ (at4 .if4 .left) in
     let bytes = sym (at5 .before .are-allowed .ensures) ∙ not-true _ (at5 .if5 .taken) in
     ap (λ n. refused (Byte n) (a .buffer .now)) (c .first-forbidden .ensures)
-    ∙ write-byte (a .settings) (a .t) (a .content .now) (a .place) (a .buffer .now) settings room (at3 .if3 .left) type bytes
+    ∙ write-byte (a .settings) (a .t) (a .content .now) (a .start) (a .buffer .now) settings enough (at3 .if3 .left) type bytes
 
 enum-told : tie.Need-enum-told
 enum-told c = search needs
@@ -90,8 +90,8 @@ write-block-requires c κs =
     let at2 = at3 .before .before in
     let at1 = at2 .before .before .before in
     let a = at1 .before .before .before .before .args in
-    let room = sym (rw (at2 .before .before .frame .ensures) at (at2 .before .has-room .ensures)) ∙ not-false _ (at2 .if2 .left) in
-    room-hybrid (a .settings .kind) (a .place) _ (a .content .now) room (c .before .enum-told .given .1)
+    let enough = sym (rw (at2 .before .before .frame .ensures) at (at2 .before .is-long-enough .ensures)) ∙ not-false _ (at2 .if2 .left) in
+    space-hybrid (a .settings .kind) (a .start) _ (a .content .now) enough (c .before .enum-told .given .1)
 
 enum-told-2 : tie.Need-enum-told-2
 enum-told-2 c = search needs
@@ -104,8 +104,8 @@ write-block-requires-2 c κs =
     let at2 = at3 .before .before in
     let at1 = at2 .before .before .before in
     let a = at1 .before .before .before .before .args in
-    let room = sym (rw (at2 .before .before .frame .ensures) at (at2 .before .has-room .ensures)) ∙ not-false _ (at2 .if2 .left) in
-    room-minimal (a .settings .kind) (a .place) _ (a .content .now) room (c .before .enum-told2 .given .1)
+    let enough = sym (rw (at2 .before .before .frame .ensures) at (at2 .before .is-long-enough .ensures)) ∙ not-false _ (at2 .if2 .left) in
+    space-minimal (a .settings .kind) (a .start) _ (a .content .now) enough (c .before .enum-told2 .given .1)
 
 same-length : tie.Need-same-length
 same-length c = search needs
@@ -119,13 +119,13 @@ returns-6 c =
     let at1 = at2 .before .before .before in
     let a = at1 .before .before .before .before .args in
     let settings = sym (at1 .before .is-valid .ensures) ∙ not-false _ (at1 .if1 .left) in
-    let room = sym (rw (at2 .before .before .frame .ensures) at (at2 .before .has-room .ensures)) ∙ not-false _ (at2 .if2 .left) in
+    let enough = sym (rw (at2 .before .before .frame .ensures) at (at2 .before .is-long-enough .ensures)) ∙ not-false _ (at2 .if2 .left) in
     let type = sym (at4 .before .type-valid .ensures) ∙ not-false _ (at4 .if4 .left) in
     let bytes = sym (at5 .before .are-allowed .ensures) ∙ not-false _ (at5 .if5 .left) in
     let block = c .before .before .write-block in
-    wrote-is (a .buffer .now) (a .place) (block .result) _ (hybridBlock (a .settings) (a .t) (a .content .now)) (blockOf (a .settings) (a .t) (a .content .now)) (block .ensures .0)
-    (block .ensures .1) (block-hybrid (a .settings) (a .t) (a .content .now) (a .place) (a .buffer .now) (c .before .before .before .before .enum-told .given .1))
-    ∙ write-all (a .settings) (a .t) (a .content .now) (a .place) (a .buffer .now) settings room (at3 .if3 .left) type bytes
+    wrote-is (a .buffer .now) (a .start) (block .result) _ (hybridBlock (a .settings) (a .t) (a .content .now)) (blockOf (a .settings) (a .t) (a .content .now)) (block .ensures .0)
+    (block .ensures .1) (block-hybrid (a .settings) (a .t) (a .content .now) (a .start) (a .buffer .now) (c .before .before .before .before .enum-told .given .1))
+    ∙ write-all (a .settings) (a .t) (a .content .now) (a .start) (a .buffer .now) settings enough (at3 .if3 .left) type bytes
 
 same-length-2 : tie.Need-same-length-2
 same-length-2 c = search needs
@@ -139,13 +139,13 @@ returns-7 c =
     let at1 = at2 .before .before .before in
     let a = at1 .before .before .before .before .args in
     let settings = sym (at1 .before .is-valid .ensures) ∙ not-false _ (at1 .if1 .left) in
-    let room = sym (rw (at2 .before .before .frame .ensures) at (at2 .before .has-room .ensures)) ∙ not-false _ (at2 .if2 .left) in
+    let enough = sym (rw (at2 .before .before .frame .ensures) at (at2 .before .is-long-enough .ensures)) ∙ not-false _ (at2 .if2 .left) in
     let type = sym (at4 .before .type-valid .ensures) ∙ not-false _ (at4 .if4 .left) in
     let bytes = sym (at5 .before .are-allowed .ensures) ∙ not-false _ (at5 .if5 .left) in
     let block = c .before .before .write-block2 in
-    wrote-is (a .buffer .now) (a .place) (block .result) _ (minimalBlock (a .settings) (a .content .now)) (blockOf (a .settings) (a .t) (a .content .now)) (block .ensures .0)
-    (block .ensures .1) (block-minimal (a .settings) (a .t) (a .content .now) (a .place) (a .buffer .now) (c .before .before .before .before .enum-told2 .given .1))
-    ∙ write-all (a .settings) (a .t) (a .content .now) (a .place) (a .buffer .now) settings room (at3 .if3 .left) type bytes
+    wrote-is (a .buffer .now) (a .start) (block .result) _ (minimalBlock (a .settings) (a .content .now)) (blockOf (a .settings) (a .t) (a .content .now)) (block .ensures .0)
+    (block .ensures .1) (block-minimal (a .settings) (a .t) (a .content .now) (a .start) (a .buffer .now) (c .before .before .before .before .enum-told2 .given .1))
+    ∙ write-all (a .settings) (a .t) (a .content .now) (a .start) (a .buffer .now) settings enough (at3 .if3 .left) type bytes
 
 pub write-spec : {M : Type 1} → statement M
 write-spec =
@@ -154,7 +154,7 @@ write-spec =
     is-valid-requires
     returns
     frame-requires
-    has-room-requires
+    is-long-enough-requires
     returns-2
     returns-3
     type-valid-requires

@@ -23,8 +23,8 @@ number-requires c κs = search needs
 slice-write-words-3 : tie.Need-slice-write-words-3
 slice-write-words-3 c = simp length-set (omega arith)
 
-place-requires : tie.Need-place-requires
-place-requires c κs = search needs
+forbidden-offset-requires : tie.Need-forbidden-offset-requires
+forbidden-offset-requires c κs = search needs
 
 word-requires-2 : tie.Need-word-requires-2
 word-requires-2 c κs = search needs
@@ -41,8 +41,8 @@ byte-word-requires c κs = search needs
 slice-write-words-5 : tie.Need-slice-write-words-5
 slice-write-words-5 c = simp length-set (omega arith)
 
-data-place-requires : tie.Need-data-place-requires
-data-place-requires c κs = search needs
+data-start-requires : tie.Need-data-start-requires
+data-start-requires c κs = search needs
 
 word-requires-3 : tie.Need-word-requires-3
 word-requires-3 c κs = search needs
@@ -70,7 +70,7 @@ same-length c = simp length-set
 
 returns : tie.Need-returns
 unfolding verdictWords
-returns c = eight (c .before .before .before .before .before .before .before .before .before .before .before .before .args .words .now) _ _ _ _ _ _ _ _ (c .before .before .before .before .before .before .before .before .before .before .before .before .pre) ∙ rw (c .before .before .before .before .before .before .before .before .before .before .word .ensures, c .before .before .before .before .before .before .before .before .before .number .ensures, c .before .before .before .before .before .before .before .word2 .ensures, c .before .before .before .before .before .before .before .before .place .ensures, c .before .before .before .before .before .byte-word .ensures, c .before .before .before .before .before .before .block-type .ensures, c .before .before .before .word3 .ensures, c .before .before .before .before .data-place .ensures, c .before .word4 .ensures, c .before .before .data-length .ensures, c .word5 .ensures)
+returns c = eight (c .before .before .before .before .before .before .before .before .before .before .before .before .args .words .now) _ _ _ _ _ _ _ _ (c .before .before .before .before .before .before .before .before .before .before .before .before .pre) ∙ rw (c .before .before .before .before .before .before .before .before .before .before .word .ensures, c .before .before .before .before .before .before .before .before .before .number .ensures, c .before .before .before .before .before .before .before .word2 .ensures, c .before .before .before .before .before .before .before .before .forbidden-offset .ensures, c .before .before .before .before .before .byte-word .ensures, c .before .before .before .before .before .before .block-type .ensures, c .before .before .before .word3 .ensures, c .before .before .before .before .data-start .ensures, c .before .word4 .ensures, c .before .before .data-length .ensures, c .word5 .ensures)
 
 pub write-verdict-spec : {M : Type 1} → statement M
 write-verdict-spec =
@@ -81,13 +81,13 @@ write-verdict-spec =
     slice-write-words-2
     number-requires
     slice-write-words-3
-    place-requires
+    forbidden-offset-requires
     word-requires-2
     slice-write-words-4
     block-type-requires
     byte-word-requires
     slice-write-words-5
-    data-place-requires
+    data-start-requires
     word-requires-3
     slice-write-words-6
     data-length-requires

@@ -14,7 +14,7 @@ same-length : tie.Need-same-length
 same-length c = search needs
 
 returns : tie.Need-returns
-returns c = two (c .args .report .now) (c .args .block-length) (c .args .place) (c .pre)
+returns c = two (c .args .report .now) (c .args .block-length) (c .args .offset) (c .pre)
 
 pub write-report-spec : {M : Type 1} → statement M
 write-report-spec =

@@ -4,7 +4,7 @@ use Prim.Native.Nat.{_+_, _<_}
 use native.Mathlib.Omega.{arith}
 use lib.ListN.{length, getD}
 use borrow.Author.Needs.{needs}
-use Rattle.stream.proofs.Checks.{Begins, check-unfinished, check-cut, check-cut-early, check-open, check-early, check-verdict}
+use Rattle.stream.proofs.Checks.{Begins, check-unfinished, check-interrupted, check-interrupted-early, check-open, check-early, check-verdict}
 use Rattle.stream.proofs.Store.{stopped, stop-byte}
 use Rattle.stream.proofs.check.whole_verdict.Statement.{statement}
 use Rattle.stream.proofs.check.whole_verdict.Tie as tie
@@ -44,10 +44,10 @@ shared-slice-read-if2 : tie.Need-shared-slice-read-if2
 shared-slice-read-if2 c = omega (arith, begins (c .before .before) .stop .most)
 
 returns-2 : tie.Need-returns-2
-returns-2 c = check-cut _ _ _ (begins (c .before .before .before .before .before)) (c .before .if2 .taken) (c .if3 .taken)
+returns-2 c = check-interrupted _ _ _ (begins (c .before .before .before .before .before)) (c .before .if2 .taken) (c .if3 .taken)
 
 returns-3 : tie.Need-returns-3
-returns-3 c = check-cut-early _ _ _ (begins (c .before .before .before .before .before)) (c .before .if2 .taken) (omega (arith, begins (c .before .before .before .before .before) .stop .most))
+returns-3 c = check-interrupted-early _ _ _ (begins (c .before .before .before .before .before)) (c .before .if2 .taken) (omega (arith, begins (c .before .before .before .before .before) .stop .most))
 
 returns-4 : tie.Need-returns-4
 returns-4 c = check-open _ _ _ (begins (c .before .before .before .before .before)) (c .before .if2 .left) (end-byte (c .before .before .before .before .before) (omega arith) (c .before .if2 .left)) (c .if4 .taken)

@@ -4,7 +4,7 @@ use native.Mathlib.Omega.{arith}
 use borrow.Author.Tests.{not-true, not-false}
 use borrow.Author.Needs.{needs}
 use Rattle.block.proofs.Laws.{valid-limit}
-use Rattle.stream.proofs.Returns.{read-setting, read-room, read-state, read-scanned}
+use Rattle.stream.proofs.Returns.{read-setting, read-too-short, read-state, read-scanned}
 use Rattle.stream.specs.declared.Reading.{Reading}
 use Rattle.stream.specs.Scan.{given}
 use Rattle.stream.proofs.scan.read.Statement.{statement}
@@ -31,7 +31,7 @@ returns-2 : tie.Need-returns-2
 returns-2 c =
     let a = c .before .before .before .before .before .before .before .args in
     let e = c .before .before .capacity .ensures in
-    ap (λ (r : Reading). given r (a .buffer .now)) (c .refuse2 .ensures) ∙ read-room (a .settings) (a .reader) (a .part .now) (a .buffer .now) (sym (c .before .before .before .before .is-valid .ensures) ∙ not-false _ (c .before .before .before .if1 .left)) (omega arith)
+    ap (λ (r : Reading). given r (a .buffer .now)) (c .refuse2 .ensures) ∙ read-too-short (a .settings) (a .reader) (a .part .now) (a .buffer .now) (sym (c .before .before .before .before .is-valid .ensures) ∙ not-false _ (c .before .before .before .if1 .left)) (omega arith)
 
 sub-if3 : tie.Need-sub-if3
 sub-if3 c = search needs
@@ -49,7 +49,7 @@ read-part-requires : tie.Need-read-part-requires
 read-part-requires c κs =
     let a = c .before .before .before .before .before .before .before .before .before .args in
     let e = c .before .before .before .before .capacity .ensures in
-    record { limit = valid-limit (a .settings) (sym (c .before .before .before .before .before .before .is-valid .ensures) ∙ not-false _ (c .before .before .before .before .before .if1 .left)); room = omega arith; offsets = omega arith; within = omega arith }
+    record { limit = valid-limit (a .settings) (sym (c .before .before .before .before .before .before .is-valid .ensures) ∙ not-false _ (c .before .before .before .before .before .if1 .left)); enough = omega arith; offsets = omega arith; within = omega arith }
 
 same-length : tie.Need-same-length
 same-length c = search needs

@@ -33,7 +33,7 @@ add-read-inside : tie.Need-add-read-inside
 add-read-inside c = omega (arith, stop-most (c .before))
 
 read-inside-requires : tie.Need-read-inside-requires
-read-inside-requires c κs = record { limit = c .before .before .before .before .before .pre .limit; room = c .before .before .before .before .before .pre .room; offsets = c .before .before .before .before .before .pre .offsets; within = omega (arith, stop-most (c .before .before)) }
+read-inside-requires c κs = record { limit = c .before .before .before .before .before .pre .limit; enough = c .before .before .before .before .before .pre .enough; offsets = c .before .before .before .before .before .pre .offsets; within = omega (arith, stop-most (c .before .before)) }
 
 same-length : tie.Need-same-length
 same-length c = search needs

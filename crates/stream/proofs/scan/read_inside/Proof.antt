@@ -7,7 +7,7 @@ use lib.ListN.{length}
 use borrow.Author.Needs.{needs}
 use Rattle.stream.specs.Internal.{from}
 use Rattle.stream.specs.declared.Phase.the-variants.{Inside}
-use Rattle.stream.proofs.Steps.{from-end, from-cut, from-ends}
+use Rattle.stream.proofs.Steps.{from-end, from-interrupted, from-ends}
 use Rattle.stream.proofs.Store.{reads, reads-also, Stopped, stopped, stop-byte, after-store, capacity-most}
 use Rattle.stream.proofs.scan.read_inside.Statement.{statement}
 use Rattle.stream.proofs.scan.read_inside.Tie as tie
@@ -25,7 +25,7 @@ stored-at : (c : tie.After-store)
 stored-at c =
     let a = c .before .before .before .before .before .before .before .before .args in
     after-store (a .settings) (a .part .now) (a .buffer .now) (c .store .last .1 .1 .1 .0) (a .held) (a .start) (a .position) (a .at) (c .before .before .before .before .find-stop .result) (c .before .before .before .capacity .result) (c .store .result)
-    (stop-at (c .before .before .before .before)) (c .before .before .before .capacity .ensures) (c .before .before .before .before .before .before .before .before .pre .room) (c .store .ensures .0) (c .store .ensures .1)
+    (stop-at (c .before .before .before .before)) (c .before .before .before .capacity .ensures) (c .before .before .before .before .before .before .before .before .pre .enough) (c .store .ensures .0) (c .store .ensures .1)
 
 sub-find-stop : tie.Need-sub-find-stop
 sub-find-stop c = search needs
@@ -94,7 +94,7 @@ returns-2 c =
     let a = c .before .before .before .before .before .before .before .before .before .before .before .before .before .before .before .args in
     let h : a .at + c .before .before .before .before .before .before .before .before .before .before .before .find-stop .result < length (a .part .now) = omega (arith, stop-at (c .before .before .before .before .before .before .before .before .before .before .before) .most) in
     reads _ _ _ _ _ _ _ (c .found-inside .ensures)
-    (sym (stored-at (c .before .before .before .before .before .before .before) ∙ from-cut (a .settings) (a .part .now) (c .before .before .before .before .before .before .before .store .last .1 .1 .1 .0) (c .before .before .before .before .before .before .before .store .result) (a .start) (a .position) (a .at + c .before .before .before .before .before .before .before .before .before .before .before .find-stop .result) h (c .before .if2 .taken))) (add-assoc _ _ _)
+    (sym (stored-at (c .before .before .before .before .before .before .before) ∙ from-interrupted (a .settings) (a .part .now) (c .before .before .before .before .before .before .before .store .last .1 .1 .1 .0) (c .before .before .before .before .before .before .before .store .result) (a .start) (a .position) (a .at + c .before .before .before .before .before .before .before .before .before .before .before .find-stop .result) h (c .before .if2 .taken))) (add-assoc _ _ _)
 
 add-read-ended : tie.Need-add-read-ended
 add-read-ended c = omega (arith, stop-at (c .before .before .before .before .before .before .before .before .before .before) .most)
@@ -102,7 +102,7 @@ add-read-ended c = omega (arith, stop-at (c .before .before .before .before .bef
 read-ended-requires : tie.Need-read-ended-requires
 read-ended-requires c κs =
     let k : length (c .before .before .before .before .before .before .before .store .last .1 .1 .1 .0) ≡ length (c .before .before .before .before .before .before .before .before .before .before .before .before .before .before .before .args .buffer .now) = c .before .before .before .before .before .before .before .store .kept .1 .1 .1 .0 in
-    record { limit = c .before .before .before .before .before .before .before .before .before .before .before .before .before .before .before .pre .limit; room = omega (arith, c .before .before .before .before .before .before .before .before .before .before .before .before .before .before .before .pre .room); offsets = c .before .before .before .before .before .before .before .before .before .before .before .before .before .before .before .pre .offsets; within = omega (arith, stop-at (c .before .before .before .before .before .before .before .before .before .before .before) .most) }
+    record { limit = c .before .before .before .before .before .before .before .before .before .before .before .before .before .before .before .pre .limit; enough = omega (arith, c .before .before .before .before .before .before .before .before .before .before .before .before .before .before .before .pre .enough); offsets = c .before .before .before .before .before .before .before .before .before .before .before .before .before .before .before .pre .offsets; within = omega (arith, stop-at (c .before .before .before .before .before .before .before .before .before .before .before) .most) }
 
 same-length-3 : tie.Need-same-length-3
 same-length-3 c = search needs

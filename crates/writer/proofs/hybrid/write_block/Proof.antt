@@ -78,10 +78,10 @@ returns c =
     let sum = checksumOf (s .«start_block») (a .t) d in (
       length-hybrid s (a .t) d,
       three-parts (a .buffer .now) (hybridHeader (s .«start_block») (a .t)) d (hybridTrailer (5 + length d) sum (s .«end_block»))
-          (header .last .0) (content .last .0) (trailer .last .0) _ _ (a .place) 5 10 (length-header (s .«start_block») (a .t))
+          (header .last .0) (content .last .0) (trailer .last .0) _ _ (a .start) 5 10 (length-header (s .«start_block») (a .t))
           (length-trailer (5 + length d) sum (s .«end_block»)) (c .before .before .before .before .before .before .before .before .before .before .before .before .before .before .before .pre) (header .ensures) refl (content .ensures) refl
           (rw (c .before .before .before .before .before .before .before .before .before .before .before .before .block-checksum .ensures) at (trailer .ensures))
-          ∙ ap (λ (z : List ℕ). put (a .buffer .now) (a .place) z) (hybrid-is s (a .t) d),
+          ∙ ap (λ (z : List ℕ). put (a .buffer .now) (a .start) z) (hybrid-is s (a .t) d),
     )
 
 pub write-block-spec : {M : Type 1} → statement M

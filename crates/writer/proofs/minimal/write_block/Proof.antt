@@ -65,8 +65,8 @@ returns c =
     let trailer = c .before .before .write-trailer in (
       length-minimal s d,
       three-parts (a .buffer .now) (s .«start_block» ∷ []) d (s .«end_block» ∷ 13 ∷ []) (header .last .0) (content .last .0) (trailer .last .0)
-          _ _ (a .place) 1 2 refl refl (c .before .before .before .before .before .before .before .before .before .before .before .before .before .before .pre) (header .ensures) refl (content .ensures) refl (trailer .ensures)
-          ∙ ap (λ (z : List ℕ). put (a .buffer .now) (a .place) z) (minimal-is s d),
+          _ _ (a .start) 1 2 refl refl (c .before .before .before .before .before .before .before .before .before .before .before .before .before .before .pre) (header .ensures) refl (content .ensures) refl (trailer .ensures)
+          ∙ ap (λ (z : List ℕ). put (a .buffer .now) (a .start) z) (minimal-is s d),
     )
 
 pub write-block-spec : {M : Type 1} → statement M
