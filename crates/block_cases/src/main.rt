@@ -4,7 +4,7 @@ use block::Made;
 use block::Settings;
 use libc::STDOUT_FILENO;
 use stream::Answer;
-use stream::Checked;
+use whole_block::Checked;
 use stream::Reader;
 
 const DATA_LIMIT: usize = 16;
@@ -34,7 +34,7 @@ fn write_and_check(settings: Settings, content: &[u8], buffer: &mut [u8]) {
 }
 
 fn print_check(settings: Settings, bytes: &[u8]) {
-    let Checked::Judged(verdict) = stream::check_block(settings, bytes) else {
+    let Checked::Judged(verdict) = whole_block::check_block(settings, bytes) else {
         print_number(1);
         return;
     };

@@ -4,7 +4,7 @@ use Rattle.block.specs.Format.{fiveDigits, threeDigits, countField, checksumOf,
 use Rattle.block.specs.Judge.{same, typeMatches, headerOk, checksumMatches, judgeParts, dataOf, judgeHybrid, judge}
 use Rattle.block.specs.Settings.{valid}
 use Rattle.stream.specs.Stream.{contentOf, outcome, move, run}
-use Rattle.stream.specs.Whole.{wholeOf, checkOf}
+use Rattle.whole_block.specs.Whole.{wholeOf, checkOf}
 use Rattle.block_theorems.specs.Cases.{Each, none, _and_, cases}
 
 -- "The P cases are proved of the definitions as one list under one claim"

@@ -6,7 +6,7 @@ use lib.ListN.{length}
 use Rattle.block.specs.Format.{blockOf}
 use Rattle.block.specs.declared.Settings.{Settings}
 use Rattle.stream.specs.Stream.{Said, Mode, between, run, after}
-use Rattle.stream.specs.Whole.{initial}
+use Rattle.whole_block.specs.Whole.{initial}
 use Rattle.stream.specs.declared.Reader.{Reader}
 use Rattle.stream_theorems.specs.Session.{Served, session, joined}
 use Rattle.stream_theorems.proofs.Simulation.{Stands}

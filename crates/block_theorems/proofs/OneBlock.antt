@@ -16,9 +16,9 @@ use Rattle.block.specs.declared.Verdict.{Verdict}
 use Rattle.block.specs.declared.Verdict.the-variants.{Accepted, Shape}
 use Rattle.stream.proofs.Run.{run-append}
 use Rattle.stream.specs.Stream.{Said, Mode, between, inside, ended, Moved, moved, move, run, after, verdicts}
-use Rattle.stream.proofs.Checks.{check-setting, check-judged}
-use Rattle.stream.specs.Whole.{beginsWith, only, initial, wholeOf, checkOf}
-use Rattle.stream.specs.declared.Checked.the-variants.{Setting, Judged}
+use Rattle.whole_block.proofs.Checks.{check-setting, check-judged}
+use Rattle.whole_block.specs.Whole.{beginsWith, only, initial, wholeOf, checkOf}
+use Rattle.whole_block.specs.declared.Checked.the-variants.{Setting, Judged}
 use Rattle.block_theorems.proofs.Accepted.{body-good}
 use Rattle.block_theorems.proofs.RoundTrip.{good-reads}
 use Rattle.block_theorems.proofs.Standing.{run-any, standing-accepted, accepted-stands}

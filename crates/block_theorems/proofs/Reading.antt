@@ -12,7 +12,7 @@ use Rattle.block.specs.Format.{allowed}
 use Rattle.block.specs.declared.Settings.{Settings}
 use Rattle.stream.proofs.Run.{run-append, after-append, free-run, free-after}
 use Rattle.stream.specs.Stream.{Said, Mode, between, inside, ended, said, move, run, after, outcome}
-use Rattle.stream.specs.Whole.{initial}
+use Rattle.whole_block.specs.Whole.{initial}
 use Rattle.block_theorems.proofs.Bytes.{Apart}
 use Rattle.block_theorems.specs.Shapes.{framed}
 

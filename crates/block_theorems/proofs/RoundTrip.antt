@@ -17,9 +17,9 @@ use Rattle.block.specs.declared.Settings.{Settings}
 use Rattle.block.specs.declared.Verdict.{Verdict}
 use Rattle.block.specs.declared.Verdict.the-variants.{Accepted}
 use Rattle.stream.specs.Stream.{Said, between, said, contentOf, run, outcome, verdicts}
-use Rattle.stream.specs.Whole.{initial, wholeOf, checkOf}
-use Rattle.stream.specs.declared.Checked.the-variants.{Judged}
-use Rattle.stream.proofs.Checks.{check-judged}
+use Rattle.whole_block.specs.Whole.{initial, wholeOf, checkOf}
+use Rattle.whole_block.specs.declared.Checked.the-variants.{Judged}
+use Rattle.whole_block.proofs.Checks.{check-judged}
 use Rattle.writer.proofs.Laws.{length-hybrid, length-minimal}
 use Rattle.writer.specs.Write.{typeValid}
 use Rattle.block_theorems.proofs.Bytes.{Apart, valid-apart, allowed-free, three-allowed, body-allowed}

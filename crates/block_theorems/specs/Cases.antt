@@ -8,9 +8,9 @@ use Rattle.block.specs.declared.Kind.the-variants.{Hybrid}
 use Rattle.block.specs.declared.Settings.{Settings}
 use Rattle.block.specs.declared.Verdict.the-variants.{Accepted, Shape, Count, Check, Interrupted}
 use Rattle.stream.specs.Stream.{Said, verdicts}
-use Rattle.stream.specs.Whole.{checkOf}
-use Rattle.stream.specs.declared.Checked.{Checked}
-use Rattle.stream.specs.declared.Checked.the-variants.{Judged}
+use Rattle.whole_block.specs.Whole.{checkOf}
+use Rattle.whole_block.specs.declared.Checked.{Checked}
+use Rattle.whole_block.specs.declared.Checked.the-variants.{Judged}
 
 infixr 2 _and_
 -- "with default settings and D of 4,096"

@@ -12,7 +12,7 @@ use Rattle.block.specs.declared.Kind.the-variants.{Hybrid, Minimal}
 use Rattle.block.specs.declared.Settings.{Settings}
 use Rattle.block.specs.declared.Verdict.the-variants.{Accepted}
 use Rattle.stream.specs.Stream.{Said, between, run, after, verdicts}
-use Rattle.stream.specs.Whole.{initial, wholeOf}
+use Rattle.whole_block.specs.Whole.{initial, wholeOf}
 use Rattle.writer.specs.Write.{typeValid}
 
 -- SB, the bytes of a block, EB and CR

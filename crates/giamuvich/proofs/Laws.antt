@@ -16,8 +16,8 @@ use Rattle.block.specs.declared.Settings.{Settings}
 use Rattle.block.specs.declared.Made.the-variants.{Valid, Refused}
 use Rattle.stream.specs.Scan.{Read, given}
 use Rattle.stream.specs.declared.Reading.{Reading}
-use Rattle.stream.specs.declared.Checked.{Checked}
-use Rattle.stream.specs.Whole.{checkOf}
+use Rattle.whole_block.specs.declared.Checked.{Checked}
+use Rattle.whole_block.specs.Whole.{checkOf}
 use Rattle.stream.specs.declared.Answer.{Answer}
 use Rattle.stream.specs.declared.Answer.the-variants.{Setting, TooShort, State, Pending, Found}
 use Rattle.stream.specs.declared.Phase.the-variants.{Between, Inside, Ended}

@@ -10,12 +10,12 @@ use Rattle.block.specs.declared.Verdict.{Verdict}
 use Rattle.block.specs.declared.Made.{Made}
 use Rattle.block.specs.declared.Made.the-variants.{Valid, Refused}
 use Rattle.stream.specs.Scan.{Read, readOf, fresh, answerNumber}
-use Rattle.stream.specs.Whole.{checkOf, checkedNumber}
+use Rattle.whole_block.specs.Whole.{checkOf, checkedNumber}
 use Rattle.stream.specs.declared.Reader.{Reader}
 use Rattle.stream.specs.declared.Answer.{Answer}
 use Rattle.stream.specs.declared.Answer.the-variants.{Setting, TooShort, State, Pending, Found}
-use Rattle.stream.specs.declared.Checked.{Checked}
-use Rattle.stream.specs.declared.Checked.the-variants.{Setting as BadSetting, Judged}
+use Rattle.whole_block.specs.declared.Checked.{Checked}
+use Rattle.whole_block.specs.declared.Checked.the-variants.{Setting as BadSetting, Judged}
 use Rattle.writer.specs.Write.{Outcome, writeOf, numberOf as writtenNumber, forbiddenOffsetOf as writtenForbiddenOffset, lengthOf as writtenLength}
 use Rattle.writer.specs.declared.Written.{Written}
 use Rattle.writer.specs.declared.Written.the-variants.{Block, Setting as WrongSetting, TooShort as WriterTooShort, Long as LongContent, Shape as WrongType, Byte as ForbiddenByte}

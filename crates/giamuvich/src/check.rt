@@ -2,7 +2,7 @@
 use crate::words::write_verdict;
 use block::Made;
 use block::Settings;
-use stream::Checked;
+use whole_block::Checked;
 ghost use mathlib.Core.Path.{_≡_};
 ghost use Rattle.block.specs.Settings.{hybridOf, minimalOf};
 ghost use Rattle.giamuvich.specs.Calls.{checkCalled, checkCall};
@@ -16,7 +16,7 @@ fn check_words(made: Made, block: &[u8], verdict: &mut [u64]) -> u64
     if verdict.len() < 8 {
         return 2;
     }
-    let Checked::Judged(judged) = stream::check_block(settings, block) else {
+    let Checked::Judged(judged) = whole_block::check_block(settings, block) else {
         return 1;
     };
     write_verdict(verdict, 0, judged, settings.data_offset() + 1, block.len());

@@ -2,4 +2,3 @@ pub mod Steps
 pub mod Store
 pub mod Returns
 pub mod Run
-pub mod Checks

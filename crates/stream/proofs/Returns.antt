@@ -8,7 +8,7 @@ use native.Mathlib.Omega.{arith}
 use native.Mathlib.Decide.{decLe}
 use lib.ListN.{length, take, drop, length-drop}
 use lib.Seq.{take-all, take-nil}
-use lib.Dec.{leb}
+use lib.Dec.{leb, ltb}
 use borrow.Author.Tests.{lt-ltb, le-ltb, le-leb, lt-leb}
 use Rattle.lists.proofs.Parts.{drop-none}
 use Rattle.block.specs.Settings.{valid, capacityOf, dataOffsetOf}
@@ -76,3 +76,10 @@ leb-less d l n h = go (decLe (d + n) l)
     go : Dec (d + n ≤ l) → leb d (l - n) ≡ leb (d + n) l
     go (yes e) = le-leb d (l - n) (omega arith) ∙ sym (le-leb (d + n) l e)
     go (no e) = lt-leb d (l - n) (omega arith) ∙ sym (lt-leb (d + n) l (omega arith))
+
+pub ltb-less : (d l n : ℕ) → n ≤ l → ltb d (l - n) ≡ ltb (d + n) l
+ltb-less d l n h = go (decLe l (d + n))
+  where
+    go : Dec (l ≤ d + n) → ltb d (l - n) ≡ ltb (d + n) l
+    go (yes e) = le-ltb d (l - n) (omega arith) ∙ sym (le-ltb (d + n) l e)
+    go (no e) = lt-ltb d (l - n) (omega arith) ∙ sym (lt-ltb (d + n) l (omega arith))

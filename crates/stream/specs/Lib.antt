@@ -1,4 +1,3 @@
 pub mod Stream
 pub mod Scan
-pub mod Whole
 pub mod Internal

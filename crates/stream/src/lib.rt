@@ -1,14 +1,14 @@
 // Reading hybrid and minimal blocks: a stream in parts, or one whole block in memory.
-mod check;
 mod find;
 mod scan;
 
 ghost use mathlib.Core.Path.{_≡_};
 ghost use Rattle.stream.specs.Scan.{fresh};
 use block::Verdict;
-pub use check::check_block;
+pub use find::find_stop;
 pub use scan::block_content;
 pub use scan::buffer_fits;
+pub use scan::is_long;
 pub use scan::read;
 
 // Where a reader stands in the stream.
@@ -47,13 +47,6 @@ pub struct Reading {
     pub reader: Reader,
     // Bytes of the part that were read.
     pub used: usize,
-}
-
-// What checking a whole block gives.
-pub enum Checked {
-    // Refused by 1.
-    Setting,
-    Judged(Verdict),
 }
 
 impl Reader {

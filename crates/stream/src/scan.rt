@@ -8,7 +8,7 @@ use block::Settings;
 use block::Verdict;
 ghost use mathlib.Core.Path.{_≡_};
 ghost use Prim.Native.Nat.{_+_, _≤_};
-ghost use lib.Dec.{leb};
+ghost use lib.Dec.{leb, ltb};
 ghost use lib.ListN.{length};
 ghost use Rattle.block.specs.Settings.{capacityOf};
 ghost use Rattle.stream.specs.Scan.{verdictOf, readOf, given};
@@ -243,6 +243,23 @@ pub fn block_content(settings: Settings, verdict: Verdict, buffer: &[u8]) -> &[u
         return &buffer[offset..];
     }
     &buffer[offset..offset + length]
+}
+
+// Whether a block of this many bytes between SB and EB is too long.
+pub fn is_long(settings: Settings, body_length: usize) -> bool
+    ensures { λ r. ⌜ r ≡ ltb (capacityOf settings) «body_length» ⌝ }
+{
+    let kind = settings.kind;
+    let limit = settings.data_limit;
+    match kind {
+        block::Kind::Hybrid => {
+            if body_length < 12 {
+                return false;
+            }
+            limit < body_length - 12
+        }
+        block::Kind::Minimal => limit < body_length,
+    }
 }
 
 // Whether a buffer of this length is long enough for the reader.

@@ -1,21 +1,24 @@
 // Checking one whole block that lies in memory.
-use crate::Checked;
-use crate::find::find_stop;
-use crate::scan::capacity;
 use block::Settings;
 use block::Verdict;
 ghost use mathlib.Core.Path.{_≡_};
 ghost use Prim.Native.Nat.{_≤_, _<_};
 ghost use lib.ListN.{length, getD};
 ghost use Rattle.stream.specs.Stream.{outcome};
-ghost use Rattle.stream.specs.Whole.{wholeOf, checkOf};
+ghost use Rattle.whole_block.specs.Whole.{wholeOf, checkOf};
+
+// What checking a whole block gives.
+pub enum Checked {
+    // Refused by 1.
+    Setting,
+    Judged(Verdict),
+}
 
 // The verdict on the bytes of a block between SB and EB, with the byte after EB.
 fn outcome_of(settings: Settings, body: &[u8], after: u8) -> Verdict
-    requires { ⌜ settings .«data_limit» ≤ 99994 ⌝ }
     ensures { λ r. ⌜ r ≡ outcome settings (now (body .entry)) after ⌝ }
 {
-    if capacity(settings) < body.len() {
+    if stream::is_long(settings, body.len()) {
         return Verdict::Long;
     }
     if after != 13 {
@@ -26,12 +29,11 @@ fn outcome_of(settings: Settings, body: &[u8], after: u8) -> Verdict
 
 // The verdict on bytes that begin with SB.
 fn whole_verdict(settings: Settings, block: &[u8]) -> Verdict
-    requires { ⌜ settings .«data_limit» ≤ 99994 ⌝ }
     requires { ⌜ 0 < length (now block) ⌝ }
     requires { ⌜ getD (now block) 0 0 ≡ settings .«start_block» ⌝ }
     ensures { λ r. ⌜ r ≡ wholeOf settings (now (block .entry)) ⌝ }
 {
-    let stop = 1 + find_stop(&block[1..], settings.start_block, settings.end_block);
+    let stop = 1 + stream::find_stop(&block[1..], settings.start_block, settings.end_block);
     if stop == block.len() {
         return Verdict::Shape;
     }

@@ -8,9 +8,9 @@ use Rattle.block.specs.Verdict.{numberOf}
 use Rattle.block.specs.declared.Settings.{Settings}
 use Rattle.block.specs.declared.Verdict.{Verdict}
 use Rattle.block.specs.declared.Verdict.the-variants.{Shape}
 use Rattle.stream.specs.Stream.{Said, verdicts}
-use Rattle.stream.specs.declared.Checked.{Checked}
-use Rattle.stream.specs.declared.Checked.the-variants.{Setting, Judged}
+use Rattle.whole_block.specs.declared.Checked.{Checked}
+use Rattle.whole_block.specs.declared.Checked.the-variants.{Setting, Judged}
 
 abbrev pub beginsWith : ℕ → List ℕ → Bool
 beginsWith sb [] = false

@@ -14,11 +14,11 @@ use Rattle.lists.specs.Bytes.{hasAny}
 use Rattle.block.specs.Settings.{valid}
 use Rattle.block.specs.declared.Settings.{Settings}
 use Rattle.block.specs.declared.Verdict.the-variants.{Shape, Interrupted}
 use Rattle.stream.proofs.Run.{run-append, free-run, free-after, clear-free}
 use Rattle.stream.proofs.Store.{Stopped}
 use Rattle.stream.specs.Stream.{Said, Mode, between, inside, ended, said, move, run, outcome, verdicts}
-use Rattle.stream.specs.Whole.{beginsWith, only, initial, wholeOf, checkOf}
-use Rattle.stream.specs.declared.Checked.the-variants.{Setting, Judged}
+use Rattle.whole_block.specs.Whole.{beginsWith, only, initial, wholeOf, checkOf}
+use Rattle.whole_block.specs.declared.Checked.the-variants.{Setting, Judged}
 
 -- ---- all bytes but the last
 initial-last : (l : List ℕ) (x : ℕ) → initial (l ++ x ∷ []) ≡ l

@@ -4,15 +4,15 @@ use Prim.Native.Nat.{_+_, _<_}
 use native.Mathlib.Omega.{arith}
 use lib.ListN.{length, getD}
 use borrow.Author.Needs.{needs}
-use Rattle.stream.proofs.Checks.{Begins, check-unfinished, check-interrupted, check-interrupted-early, check-open, check-early, check-verdict}
+use Rattle.whole_block.proofs.Checks.{Begins, check-unfinished, check-interrupted, check-interrupted-early, check-open, check-early, check-verdict}
 use Rattle.stream.proofs.Store.{stopped, stop-byte}
-use Rattle.stream.proofs.check.whole_verdict.Statement.{statement}
-use Rattle.stream.proofs.check.whole_verdict.Tie as tie
+use Rattle.whole_block.proofs.whole_verdict.Statement.{statement}
+use Rattle.whole_block.proofs.whole_verdict.Tie as tie
 
 -- the bytes begin with SB, and the search stopped
 begins : (c : tie.After-find-stop) → Begins (c .before .before .before .args .settings) (c .before .before .before .args .block .now) (c .find-stop .result)
 begins c =
-    record { long = c .before .before .before .pre .1 .0; first = c .before .before .before .pre .1 .1; stop = stopped _ _ (c .before .before .before .args .block .now) 1 _ (c .before .before .before .pre .1 .0) (c .find-stop .ensures) }
+    record { long = c .before .before .before .pre .0; first = c .before .before .before .pre .1; stop = stopped _ _ (c .before .before .before .args .block .now) 1 _ (c .before .before .before .pre .0) (c .find-stop .ensures) }
 
 end-byte : (c : tie.After-find-stop) → 1 + c .find-stop .result < length (c .before .before .before .args .block .now)
     → (getD (c .before .before .before .args .block .now) (1 + c .find-stop .result) 0 ≡ c .before .before .before .args .settings .«start_block» → ⊥)

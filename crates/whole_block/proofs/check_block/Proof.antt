@@ -4,10 +4,10 @@ use native.Mathlib.Omega.{arith}
 use borrow.Author.Tests.{not-true, not-false}
 use borrow.Author.Needs.{needs}
 use Rattle.block.proofs.Laws.{valid-limit}
-use Rattle.stream.proofs.Checks.{check-setting, check-judged, whole-none, whole-other}
-use Rattle.stream.specs.declared.Checked.the-variants.{Judged}
-use Rattle.stream.proofs.check.check_block.Statement.{statement}
-use Rattle.stream.proofs.check.check_block.Tie as tie
+use Rattle.whole_block.proofs.Checks.{check-setting, check-judged, whole-none, whole-other}
+use Rattle.whole_block.specs.declared.Checked.the-variants.{Judged}
+use Rattle.whole_block.proofs.check_block.Statement.{statement}
+use Rattle.whole_block.proofs.check_block.Tie as tie
 
 is-valid-requires : tie.Need-is-valid-requires
 is-valid-requires c κs = search needs
@@ -25,7 +25,7 @@ returns-3 : tie.Need-returns-3
 returns-3 c = ap Judged (whole-other (c .before .before .before .before .before .before .before .args .settings) (c .before .before .before .before .before .before .before .args .block .now) (omega arith) (c .if3 .taken)) ∙ check-judged (c .before .before .before .before .before .before .before .args .settings) (c .before .before .before .before .before .before .before .args .block .now) (sym (c .before .before .before .before .before .is-valid .ensures) ∙ not-false _ (c .before .before .before .before .if1 .left))
 
 whole-verdict-requires : tie.Need-whole-verdict-requires
-whole-verdict-requires c κs = (valid-limit (c .before .before .before .before .before .before .before .args .settings) (sym (c .before .before .before .before .before .is-valid .ensures) ∙ not-false _ (c .before .before .before .before .if1 .left)), (omega arith, c .if3 .left))
+whole-verdict-requires c κs = (omega arith, c .if3 .left)
 
 returns-4 : tie.Need-returns-4
 returns-4 c = ap Judged (c .whole-verdict .ensures) ∙ check-judged (c .before .before .before .before .before .before .before .before .args .settings) (c .before .before .before .before .before .before .before .before .args .block .now) (sym (c .before .before .before .before .before .before .is-valid .ensures) ∙ not-false _ (c .before .before .before .before .before .if1 .left))
