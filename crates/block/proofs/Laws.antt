@@ -1,20 +1,16 @@
 -- Laws by which the loops over bytes go: what one byte more does to each definition.
 use mathlib.Core.Path.{_≡_, refl}
 use mathlib.Core.List.{List, [], _∷_}
-use mathlib.Core.Bool.{Bool, true, false, not, _&&_, _||_, and-assoc, and-true}
+use mathlib.Core.Bool.{Bool, true, false, _&&_, _||_, and-assoc, and-true}
 use Prim.Native.Nat.{ℕ, suc, _+_, _-_, _≤_, _<_}
 use native.Mathlib.Omega.{arith}
 use lib.ListN.{length, take, drop, getD, length-drop}
 use lib.Seq.{take-all}
-use lib.Dec.{eqb, leb}
-use borrow.Author.Tests.{le-leb, leb-true}
-use Rattle.lists.proofs.Tests.{and-right}
+use lib.Dec.{eqb}
+use borrow.Author.Tests.{le-leb}
 use Rattle.lists.proofs.Parts.{drop-more, drop-none}
-use Rattle.block.specs.Settings.{valid, hybridValid, minimalValid}
-use Rattle.block.specs.declared.Kind.{Kind}
-use Rattle.block.specs.declared.Kind.the-variants.{Hybrid, Minimal}
-use Rattle.block.specs.declared.Settings.{Settings}
-use Rattle.block.specs.Format.{allowed, allAllowed, firstForbidden, countField, version, byKind}
+use Rattle.settings.specs.Settings.{allowed}
+use Rattle.block.specs.Format.{allAllowed, firstForbidden, countField, version}
 use Rattle.block.specs.Judge.{same, isReason, typeMatches, checksumMatches, judgeParts, judgeHybrid, headerOk, dataOf}
 use Rattle.block.specs.declared.Verdict.the-variants.{Accepted, Byte, Shape, Count, Check}
 
@@ -105,12 +101,3 @@ hybrid-parts sb body h v =
     let f : length body - 3 - (length body - 8) ≡ 5 = omega arith in
     let g : length (drop (length body - 3) body) ≤ length body - (length body - 3) = simp length-drop (omega arith) in
     rw (e, f, take-all _ _ g, le-leb 12 (length body) h, v)
-
--- valid settings have a data limit within its range
-pub valid-limit : (g : Settings) → valid g ≡ true → g .«data_limit» ≤ 99994
-unfolding valid
-valid-limit g = go (g .kind)
-  where
-    go : (k : Kind) → byKind k (hybridValid (g .«start_block») (g .«end_block») (g .«data_limit»)) (minimalValid (g .«start_block») (g .«end_block») (g .«data_limit»)) ≡ true → g .«data_limit» ≤ 99994
-    go Hybrid e = leb-true _ _ (and-right (leb 1 (g .«data_limit»)) _ (and-right (not (allowed (g .«start_block»)) && not (allowed (g .«end_block»)) && not (eqb (g .«start_block») (g .«end_block»))) _ e))
-    go Minimal e = leb-true _ _ (and-right (leb 1 (g .«data_limit»)) _ (and-right (eqb (g .«start_block») 11 && eqb (g .«end_block») 28) _ e))

@@ -5,13 +5,8 @@ use Prim.Native.Nat.{ℕ, suc, _+_, _/_, _%_}
 use lib.ListN.{length}
 use lib.Dec.{leb, eqb}
 use lib.Bits.{bitXor}
-use Rattle.block.specs.declared.Kind.{Kind}
-use Rattle.block.specs.declared.Kind.the-variants.{Hybrid, Minimal}
-use Rattle.block.specs.declared.Settings.{Settings}
-
--- "Data bytes are 20 to 7E and CR."
-abbrev pub allowed : ℕ → Bool
-allowed x = (leb 32 x && leb x 126) || eqb x 13
+use Rattle.settings.specs.Settings.{allowed, byKind}
+use Rattle.settings.specs.declared.Settings.{Settings}
 
 abbrev pub allAllowed : List ℕ → Bool
 allAllowed [] = true
@@ -63,10 +58,6 @@ hybridBlock s t d =
 -- SB data EB CR
 unfoldable pub minimalBlock : Settings → List ℕ → List ℕ
 minimalBlock s d = s .«start_block» ∷ (d ++ s .«end_block» ∷ 13 ∷ [])
-
-abbrev pub byKind : {A : Type 0} → Kind → A → A → A
-byKind Hybrid h m = h
-byKind Minimal h m = m
 
 -- the bytes of a block of either kind; a minimal block has no type
 unfoldable pub blockOf : Settings → ℕ → List ℕ → List ℕ

@@ -4,8 +4,9 @@ use mathlib.Core.Bool.{Bool, true, false, cond, _&&_, _||_}
 use Prim.Native.Nat.{ℕ, _+_, _-_}
 use lib.ListN.{length, take, drop, getD}
 use lib.Dec.{leb, eqb}
-use Rattle.block.specs.Format.{byKind, allAllowed, firstForbidden, version, countField, checksumOf, threeDigits}
-use Rattle.block.specs.declared.Settings.{Settings}
+use Rattle.block.specs.Format.{allAllowed, firstForbidden, version, countField, checksumOf, threeDigits}
+use Rattle.settings.specs.Settings.{byKind}
+use Rattle.settings.specs.declared.Settings.{Settings}
 use Rattle.block.specs.declared.Verdict.{Verdict}
 use Rattle.block.specs.declared.Verdict.the-variants.{Accepted, Byte, Shape, Count, Check}
 

@@ -1,4 +1,3 @@
 pub mod Format
-pub mod Settings
 pub mod Verdict
 pub mod Judge

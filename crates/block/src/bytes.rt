@@ -1,13 +1,7 @@
 // Bytes that data may have, and the checksum.
+use settings::is_allowed;
 ghost use mathlib.Core.Path.{_≡_};
-ghost use Rattle.block.specs.Format.{allowed, firstForbidden, allAllowed, xorFrom};
-
-// Data bytes are 20 to 7E and CR.
-pub fn is_allowed(x: u8) -> bool
-    ensures { λ r. ⌜ r ≡ allowed x ⌝ }
-{
-    ((32 <= x) & (x <= 126)) | (x == 13)
-}
+ghost use Rattle.block.specs.Format.{firstForbidden, allAllowed, xorFrom};
 
 // Whether all bytes are allowed. No way out of the loop, so that it is compiled to vector code.
 pub fn are_allowed(s: &[u8]) -> bool

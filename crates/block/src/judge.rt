@@ -1,6 +1,4 @@
 // The verdict on the bytes between SB and EB of a block that fits and has its CR after EB.
-use crate::Kind;
-use crate::Settings;
 use crate::Verdict;
 use crate::bytes::are_allowed;
 use crate::bytes::checksum;
@@ -8,6 +6,8 @@ use crate::bytes::first_forbidden;
 use crate::digits::is_five_digits;
 use crate::digits::is_three;
 use crate::digits::is_three_digits;
+use settings::Kind;
+use settings::Settings;
 ghost use mathlib.Core.Path.{_≡_};
 ghost use lib.ListN.{length};
 ghost use Rattle.block.specs.Format.{checksumOf};

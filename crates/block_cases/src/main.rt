@@ -1,11 +1,11 @@
 // Document 01, 'Cases by hand', the others that concern blocks: data of D and D + 1 bytes, byte 7F, empty input. A line
 // for each: what was tried, and the numbers that came.
-use block::Made;
-use block::Settings;
 use libc::STDOUT_FILENO;
+use settings::Made;
+use settings::Settings;
 use stream::Answer;
-use whole_block::Checked;
 use stream::Reader;
+use whole_block::Checked;
 
 const DATA_LIMIT: usize = 16;
 

@@ -10,13 +10,14 @@ use lib.Seq.{drop-drop}
 use lib.Dec.{eqb, leb, ltb}
 use borrow.Author.Tests.{eqb-true, leb-true, ltb-false}
 use Rattle.lists.proofs.Tests.{and-left, and-right}
-use Rattle.block.specs.Format.{byKind, allAllowed, firstForbidden, version, threeDigits, countField, checksumOf, hybridBody}
+use Rattle.block.specs.Format.{allAllowed, firstForbidden, version, threeDigits, countField, checksumOf, hybridBody}
+use Rattle.settings.specs.Settings.{byKind}
 use Rattle.block.specs.Judge.{same, typeMatches, headerOk, checksumMatches, judgeParts, dataOf, judgeHybrid, judgeMinimal, judge}
-use Rattle.block.specs.Settings.{valid, capacityOf}
+use Rattle.settings.specs.Settings.{valid, capacityOf}
 use Rattle.block.specs.Verdict.{numberOf, typeOf, lengthOf}
-use Rattle.block.specs.declared.Kind.{Kind}
-use Rattle.block.specs.declared.Kind.the-variants.{Hybrid, Minimal}
-use Rattle.block.specs.declared.Settings.{Settings}
+use Rattle.settings.specs.declared.Kind.{Kind}
+use Rattle.settings.specs.declared.Kind.the-variants.{Hybrid, Minimal}
+use Rattle.settings.specs.declared.Settings.{Settings}
 use Rattle.block.specs.declared.Verdict.the-variants.{Accepted, Byte, Shape, Count, Check, Long}
 use Rattle.stream.specs.Stream.{outcome}
 use Rattle.block_theorems.proofs.Bytes.{three-allowed}

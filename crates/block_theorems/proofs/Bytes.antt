@@ -9,12 +9,13 @@ use lib.Dec.{eqb}
 use borrow.Author.Tests.{eqb-true, le-leb, ne-eqb, eqb-false, not-true}
 use Rattle.lists.proofs.Tests.{and-left, and-right}
 use Rattle.lists.specs.Bytes.{hasAny}
-use Rattle.block.specs.Format.{byKind, allowed, allAllowed, digit, version, fiveDigits, threeDigits, countField, hybridBody}
+use Rattle.block.specs.Format.{allAllowed, digit, version, fiveDigits, threeDigits, countField, hybridBody}
+use Rattle.settings.specs.Settings.{byKind, allowed}
 use Rattle.block.specs.Judge.{isReason, typeMatches}
-use Rattle.block.specs.Settings.{valid, hybridValid, minimalValid, limitValid}
-use Rattle.block.specs.declared.Kind.{Kind}
-use Rattle.block.specs.declared.Kind.the-variants.{Hybrid, Minimal}
-use Rattle.block.specs.declared.Settings.{Settings}
+use Rattle.settings.specs.Settings.{valid, hybridValid, minimalValid, limitValid}
+use Rattle.settings.specs.declared.Kind.{Kind}
+use Rattle.settings.specs.declared.Kind.the-variants.{Hybrid, Minimal}
+use Rattle.settings.specs.declared.Settings.{Settings}
 
 other : (x y : ℕ) → allowed x ≡ true → allowed y ≡ false → eqb x y ≡ false
 other x y a f = ne-eqb x y (λ (e : x ≡ y). true≢false (sym a ∙ ap (λ (z : ℕ). allowed z) e ∙ f))

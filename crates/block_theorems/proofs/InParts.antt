@@ -4,7 +4,7 @@ use mathlib.Core.List.{List, [], _∷_, _++_, append-nil}
 use Prim.Native.Nat.{ℕ, _+_, _≤_}
 use lib.ListN.{length}
 use Rattle.block.specs.Format.{blockOf}
-use Rattle.block.specs.declared.Settings.{Settings}
+use Rattle.settings.specs.declared.Settings.{Settings}
 use Rattle.stream.specs.Stream.{Said, Mode, between, run, after}
 use Rattle.whole_block.specs.Whole.{initial}
 use Rattle.stream.specs.declared.Reader.{Reader}

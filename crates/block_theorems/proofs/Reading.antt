@@ -8,8 +8,8 @@ use lib.ListN.{length}
 use lib.Dec.{eqb}
 use borrow.Author.Tests.{eq-eqb, ne-eqb}
 use Rattle.lists.specs.Bytes.{hasAny}
-use Rattle.block.specs.Format.{allowed}
-use Rattle.block.specs.declared.Settings.{Settings}
+use Rattle.settings.specs.Settings.{allowed}
+use Rattle.settings.specs.declared.Settings.{Settings}
 use Rattle.stream.proofs.Run.{run-append, after-append, free-run, free-after}
 use Rattle.stream.specs.Stream.{Said, Mode, between, inside, ended, said, move, run, after, outcome}
 use Rattle.whole_block.specs.Whole.{initial}

@@ -8,12 +8,13 @@ use lib.ListN.{length, take, drop, length-append}
 use lib.Seq.{take-length}
 use borrow.Author.Tests.{eq-eqb, le-ltb}
 use Rattle.lists.specs.Bytes.{hasAny}
-use Rattle.block.specs.Format.{byKind, allAllowed, threeDigits, checksumOf, hybridBody, hybridBlock, minimalBlock, blockOf}
+use Rattle.block.specs.Format.{allAllowed, threeDigits, checksumOf, hybridBody, hybridBlock, minimalBlock, blockOf}
+use Rattle.settings.specs.Settings.{byKind}
 use Rattle.block.specs.Judge.{typeMatches, checksumMatches, judgeMinimal, judge}
-use Rattle.block.specs.Settings.{valid, capacityOf, dataOffsetOf}
-use Rattle.block.specs.declared.Kind.{Kind}
-use Rattle.block.specs.declared.Kind.the-variants.{Hybrid, Minimal}
-use Rattle.block.specs.declared.Settings.{Settings}
+use Rattle.settings.specs.Settings.{valid, capacityOf, dataOffsetOf}
+use Rattle.settings.specs.declared.Kind.{Kind}
+use Rattle.settings.specs.declared.Kind.the-variants.{Hybrid, Minimal}
+use Rattle.settings.specs.declared.Settings.{Settings}
 use Rattle.block.specs.declared.Verdict.{Verdict}
 use Rattle.block.specs.declared.Verdict.the-variants.{Accepted}
 use Rattle.stream.specs.Stream.{Said, between, said, contentOf, run, outcome, verdicts}

@@ -11,9 +11,9 @@ use lib.Seq.{append-snoc, take-length}
 use lib.Dec.{eqb}
 use borrow.Author.Tests.{eq-eqb, eqb-true}
 use Rattle.lists.proofs.Tests.{cond-ind}
-use Rattle.block.specs.Settings.{valid}
+use Rattle.settings.specs.Settings.{valid}
 use Rattle.block.specs.Verdict.{numberOf}
-use Rattle.block.specs.declared.Settings.{Settings}
+use Rattle.settings.specs.declared.Settings.{Settings}
 use Rattle.block.specs.declared.Verdict.{Verdict}
 use Rattle.block.specs.declared.Verdict.the-variants.{Accepted, Byte, Long, Shape, Count, Check, Interrupted}
 use Rattle.stream.proofs.Run.{run-append}

@@ -10,8 +10,8 @@ use lib.Dec.{leb}
 use borrow.Author.Tests.{leb-true}
 use Rattle.lists.specs.Bytes.{put}
 use Rattle.block.specs.Format.{allAllowed, firstForbidden, blockOf}
-use Rattle.block.specs.Settings.{valid}
-use Rattle.block.specs.declared.Settings.{Settings}
+use Rattle.settings.specs.Settings.{valid}
+use Rattle.settings.specs.declared.Settings.{Settings}
 use Rattle.writer.proofs.Laws.{write-all}
 use Rattle.writer.specs.Write.{Outcome, numberOf, lengthOf, needOf, typeValid, refused, wrote, writeOf}
 use Rattle.writer.specs.declared.Written.the-variants.{Setting, TooShort, Long, Shape, Byte, Block}

@@ -1,10 +1,10 @@
 // Lists the blocks of a capture on standard input: for each verdict SB's offset, the number (0 if accepted) and the data
 // length (0 if refused). Hybrid bytes, default settings, at most 4,096 data bytes.
-use block::Made;
-use block::Settings;
 use block::Verdict;
 use libc::STDIN_FILENO;
 use libc::STDOUT_FILENO;
+use settings::Made;
+use settings::Settings;
 use stream::Answer;
 use stream::Reader;
 ghost use Prim.Native.Nat.{_≤_};

@@ -8,16 +8,8 @@ use lib.ListN.{length, set, getD}
 use lib.Seq.{sets-eq}
 use lib.Dec.{leb}
 use borrow.Author.Tests.{lt-ltb, le-ltb, eq-eqb, ne-eqb}
-use Rattle.block.specs.Settings.{capacityOf, dataOffsetOf}
-use Rattle.block.specs.Format.{byKind}
-use Rattle.block.specs.declared.Kind.{Kind}
-use Rattle.block.specs.declared.Kind.the-variants.{Hybrid, Minimal}
-use Rattle.block.specs.declared.Settings.{Settings}
-use Rattle.block.specs.declared.Made.the-variants.{Valid, Refused}
 use Rattle.stream.specs.Scan.{Read, given}
 use Rattle.stream.specs.declared.Reading.{Reading}
-use Rattle.whole_block.specs.declared.Checked.{Checked}
-use Rattle.whole_block.specs.Whole.{checkOf}
 use Rattle.stream.specs.declared.Answer.{Answer}
 use Rattle.stream.specs.declared.Answer.the-variants.{Setting, TooShort, State, Pending, Found}
 use Rattle.stream.specs.declared.Phase.the-variants.{Between, Inside, Ended}
@@ -25,6 +17,13 @@ use Rattle.stream.specs.declared.Reader.{Reader}
 use Rattle.writer.specs.Write.{Outcome, writeOf}
 use Rattle.writer.specs.declared.Written.{Written}
 use Rattle.writer.specs.declared.Written.the-variants.{Block, Setting as WrongSetting, TooShort as WriterTooShort, Long as LongContent, Shape as WrongType, Byte as ForbiddenByte}
+use Rattle.settings.specs.Settings.{capacityOf, dataOffsetOf, byKind}
+use Rattle.settings.specs.declared.Kind.{Kind}
+use Rattle.settings.specs.declared.Kind.the-variants.{Hybrid, Minimal}
+use Rattle.settings.specs.declared.Settings.{Settings}
+use Rattle.settings.specs.declared.Made.the-variants.{Valid, Refused}
+use Rattle.whole_block.specs.declared.Checked.{Checked}
+use Rattle.whole_block.specs.Whole.{checkOf}
 use Rattle.giamuvich.specs.Words.{over, decoded, withPhase}
 use Rattle.giamuvich.specs.Calls.{WriteCall, writeCalled, writeFinished, typeByte, writeCall, ReadCall, readCalled, readAnswered, readFinished, readDecoded, readCall, checkCalled, checkFinished, checkCall}
 use Rattle.giamuvich.specs.declared.Decoded.the-variants.{Unknown}

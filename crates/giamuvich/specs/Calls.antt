@@ -4,11 +4,11 @@ use mathlib.Core.Bool.{Bool, true, false, cond}
 use Prim.Native.Nat.{ℕ, _+_}
 use lib.ListN.{length}
 use lib.Dec.{ltb, leb}
-use Rattle.block.specs.Settings.{capacityOf, dataOffsetOf, madeNumber}
-use Rattle.block.specs.declared.Settings.{Settings}
+use Rattle.settings.specs.Settings.{capacityOf, dataOffsetOf, madeNumber}
+use Rattle.settings.specs.declared.Settings.{Settings}
 use Rattle.block.specs.declared.Verdict.{Verdict}
-use Rattle.block.specs.declared.Made.{Made}
-use Rattle.block.specs.declared.Made.the-variants.{Valid, Refused}
+use Rattle.settings.specs.declared.Made.{Made}
+use Rattle.settings.specs.declared.Made.the-variants.{Valid, Refused}
 use Rattle.stream.specs.Scan.{Read, readOf, fresh, answerNumber}
 use Rattle.whole_block.specs.Whole.{checkOf, checkedNumber}
 use Rattle.stream.specs.declared.Reader.{Reader}

@@ -1,10 +1,10 @@
 // Checking one whole block.
 use crate::words::write_verdict;
-use block::Made;
-use block::Settings;
+use settings::Made;
+use settings::Settings;
 use whole_block::Checked;
 ghost use mathlib.Core.Path.{_≡_};
-ghost use Rattle.block.specs.Settings.{hybridOf, minimalOf};
+ghost use Rattle.settings.specs.Settings.{hybridOf, minimalOf};
 ghost use Rattle.giamuvich.specs.Calls.{checkCalled, checkCall};
 
 fn check_words(made: Made, block: &[u8], verdict: &mut [u64]) -> u64

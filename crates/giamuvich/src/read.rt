@@ -4,15 +4,15 @@ use crate::words::read_reader;
 use crate::words::write_pending;
 use crate::words::write_reader;
 use crate::words::write_verdict;
-use block::Made;
-use block::Settings;
+use settings::Made;
+use settings::Settings;
 use stream::Answer;
 use stream::Reading;
 ghost use mathlib.Core.Path.{_≡_};
 ghost use mathlib.Core.List.{[]};
 ghost use Prim.Native.Nat.{_≤_};
 ghost use lib.ListN.{length};
-ghost use Rattle.block.specs.Settings.{hybridOf, minimalOf};
+ghost use Rattle.settings.specs.Settings.{hybridOf, minimalOf};
 ghost use Rattle.giamuvich.specs.Words.{decoded};
 ghost use Rattle.giamuvich.specs.Calls.{readCalled, readAnswered, readDecoded, readCall};
 

@@ -1,12 +1,12 @@
 // Writing one block.
-use block::Made;
-use block::Settings;
+use settings::Made;
+use settings::Settings;
 use writer::Written;
 ghost use mathlib.Core.Path.{_≡_};
 ghost use mathlib.Core.List.{[], _∷_};
 ghost use Prim.Native.Nat.{_≤_};
 ghost use lib.ListN.{length};
-ghost use Rattle.block.specs.Settings.{hybridOf, minimalOf};
+ghost use Rattle.settings.specs.Settings.{hybridOf, minimalOf};
 ghost use Rattle.giamuvich.specs.Words.{over};
 ghost use Rattle.giamuvich.specs.Calls.{writeCalled, writeFinished, typeByte, writeCall};
 

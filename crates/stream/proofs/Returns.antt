@@ -11,10 +11,10 @@ use lib.Seq.{take-all, take-nil}
 use lib.Dec.{leb, ltb}
 use borrow.Author.Tests.{lt-ltb, le-ltb, le-leb, lt-leb}
 use Rattle.lists.proofs.Parts.{drop-none}
-use Rattle.block.specs.Settings.{valid, capacityOf, dataOffsetOf}
 use Rattle.block.specs.Verdict.{lengthOf}
-use Rattle.block.specs.declared.Settings.{Settings}
 use Rattle.block.specs.declared.Verdict.{Verdict}
+use Rattle.settings.specs.Settings.{valid, capacityOf, dataOffsetOf}
+use Rattle.settings.specs.declared.Settings.{Settings}
 use Rattle.stream.specs.Stream.{contentOf}
 use Rattle.stream.specs.Scan.{Scan, scan, fold, given, refused, scanned, readOf}
 use Rattle.stream.specs.Internal.{from, Reads}

@@ -9,7 +9,7 @@ use lib.ListN.{length, take}
 use lib.Dec.{eqb}
 use Rattle.lists.proofs.Tests.{cond-ind}
 use Rattle.lists.specs.Bytes.{clear, hasAny}
-use Rattle.block.specs.declared.Settings.{Settings}
+use Rattle.settings.specs.declared.Settings.{Settings}
 use Rattle.stream.proofs.Steps.{or-first, or-second}
 use Rattle.stream.specs.Stream.{Said, Mode, inside, move, run, after}
 

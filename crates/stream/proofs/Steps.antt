@@ -14,10 +14,10 @@ use Rattle.lists.proofs.Tests.{cond-ind}
 use Rattle.lists.proofs.Parts.{drop-more, drop-none}
 use Rattle.lists.proofs.Put.{put-none, put-set}
 use Rattle.lists.specs.Bytes.{clear}
-use Rattle.block.specs.Settings.{capacityOf}
-use Rattle.block.specs.declared.Settings.{Settings}
 use Rattle.block.specs.declared.Verdict.{Verdict}
 use Rattle.block.specs.declared.Verdict.the-variants.{Interrupted}
+use Rattle.settings.specs.Settings.{capacityOf}
+use Rattle.settings.specs.declared.Settings.{Settings}
 use Rattle.stream.specs.Scan.{Scan, scan, step, fold, verdictOf}
 use Rattle.stream.specs.Internal.{advanced, stored, from}
 use Rattle.stream.specs.declared.Phase.{Phase}

@@ -13,11 +13,10 @@ use borrow.Rule.Slice.PartMut.{midOf, putMid}
 use Rattle.lists.proofs.Put.{back, over-fits}
 use Rattle.lists.specs.Bytes.{overwritten, put, clear}
 use Rattle.lists.proofs.Search.{clear-most, clear-hit}
-use Rattle.block.specs.Settings.{capacityOf}
-use Rattle.block.specs.Format.{byKind}
-use Rattle.block.specs.declared.Kind.{Kind}
-use Rattle.block.specs.declared.Kind.the-variants.{Hybrid, Minimal}
-use Rattle.block.specs.declared.Settings.{Settings}
+use Rattle.settings.specs.Settings.{capacityOf, byKind}
+use Rattle.settings.specs.declared.Kind.{Kind}
+use Rattle.settings.specs.declared.Kind.the-variants.{Hybrid, Minimal}
+use Rattle.settings.specs.declared.Settings.{Settings}
 use Rattle.stream.proofs.Steps.{stored-over, from-stretch}
 use Rattle.stream.specs.Internal.{advanced, stored, from, Reads}
 use Rattle.stream.specs.declared.Phase.the-variants.{Inside}

@@ -6,8 +6,8 @@ use Prim.Native.Nat.{ℕ, _+_, _-_, _≤_, _<_, _^_}
 use lib.ListN.{length, take, drop}
 use lib.Dec.{ltb, leb}
 use Rattle.lists.specs.Bytes.{put}
-use Rattle.block.specs.Settings.{capacityOf}
-use Rattle.block.specs.declared.Settings.{Settings}
+use Rattle.settings.specs.Settings.{capacityOf}
+use Rattle.settings.specs.declared.Settings.{Settings}
 use Rattle.stream.specs.Scan.{Scan, scan, fold}
 use Rattle.stream.specs.declared.Phase.{Phase}
 use Rattle.stream.specs.declared.Answer.the-variants.{Pending}

@@ -4,9 +4,9 @@ use mathlib.Core.Bool.{Bool, true, false, cond, not}
 use Prim.Native.Nat.{ℕ, suc, _+_, _-_, max}
 use lib.ListN.{length, take, drop, set}
 use lib.Dec.{ltb, eqb}
-use Rattle.block.specs.Settings.{valid, capacityOf}
+use Rattle.settings.specs.Settings.{valid, capacityOf}
 use Rattle.block.specs.Judge.{judge}
-use Rattle.block.specs.declared.Settings.{Settings}
+use Rattle.settings.specs.declared.Settings.{Settings}
 use Rattle.block.specs.declared.Verdict.{Verdict}
 use Rattle.block.specs.declared.Verdict.the-variants.{Long, Shape, Interrupted}
 use Rattle.stream.specs.declared.Phase.{Phase}

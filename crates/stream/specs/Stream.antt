@@ -4,10 +4,10 @@ use mathlib.Core.Bool.{Bool, true, false, cond}
 use Prim.Native.Nat.{ℕ, _+_}
 use lib.ListN.{length, take, drop, set}
 use lib.Dec.{ltb, eqb}
-use Rattle.block.specs.Settings.{capacityOf, dataOffsetOf}
+use Rattle.settings.specs.Settings.{capacityOf, dataOffsetOf}
 use Rattle.block.specs.Verdict.{lengthOf}
 use Rattle.block.specs.Judge.{judge}
-use Rattle.block.specs.declared.Settings.{Settings}
+use Rattle.settings.specs.declared.Settings.{Settings}
 use Rattle.block.specs.declared.Verdict.{Verdict}
 use Rattle.block.specs.declared.Verdict.the-variants.{Long, Shape, Interrupted}
 

@@ -4,13 +4,13 @@ use crate::Phase;
 use crate::Reader;
 use crate::Reading;
 use crate::find::find_stop;
-use block::Settings;
 use block::Verdict;
+use settings::Settings;
 ghost use mathlib.Core.Path.{_≡_};
 ghost use Prim.Native.Nat.{_+_, _≤_};
 ghost use lib.Dec.{leb, ltb};
 ghost use lib.ListN.{length};
-ghost use Rattle.block.specs.Settings.{capacityOf};
+ghost use Rattle.settings.specs.Settings.{capacityOf};
 ghost use Rattle.stream.specs.Scan.{verdictOf, readOf, given};
 ghost use Rattle.stream.specs.Stream.{contentOf};
 ghost use Rattle.stream.specs.Internal.{advanced, stored, from, Ready, Reads};
@@ -24,8 +24,8 @@ pub fn capacity(settings: Settings) -> usize
 {
     let kind = settings.kind;
     match kind {
-        block::Kind::Hybrid => settings.data_limit + 12,
-        block::Kind::Minimal => settings.data_limit,
+        settings::Kind::Hybrid => settings.data_limit + 12,
+        settings::Kind::Minimal => settings.data_limit,
     }
 }
 
@@ -252,13 +252,13 @@ pub fn is_long(settings: Settings, body_length: usize) -> bool
     let kind = settings.kind;
     let limit = settings.data_limit;
     match kind {
-        block::Kind::Hybrid => {
+        settings::Kind::Hybrid => {
             if body_length < 12 {
                 return false;
             }
             limit < body_length - 12
         }
-        block::Kind::Minimal => limit < body_length,
+        settings::Kind::Minimal => limit < body_length,
     }
 }
 
@@ -269,12 +269,12 @@ pub fn buffer_fits(settings: Settings, buffer: &[u8]) -> bool
     let kind = settings.kind;
     let limit = settings.data_limit;
     match kind {
-        block::Kind::Hybrid => {
+        settings::Kind::Hybrid => {
             if buffer.len() < 12 {
                 return false;
             }
             limit <= buffer.len() - 12
         }
-        block::Kind::Minimal => limit <= buffer.len(),
+        settings::Kind::Minimal => limit <= buffer.len(),
     }
 }

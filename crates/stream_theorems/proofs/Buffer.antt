@@ -11,11 +11,11 @@ use lib.Dec.{eqb, ltb}
 use borrow.Author.Tests.{eq-eqb, ne-eqb, eqb-true, eqb-false, ltb-true, ltb-false, not-true}
 use Rattle.lists.proofs.Tests.{cond-ind, and-left, and-right}
 use Rattle.lists.specs.Bytes.{hasAny, put}
-use Rattle.block.specs.Format.{allowed, byKind}
-use Rattle.block.specs.Settings.{valid, limitValid, hybridValid, minimalValid, capacityOf}
-use Rattle.block.specs.declared.Kind.{Kind}
-use Rattle.block.specs.declared.Kind.the-variants.{Hybrid, Minimal}
-use Rattle.block.specs.declared.Settings.{Settings}
+use Rattle.settings.specs.Settings.{allowed, byKind}
+use Rattle.settings.specs.Settings.{valid, limitValid, hybridValid, minimalValid, capacityOf}
+use Rattle.settings.specs.declared.Kind.{Kind}
+use Rattle.settings.specs.declared.Kind.the-variants.{Hybrid, Minimal}
+use Rattle.settings.specs.declared.Settings.{Settings}
 use Rattle.stream.specs.Stream.{Mode, between, inside, ended, move, after, hold, held}
 use Rattle.stream.specs.Scan.{fresh}
 use Rattle.stream.specs.Internal.{stored}

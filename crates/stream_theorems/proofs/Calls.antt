@@ -7,8 +7,8 @@ use native.Mathlib.Omega.{arith}
 use lib.ListN.{length}
 use lib.Dec.{eqb, ltb}
 use Rattle.lists.proofs.Tests.{cond-ind}
-use Rattle.block.specs.Settings.{valid, capacityOf}
-use Rattle.block.specs.declared.Settings.{Settings}
+use Rattle.settings.specs.Settings.{valid, capacityOf}
+use Rattle.settings.specs.declared.Settings.{Settings}
 use Rattle.block.specs.declared.Verdict.{Verdict}
 use Rattle.stream.specs.Scan.{Scan, Read, phaseStep, step, fold, readOf}
 use Rattle.stream.specs.declared.Phase.{Phase}

@@ -9,13 +9,14 @@ use lib.Seq.{length-take-le, take-take}
 use lib.Dec.{leb}
 use borrow.Author.Tests.{leb-true}
 use Rattle.lists.proofs.Tests.{cond-ind}
-use Rattle.block.specs.Format.{byKind, allAllowed, countField}
-use Rattle.block.specs.Settings.{dataOffsetOf}
+use Rattle.block.specs.Format.{allAllowed, countField}
+use Rattle.settings.specs.Settings.{byKind}
+use Rattle.settings.specs.Settings.{dataOffsetOf}
 use Rattle.block.specs.Verdict.{lengthOf}
 use Rattle.block.specs.Judge.{judge, judgeHybrid, judgeMinimal, judgeParts, headerOk, typeMatches, checksumMatches, dataOf, same}
-use Rattle.block.specs.declared.Kind.{Kind}
-use Rattle.block.specs.declared.Kind.the-variants.{Hybrid, Minimal}
-use Rattle.block.specs.declared.Settings.{Settings}
+use Rattle.settings.specs.declared.Kind.{Kind}
+use Rattle.settings.specs.declared.Kind.the-variants.{Hybrid, Minimal}
+use Rattle.settings.specs.declared.Settings.{Settings}
 use Rattle.block.specs.declared.Verdict.{Verdict}
 use Rattle.stream.specs.Stream.{contentOf}
 

@@ -1,11 +1,11 @@
 -- An input in three parts, with the data of the block found in the buffer: case P3 of document 01 after a byte outside, and an unfinished block after it.
 use mathlib.Core.Path.{_≡_, refl}
 use mathlib.Core.List.{[], _∷_}
-use Rattle.block.specs.Settings.{valid}
+use Rattle.settings.specs.Settings.{valid}
 use Rattle.block.specs.Format.{fiveDigits, threeDigits, countField, checksumOf}
 use Rattle.block.specs.Judge.{judge, judgeHybrid, judgeParts, headerOk, typeMatches, checksumMatches, dataOf, same}
-use Rattle.block.specs.declared.Kind.the-variants.{Hybrid}
-use Rattle.block.specs.declared.Settings.{Settings}
+use Rattle.settings.specs.declared.Kind.the-variants.{Hybrid}
+use Rattle.settings.specs.declared.Settings.{Settings}
 use Rattle.block.specs.declared.Verdict.the-variants.{Accepted}
 use Rattle.stream.specs.Stream.{contentOf}
 use Rattle.stream.specs.Scan.{verdictOf, step, fold, readOf, fresh}

@@ -7,8 +7,8 @@ use native.Mathlib.Nat.{add-zero}
 use native.Mathlib.Omega.{arith}
 use lib.ListN.{length, take, drop, length-append, length-drop, take-append-drop}
 use lib.Seq.{take-all, length-take-le}
-use Rattle.block.specs.Settings.{valid, capacityOf}
-use Rattle.block.specs.declared.Settings.{Settings}
+use Rattle.settings.specs.Settings.{valid, capacityOf}
+use Rattle.settings.specs.declared.Settings.{Settings}
 use Rattle.stream.specs.Stream.{Said, Mode, between, move, run, after, hold, held, verdicts}
 use Rattle.stream.specs.Scan.{fresh, readOf}
 use Rattle.stream.specs.declared.Phase.{Phase}

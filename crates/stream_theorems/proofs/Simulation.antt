@@ -11,9 +11,9 @@ use lib.Seq.{take-suc-set, take-append-le, take-at}
 use lib.Dec.{eqb, ltb}
 use borrow.Author.Tests.{lt-ltb, le-ltb, ltb-true, ltb-false}
 use Rattle.lists.proofs.Tests.{cond-ind}
-use Rattle.block.specs.Settings.{valid, capacityOf, dataOffsetOf}
+use Rattle.settings.specs.Settings.{valid, capacityOf, dataOffsetOf}
 use Rattle.block.specs.Verdict.{lengthOf}
-use Rattle.block.specs.declared.Settings.{Settings}
+use Rattle.settings.specs.declared.Settings.{Settings}
 use Rattle.block.specs.declared.Verdict.{Verdict}
 use Rattle.block.specs.declared.Verdict.the-variants.{Interrupted}
 use Rattle.stream.specs.Stream.{Said, Mode, between, inside, ended, Moved, said, contentOf, outcome, move, run, after, hold, held}

@@ -2,7 +2,7 @@
 use mathlib.Core.List.{List, [], _∷_, _++_}
 use Prim.Native.Nat.{ℕ, zero, suc}
 use lib.ListN.{length, drop}
-use Rattle.block.specs.declared.Settings.{Settings}
+use Rattle.settings.specs.declared.Settings.{Settings}
 use Rattle.stream.specs.Stream.{Said, said}
 use Rattle.stream.specs.Scan.{readOf}
 use Rattle.stream.specs.declared.Reader.{Reader}

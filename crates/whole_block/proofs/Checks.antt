@@ -11,12 +11,12 @@ use lib.Dec.{eqb}
 use borrow.Author.Tests.{eq-eqb, ne-eqb}
 use Rattle.lists.proofs.Parts.{drop-more, drop-none}
 use Rattle.lists.specs.Bytes.{hasAny}
-use Rattle.block.specs.Settings.{valid}
-use Rattle.block.specs.declared.Settings.{Settings}
 use Rattle.block.specs.declared.Verdict.the-variants.{Shape, Interrupted}
 use Rattle.stream.proofs.Run.{run-append, free-run, free-after, clear-free}
 use Rattle.stream.proofs.Store.{Stopped}
 use Rattle.stream.specs.Stream.{Said, Mode, between, inside, ended, said, move, run, outcome, verdicts}
+use Rattle.settings.specs.Settings.{valid}
+use Rattle.settings.specs.declared.Settings.{Settings}
 use Rattle.whole_block.specs.Whole.{beginsWith, only, initial, wholeOf, checkOf}
 use Rattle.whole_block.specs.declared.Checked.the-variants.{Setting, Judged}
 

@@ -1,6 +1,6 @@
 // Checking one whole block that lies in memory.
-use block::Settings;
 use block::Verdict;
+use settings::Settings;
 ghost use mathlib.Core.Path.{_≡_};
 ghost use Prim.Native.Nat.{_≤_, _<_};
 ghost use lib.ListN.{length, getD};

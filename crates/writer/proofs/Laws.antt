@@ -11,11 +11,12 @@ use borrow.Author.Tests.{le-leb, lt-leb, leb-true}
 use borrow.Rule.Slice.PartMut.{midOf, putMid}
 use Rattle.lists.proofs.Put.{back, put-put, length-put}
 use Rattle.lists.specs.Bytes.{put}
-use Rattle.block.specs.Format.{byKind, allAllowed, firstForbidden, version, fiveDigits, threeDigits, countField, checksumOf, hybridBody, hybridBlock, minimalBlock, blockOf}
-use Rattle.block.specs.Settings.{valid}
-use Rattle.block.specs.declared.Kind.{Kind}
-use Rattle.block.specs.declared.Kind.the-variants.{Hybrid, Minimal}
-use Rattle.block.specs.declared.Settings.{Settings}
+use Rattle.block.specs.Format.{allAllowed, firstForbidden, version, fiveDigits, threeDigits, countField, checksumOf, hybridBody, hybridBlock, minimalBlock, blockOf}
+use Rattle.settings.specs.Settings.{byKind}
+use Rattle.settings.specs.Settings.{valid}
+use Rattle.settings.specs.declared.Kind.{Kind}
+use Rattle.settings.specs.declared.Kind.the-variants.{Hybrid, Minimal}
+use Rattle.settings.specs.declared.Settings.{Settings}
 use Rattle.writer.specs.Write.{Outcome, frameOf, needOf, typeValid, refused, wrote, writeOf}
 use Rattle.writer.specs.Internal.{hybridHeader, hybridTrailer}
 use Rattle.writer.specs.declared.Written.the-variants.{Setting, TooShort, Long, Shape, Byte, Block}

@@ -5,11 +5,12 @@ use Prim.Native.Nat.{ℕ, _+_}
 use lib.ListN.{length}
 use lib.Dec.{leb}
 use Rattle.lists.specs.Bytes.{put}
-use Rattle.block.specs.Format.{byKind, allAllowed, firstForbidden, blockOf}
+use Rattle.block.specs.Format.{allAllowed, firstForbidden, blockOf}
+use Rattle.settings.specs.Settings.{byKind}
 use Rattle.block.specs.Judge.{typeMatches}
-use Rattle.block.specs.Settings.{valid}
-use Rattle.block.specs.declared.Kind.{Kind}
-use Rattle.block.specs.declared.Settings.{Settings}
+use Rattle.settings.specs.Settings.{valid}
+use Rattle.settings.specs.declared.Kind.{Kind}
+use Rattle.settings.specs.declared.Settings.{Settings}
 use Rattle.writer.specs.declared.Written.{Written}
 use Rattle.writer.specs.declared.Written.the-variants.{Setting, TooShort, Long, Shape, Byte, Block}
 

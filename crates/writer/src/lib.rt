@@ -3,8 +3,8 @@ mod content;
 mod hybrid;
 mod minimal;
 
-use block::Kind;
-use block::Settings;
+use settings::Kind;
+use settings::Settings;
 ghost use mathlib.Core.Path.{_≡_};
 ghost use Prim.Native.Nat.{_+_};
 ghost use lib.Dec.{leb};

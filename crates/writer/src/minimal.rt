@@ -1,6 +1,6 @@
 // Writing a minimal block: SB data EB CR.
 use crate::content::write_content;
-use block::Settings;
+use settings::Settings;
 ghost use mathlib.Core.Path.{_≡_};
 ghost use mathlib.Core.List.{[], _∷_, _++_};
 ghost use Prim.Native.Nat.{_+_, _≤_};

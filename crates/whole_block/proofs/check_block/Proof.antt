@@ -3,7 +3,6 @@ use mathlib.Core.Path.{sym, ap, _∙_}
 use native.Mathlib.Omega.{arith}
 use borrow.Author.Tests.{not-true, not-false}
 use borrow.Author.Needs.{needs}
-use Rattle.block.proofs.Laws.{valid-limit}
 use Rattle.whole_block.proofs.Checks.{check-setting, check-judged, whole-none, whole-other}
 use Rattle.whole_block.specs.declared.Checked.the-variants.{Judged}
 use Rattle.whole_block.proofs.check_block.Statement.{statement}

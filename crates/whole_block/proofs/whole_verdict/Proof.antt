@@ -4,8 +4,8 @@ use Prim.Native.Nat.{_+_, _<_}
 use native.Mathlib.Omega.{arith}
 use lib.ListN.{length, getD}
 use borrow.Author.Needs.{needs}
-use Rattle.whole_block.proofs.Checks.{Begins, check-unfinished, check-interrupted, check-interrupted-early, check-open, check-early, check-verdict}
 use Rattle.stream.proofs.Store.{stopped, stop-byte}
+use Rattle.whole_block.proofs.Checks.{Begins, check-unfinished, check-interrupted, check-interrupted-early, check-open, check-early, check-verdict}
 use Rattle.whole_block.proofs.whole_verdict.Statement.{statement}
 use Rattle.whole_block.proofs.whole_verdict.Tie as tie
 

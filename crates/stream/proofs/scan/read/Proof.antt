@@ -3,7 +3,7 @@ use mathlib.Core.Path.{sym, ap, _∙_}
 use native.Mathlib.Omega.{arith}
 use borrow.Author.Tests.{not-true, not-false}
 use borrow.Author.Needs.{needs}
-use Rattle.block.proofs.Laws.{valid-limit}
+use Rattle.settings.proofs.Laws.{valid-limit}
 use Rattle.stream.proofs.Returns.{read-setting, read-too-short, read-state, read-scanned}
 use Rattle.stream.specs.declared.Reading.{Reading}
 use Rattle.stream.specs.Scan.{given}

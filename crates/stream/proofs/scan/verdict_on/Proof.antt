@@ -4,7 +4,7 @@ use native.Mathlib.Omega.{arith}
 use lib.Seq.{length-take-le}
 use borrow.Author.Tests.{lt-ltb, le-ltb, eq-eqb, ne-eqb}
 use borrow.Author.Needs.{needs}
-use Rattle.block.specs.Settings.{capacityOf}
+use Rattle.settings.specs.Settings.{capacityOf}
 use Rattle.stream.specs.Scan.{verdictOf}
 use Rattle.stream.proofs.scan.verdict_on.Statement.{statement}
 use Rattle.stream.proofs.scan.verdict_on.Tie as tie

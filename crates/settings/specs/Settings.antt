@@ -1,13 +1,20 @@
 -- Document 01, 'Hybrid block': the settings, their ranges, and what follows from them.
-use mathlib.Core.Bool.{Bool, true, false, cond, _&&_, not}
+use mathlib.Core.Bool.{Bool, true, false, cond, _&&_, _||_, not}
 use Prim.Native.Nat.{ℕ, _+_}
 use lib.Dec.{leb, ltb, eqb}
-use Rattle.block.specs.Format.{allowed, byKind}
-use Rattle.block.specs.declared.Kind.{Kind}
-use Rattle.block.specs.declared.Kind.the-variants.{Hybrid, Minimal}
-use Rattle.block.specs.declared.Settings.{Settings}
-use Rattle.block.specs.declared.Made.{Made}
-use Rattle.block.specs.declared.Made.the-variants.{Valid, Refused}
+use Rattle.settings.specs.declared.Kind.{Kind}
+use Rattle.settings.specs.declared.Kind.the-variants.{Hybrid, Minimal}
+use Rattle.settings.specs.declared.Settings.{Settings}
+use Rattle.settings.specs.declared.Made.{Made}
+use Rattle.settings.specs.declared.Made.the-variants.{Valid, Refused}
+
+-- "Data bytes are 20 to 7E and CR."
+abbrev pub allowed : ℕ → Bool
+allowed x = (leb 32 x && leb x 126) || eqb x 13
+
+abbrev pub byKind : {A : Type 0} → Kind → A → A → A
+byKind Hybrid h m = h
+byKind Minimal h m = m
 
 -- "The data limit D is a setting, 1 to 99,994"
 abbrev pub limitValid : ℕ → Bool

@@ -1,8 +1,8 @@
 -- `block::Settings::is_valid` meets its contract.
 use borrow.Author.Needs.{needs}
-use Rattle.block.specs.Settings.{valid}
-use Rattle.block.proofs.Settings.is_valid.Statement.{statement}
-use Rattle.block.proofs.Settings.is_valid.Tie as tie
+use Rattle.settings.specs.Settings.{valid}
+use Rattle.settings.proofs.Settings.is_valid.Statement.{statement}
+use Rattle.settings.proofs.Settings.is_valid.Tie as tie
 
 enum-told : tie.Need-enum-told
 enum-told c = search needs

@@ -1,8 +1,8 @@
 -- `block::Settings::minimal` meets its contract.
 use mathlib.Core.Path.{sym, _∙_}
 use borrow.Author.Needs.{needs}
-use Rattle.block.proofs.Settings.minimal.Statement.{statement}
-use Rattle.block.proofs.Settings.minimal.Tie as tie
+use Rattle.settings.proofs.Settings.minimal.Statement.{statement}
+use Rattle.settings.proofs.Settings.minimal.Tie as tie
 
 is-valid-requires : tie.Need-is-valid-requires
 is-valid-requires c κs = search needs

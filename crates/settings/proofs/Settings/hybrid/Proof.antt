@@ -2,8 +2,8 @@
 use mathlib.Core.Path.{sym, _∙_}
 use borrow.Author.Tests.{lt-ltb, le-ltb}
 use borrow.Author.Needs.{needs}
-use Rattle.block.proofs.Settings.hybrid.Statement.{statement}
-use Rattle.block.proofs.Settings.hybrid.Tie as tie
+use Rattle.settings.proofs.Settings.hybrid.Statement.{statement}
+use Rattle.settings.proofs.Settings.hybrid.Tie as tie
 
 returns : tie.Need-returns
 returns c = simp (lt-ltb _ _ (c .if1 .taken))

@@ -1,0 +1,110 @@
+// The block settings of a link, and the bytes that data may have.
+ghost use mathlib.Core.Path.{_≡_};
+ghost use Rattle.settings.specs.Settings.{allowed, valid, dataOffsetOf, hybridOf, minimalOf};
+
+// The two lower layer protocols (000, C.2 and C.4).
+pub enum Kind {
+    Hybrid,
+    Minimal,
+}
+
+// The block settings of a link.
+pub struct Settings {
+    pub kind: Kind,
+    pub start_block: u8,
+    pub end_block: u8,
+    pub data_limit: usize,
+}
+
+// What making settings of plain numbers gives.
+pub enum Made {
+    Valid(Settings),
+    Refused,
+}
+
+// Data bytes are 20 to 7E and CR.
+pub fn is_allowed(x: u8) -> bool
+    ensures { λ r. ⌜ r ≡ allowed x ⌝ }
+{
+    ((32 <= x) & (x <= 126)) | (x == 13)
+}
+
+impl Settings {
+    pub const START_BLOCK: u8 = 11;
+
+    pub const END_BLOCK: u8 = 28;
+
+    pub const LARGEST_DATA_LIMIT: usize = 99994;
+
+    // The settings of a hybrid link, or a refusal (1).
+    pub fn hybrid(start_block: u64, end_block: u64, data_limit: u64) -> Made
+        ensures { λ r. ⌜ r ≡ hybridOf «start_block» «end_block» «data_limit» ⌝ }
+    {
+        if 255 < start_block {
+            return Made::Refused;
+        }
+        if 255 < end_block {
+            return Made::Refused;
+        }
+        let settings = Settings {
+            kind: Kind::Hybrid,
+            start_block: start_block as u8,
+            end_block: end_block as u8,
+            data_limit: data_limit as usize,
+        };
+        if settings.is_valid() {
+            Made::Valid(settings)
+        } else {
+            Made::Refused
+        }
+    }
+
+    // The settings of a minimal link, or a refusal (1).
+    pub fn minimal(data_limit: u64) -> Made
+        ensures { λ r. ⌜ r ≡ minimalOf «data_limit» ⌝ }
+    {
+        let settings = Settings {
+            kind: Kind::Minimal,
+            start_block: Self::START_BLOCK,
+            end_block: Self::END_BLOCK,
+            data_limit: data_limit as usize,
+        };
+        if settings.is_valid() {
+            Made::Valid(settings)
+        } else {
+            Made::Refused
+        }
+    }
+
+    // Whether every setting is within its range.
+    pub fn is_valid(self) -> bool
+        ensures { λ r. ⌜ r ≡ valid self ⌝ }
+    {
+        let kind = self.kind;
+        let limit_ok = (1 <= self.data_limit) & (self.data_limit <= Self::LARGEST_DATA_LIMIT);
+        match kind {
+            Kind::Hybrid => {
+                let start_taken = is_allowed(self.start_block);
+                let end_taken = is_allowed(self.end_block);
+                let same = self.start_block == self.end_block;
+                !start_taken & !end_taken & !same & limit_ok
+            }
+            Kind::Minimal => {
+                let start_ok = self.start_block == Self::START_BLOCK;
+                let end_ok = self.end_block == Self::END_BLOCK;
+                start_ok & end_ok & limit_ok
+            }
+        }
+    }
+
+    // Where an accepted block's data begins among the bytes after SB.
+    pub fn data_offset(self) -> usize
+        ensures { λ r. ⌜ r ≡ dataOffsetOf self ⌝ }
+    {
+        let kind = self.kind;
+        match kind {
+            Kind::Hybrid => 4,
+            Kind::Minimal => 0,
+        }
+    }
+}
