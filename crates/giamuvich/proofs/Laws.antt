@@ -1,18 +1,17 @@
--- Words written over the first of what was lent, and the ways in which the C functions return.
+-- The ways in which the C functions return.
 use mathlib.Core.Path.{_≡_, refl, sym, ap, _∙_}
 use mathlib.Core.List.{List, [], _∷_}
 use mathlib.Core.Bool.{true, false}
 use Prim.Native.Nat.{ℕ, _≤_, _<_}
 use native.Mathlib.Omega.{arith}
-use lib.ListN.{length, set, getD}
+use lib.ListN.{length, set}
 use lib.Seq.{sets-eq}
 use lib.Dec.{leb}
-use borrow.Author.Tests.{lt-ltb, le-ltb, eq-eqb, ne-eqb}
+use borrow.Author.Tests.{lt-ltb, le-ltb}
 use Rattle.stream.specs.Scan.{Read, given}
 use Rattle.stream.specs.declared.Reading.{Reading}
 use Rattle.stream.specs.declared.Answer.{Answer}
 use Rattle.stream.specs.declared.Answer.the-variants.{Setting, TooShort, State, Pending, Found}
-use Rattle.stream.specs.declared.Phase.the-variants.{Between, Inside, Ended}
 use Rattle.stream.specs.declared.Reader.{Reader}
 use Rattle.writer.specs.Write.{Outcome, writeOf}
 use Rattle.writer.specs.declared.Written.{Written}
@@ -24,33 +23,8 @@ use Rattle.settings.specs.declared.Settings.{Settings}
 use Rattle.settings.specs.declared.Made.the-variants.{Valid, Refused}
 use Rattle.whole_block.specs.declared.Checked.{Checked}
 use Rattle.whole_block.specs.Whole.{checkOf}
-use Rattle.giamuvich.specs.Words.{over, decoded, withPhase}
+use Rattle.words.specs.Words.{over, decoded}
 use Rattle.giamuvich.specs.Calls.{WriteCall, writeCalled, writeFinished, typeByte, writeCall, ReadCall, readCalled, readAnswered, readFinished, readDecoded, readCall, checkCalled, checkFinished, checkCall}
-use Rattle.giamuvich.specs.declared.Decoded.the-variants.{Unknown}
-
-pub four : (l : List ℕ) (a b c d : ℕ) → 4 ≤ length l → set (set (set (set l 0 a) 1 b) 2 c) 3 d ≡ over l (a ∷ b ∷ c ∷ d ∷ [])
-four l a b c d h = sets-eq (a ∷ b ∷ c ∷ d ∷ []) l 0 h
-
-pub eight : (l : List ℕ) (a b c d e f g i : ℕ) → 8 ≤ length l
-    → set (set (set (set (set (set (set (set l 0 a) 1 b) 2 c) 3 d) 4 e) 5 f) 6 g) 7 i ≡ over l (a ∷ b ∷ c ∷ d ∷ e ∷ f ∷ g ∷ i ∷ [])
-eight l a b c d e f g i h = sets-eq (a ∷ b ∷ c ∷ d ∷ e ∷ f ∷ g ∷ i ∷ []) l 0 h
-
--- ---- the state that words encode
-pub decoded-between : (ws : List ℕ) → getD ws 0 0 ≡ 0 → withPhase Between ws ≡ decoded ws
-unfolding decoded
-decoded-between ws e = rw (eq-eqb (getD ws 0 0) 0 e)
-
-pub decoded-inside : (ws : List ℕ) → (getD ws 0 0 ≡ 0 → ⊥) → getD ws 0 0 ≡ 1 → withPhase Inside ws ≡ decoded ws
-unfolding decoded
-decoded-inside ws n e = rw (ne-eqb (getD ws 0 0) 0 n, eq-eqb (getD ws 0 0) 1 e)
-
-pub decoded-ended : (ws : List ℕ) → (getD ws 0 0 ≡ 0 → ⊥) → (getD ws 0 0 ≡ 1 → ⊥) → getD ws 0 0 ≡ 2 → withPhase Ended ws ≡ decoded ws
-unfolding decoded
-decoded-ended ws n m e = rw (ne-eqb (getD ws 0 0) 0 n, ne-eqb (getD ws 0 0) 1 m, eq-eqb (getD ws 0 0) 2 e)
-
-pub decoded-unknown : (ws : List ℕ) → (getD ws 0 0 ≡ 0 → ⊥) → (getD ws 0 0 ≡ 1 → ⊥) → (getD ws 0 0 ≡ 2 → ⊥) → Unknown ≡ decoded ws
-unfolding decoded
-decoded-unknown ws n m o = rw (ne-eqb (getD ws 0 0) 0 n, ne-eqb (getD ws 0 0) 1 m, ne-eqb (getD ws 0 0) 2 o)
 
 -- ---- a call of the reader
 abbrev pub withBuffer : List ℕ → ReadCall → ReadCall

@@ -19,9 +19,9 @@ use Rattle.whole_block.specs.declared.Checked.the-variants.{Setting as BadSetti
 use Rattle.writer.specs.Write.{Outcome, writeOf, numberOf as writtenNumber, forbiddenOffsetOf as writtenForbiddenOffset, lengthOf as writtenLength}
 use Rattle.writer.specs.declared.Written.{Written}
 use Rattle.writer.specs.declared.Written.the-variants.{Block, Setting as WrongSetting, TooShort as WriterTooShort, Long as LongContent, Shape as WrongType, Byte as ForbiddenByte}
-use Rattle.giamuvich.specs.Words.{over, readerWords, decoded, verdictWords, pendingWords}
-use Rattle.giamuvich.specs.declared.Decoded.{Decoded}
-use Rattle.giamuvich.specs.declared.Decoded.the-variants.{Unknown, Known}
+use Rattle.words.specs.Words.{over, readerWords, decoded, verdictWords, pendingWords}
+use Rattle.words.specs.declared.Decoded.{Decoded}
+use Rattle.words.specs.declared.Decoded.the-variants.{Unknown, Known}
 
 -- gmv_reader_fresh
 pub record Fresh : Type 0 where

@@ -1,8 +1,8 @@
 // Checking one whole block.
-use crate::words::write_verdict;
 use settings::Made;
 use settings::Settings;
 use whole_block::Checked;
+use words::write_verdict;
 ghost use mathlib.Core.Path.{_≡_};
 ghost use Rattle.settings.specs.Settings.{hybridOf, minimalOf};
 ghost use Rattle.giamuvich.specs.Calls.{checkCalled, checkCall};

@@ -1,6 +1,6 @@
 // A fresh reader.
-use crate::words::write_reader;
 use stream::Reader;
+use words::write_reader;
 ghost use mathlib.Core.Path.{_≡_};
 ghost use Rattle.giamuvich.specs.Calls.{Fresh, freshCall};
 

@@ -2,13 +2,4 @@
 mod check;
 mod fresh;
 mod read;
-mod words;
 mod write;
-
-use stream::Reader;
-
-// What a reader's words encode.
-pub enum Decoded {
-    Unknown,
-    Known(Reader),
-}

@@ -1,19 +1,19 @@
 // Reading a part of a stream.
-use crate::Decoded;
-use crate::words::read_reader;
-use crate::words::write_pending;
-use crate::words::write_reader;
-use crate::words::write_verdict;
 use settings::Made;
 use settings::Settings;
 use stream::Answer;
 use stream::Reading;
+use words::Decoded;
+use words::read_reader;
+use words::write_pending;
+use words::write_reader;
+use words::write_verdict;
 ghost use mathlib.Core.Path.{_≡_};
 ghost use mathlib.Core.List.{[]};
 ghost use Prim.Native.Nat.{_≤_};
 ghost use lib.ListN.{length};
 ghost use Rattle.settings.specs.Settings.{hybridOf, minimalOf};
-ghost use Rattle.giamuvich.specs.Words.{decoded};
+ghost use Rattle.words.specs.Words.{decoded};
 ghost use Rattle.giamuvich.specs.Calls.{readCalled, readAnswered, readDecoded, readCall};
 
 // Writes what a reading gave into the state and the verdict, unless it was refused.

@@ -7,7 +7,7 @@ ghost use mathlib.Core.List.{[], _∷_};
 ghost use Prim.Native.Nat.{_≤_};
 ghost use lib.ListN.{length};
 ghost use Rattle.settings.specs.Settings.{hybridOf, minimalOf};
-ghost use Rattle.giamuvich.specs.Words.{over};
+ghost use Rattle.words.specs.Words.{over};
 ghost use Rattle.giamuvich.specs.Calls.{writeCalled, writeFinished, typeByte, writeCall};
 
 // Writes over the first two words.

@@ -1,8 +1,8 @@
--- `giamuvich::words::read_reader` meets its contract.
+-- `words::read_reader` meets its contract.
 use borrow.Author.Needs.{needs}
-use Rattle.giamuvich.proofs.Laws.{decoded-between, decoded-inside, decoded-ended, decoded-unknown}
-use Rattle.giamuvich.proofs.words.read_reader.Statement.{statement}
-use Rattle.giamuvich.proofs.words.read_reader.Tie as tie
+use Rattle.words.proofs.Laws.{decoded-between, decoded-inside, decoded-ended, decoded-unknown}
+use Rattle.words.proofs.read_reader.Statement.{statement}
+use Rattle.words.proofs.read_reader.Tie as tie
 
 shared-slice-read-phase : tie.Need-shared-slice-read-phase
 shared-slice-read-phase c = search needs

@@ -1,12 +1,12 @@
--- `giamuvich::words::write_verdict` meets its contract.
+-- `words::write_verdict` meets its contract.
 use mathlib.Core.Path.{_∙_}
 use native.Mathlib.Omega.{arith}
 use lib.ListN.{length-set}
 use borrow.Author.Needs.{needs}
-use Rattle.giamuvich.proofs.Laws.{eight}
-use Rattle.giamuvich.specs.Words.{verdictWords}
-use Rattle.giamuvich.proofs.words.write_verdict.Statement.{statement}
-use Rattle.giamuvich.proofs.words.write_verdict.Tie as tie
+use Rattle.words.proofs.Laws.{eight}
+use Rattle.words.specs.Words.{verdictWords}
+use Rattle.words.proofs.write_verdict.Statement.{statement}
+use Rattle.words.proofs.write_verdict.Tie as tie
 
 slice-write-words : tie.Need-slice-write-words
 slice-write-words c = omega arith

@@ -1,5 +1,4 @@
-// A reader's state and a verdict as words.
-use crate::Decoded;
+// A reader's state and a verdict as the 64-bit words that a C driver lends.
 use block::Verdict;
 use stream::Phase;
 use stream::Reader;
@@ -7,7 +6,13 @@ ghost use mathlib.Core.Path.{_≡_};
 ghost use mathlib.Core.List.{[], _∷_, _++_};
 ghost use Prim.Native.Nat.{_≤_};
 ghost use lib.ListN.{length, drop};
-ghost use Rattle.giamuvich.specs.Words.{over, phaseNumber, readerWords, decoded, dataStart, verdictWords, pendingWords};
+ghost use Rattle.words.specs.Words.{over, phaseNumber, readerWords, decoded, dataStart, verdictWords, pendingWords};
+
+// What a reader's words encode.
+pub enum Decoded {
+    Unknown,
+    Known(Reader),
+}
 
 fn size(x: u64) -> usize
     ensures { λ r. ⌜ r ≡ x ⌝ }

@@ -10,8 +10,8 @@ use Rattle.block.specs.declared.Verdict.the-variants.{Accepted, Byte, Long, Sha
 use Rattle.stream.specs.declared.Phase.{Phase}
 use Rattle.stream.specs.declared.Phase.the-variants.{Between, Inside, Ended}
 use Rattle.stream.specs.declared.Reader.{Reader}
-use Rattle.giamuvich.specs.declared.Decoded.{Decoded}
-use Rattle.giamuvich.specs.declared.Decoded.the-variants.{Unknown, Known}
+use Rattle.words.specs.declared.Decoded.{Decoded}
+use Rattle.words.specs.declared.Decoded.the-variants.{Unknown, Known}
 
 -- the first words of what was lent, written over; the others stay
 abbrev pub over : List ℕ → List ℕ → List ℕ

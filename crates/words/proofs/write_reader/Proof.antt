@@ -1,12 +1,12 @@
--- `giamuvich::words::write_reader` meets its contract.
+-- `words::write_reader` meets its contract.
 use mathlib.Core.Path.{_∙_}
 use native.Mathlib.Omega.{arith}
 use lib.ListN.{length-set}
 use borrow.Author.Needs.{needs}
-use Rattle.giamuvich.proofs.Laws.{four}
-use Rattle.giamuvich.specs.Words.{readerWords}
-use Rattle.giamuvich.proofs.words.write_reader.Statement.{statement}
-use Rattle.giamuvich.proofs.words.write_reader.Tie as tie
+use Rattle.words.proofs.Laws.{four}
+use Rattle.words.specs.Words.{readerWords}
+use Rattle.words.proofs.write_reader.Statement.{statement}
+use Rattle.words.proofs.write_reader.Tie as tie
 
 phase-number-requires : tie.Need-phase-number-requires
 phase-number-requires c κs = search needs
