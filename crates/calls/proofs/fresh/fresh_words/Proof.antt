@@ -1,10 +1,10 @@
--- `giamuvich::fresh::gmv_reader_fresh` meets its contract.
+-- `giamuvich::fresh::fresh_words` meets its contract.
 use lib.ListN.{length}
 use borrow.Author.Tests.{lt-ltb, le-ltb}
 use borrow.Author.Needs.{needs}
-use Rattle.giamuvich.specs.Calls.{freshCall}
-use Rattle.giamuvich.proofs.fresh.gmv_reader_fresh.Statement.{statement}
-use Rattle.giamuvich.proofs.fresh.gmv_reader_fresh.Tie as tie
+use Rattle.calls.specs.Calls.{freshCall}
+use Rattle.calls.proofs.fresh.fresh_words.Statement.{statement}
+use Rattle.calls.proofs.fresh.fresh_words.Tie as tie
 
 returns : tie.Need-returns
 unfolding freshCall
@@ -23,6 +23,6 @@ returns-2 : tie.Need-returns-2
 unfolding freshCall
 returns-2 c = rw (le-ltb (length (c .before .before .before .before .before .before .before .args .state .now)) 4 (c .before .before .before .before .before .if1 .left), c .before .before .write-reader .ensures, c .before .before .before .new .ensures)
 
-pub gmv-reader-fresh-spec : {M : Type 1} → statement M
-gmv-reader-fresh-spec =
+pub fresh-words-spec : {M : Type 1} → statement M
+fresh-words-spec =
     tie.close (tie.spec returns new-requires write-reader-requires same-length returns-2)

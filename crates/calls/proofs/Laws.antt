@@ -24,7 +24,7 @@ use Rattle.settings.specs.declared.Made.the-variants.{Valid, Refused}
 use Rattle.whole_block.specs.declared.Checked.{Checked}
 use Rattle.whole_block.specs.Whole.{checkOf}
 use Rattle.words.specs.Words.{over, decoded}
-use Rattle.giamuvich.specs.Calls.{WriteCall, writeCalled, writeFinished, typeByte, writeCall, ReadCall, readCalled, readAnswered, readFinished, readDecoded, readCall, checkCalled, checkFinished, checkCall}
+use Rattle.calls.specs.Calls.{WriteCall, writeCalled, writeFinished, typeByte, writeCall, ReadCall, readCalled, readAnswered, readFinished, readDecoded, readCall, checkCalled, checkFinished, checkCall}
 
 -- ---- a call of the reader
 abbrev pub withBuffer : List ℕ → ReadCall → ReadCall

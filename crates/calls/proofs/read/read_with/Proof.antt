@@ -1,8 +1,8 @@
--- `giamuvich::read::read_with` meets its contract.
+-- `calls::read::read_with` meets its contract.
 use borrow.Author.Needs.{needs}
-use Rattle.giamuvich.proofs.Laws.{read-known}
-use Rattle.giamuvich.proofs.read.read_with.Statement.{statement}
-use Rattle.giamuvich.proofs.read.read_with.Tie as tie
+use Rattle.calls.proofs.Laws.{read-known}
+use Rattle.calls.proofs.read.read_with.Statement.{statement}
+use Rattle.calls.proofs.read.read_with.Tie as tie
 
 read-reader-requires : tie.Need-read-reader-requires
 read-reader-requires c κs = search needs

@@ -1,8 +1,8 @@
--- `giamuvich::write::write_report` meets its contract.
+-- `calls::write::write_report` meets its contract.
 use borrow.Author.Needs.{needs}
-use Rattle.giamuvich.proofs.Laws.{two}
-use Rattle.giamuvich.proofs.write.write_report.Statement.{statement}
-use Rattle.giamuvich.proofs.write.write_report.Tie as tie
+use Rattle.calls.proofs.Laws.{two}
+use Rattle.calls.proofs.write.write_report.Statement.{statement}
+use Rattle.calls.proofs.write.write_report.Tie as tie
 
 slice-write-report : tie.Need-slice-write-report
 slice-write-report c = search needs

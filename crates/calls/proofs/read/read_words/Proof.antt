@@ -1,10 +1,10 @@
--- `giamuvich::read::read_words` meets its contract.
+-- `calls::read::read_words` meets its contract.
 use mathlib.Core.Path.{sym, _∙_}
 use borrow.Author.Tests.{not-true, not-false}
 use borrow.Author.Needs.{needs}
-use Rattle.giamuvich.proofs.Laws.{read-refused, read-few-state, read-few-verdict, read-few-buffer, read-done}
-use Rattle.giamuvich.proofs.read.read_words.Statement.{statement}
-use Rattle.giamuvich.proofs.read.read_words.Tie as tie
+use Rattle.calls.proofs.Laws.{read-refused, read-few-state, read-few-verdict, read-few-buffer, read-done}
+use Rattle.calls.proofs.read.read_words.Statement.{statement}
+use Rattle.calls.proofs.read.read_words.Tie as tie
 
 enum-known-made : tie.Need-enum-known-made
 enum-known-made c = search needs

@@ -1,10 +1,10 @@
--- `giamuvich::check::check_words` meets its contract.
+-- `calls::check::check_words` meets its contract.
 use mathlib.Core.Path.{sym, _∙_}
 use native.Mathlib.Omega.{arith}
 use borrow.Author.Needs.{needs}
-use Rattle.giamuvich.proofs.Laws.{check-refused, check-few, check-as, offset-small}
-use Rattle.giamuvich.proofs.check.check_words.Statement.{statement}
-use Rattle.giamuvich.proofs.check.check_words.Tie as tie
+use Rattle.calls.proofs.Laws.{check-refused, check-few, check-as, offset-small}
+use Rattle.calls.proofs.check.check_words.Statement.{statement}
+use Rattle.calls.proofs.check.check_words.Tie as tie
 
 enum-known-made : tie.Need-enum-known-made
 enum-known-made c = search needs

@@ -1,7 +1,7 @@
--- `giamuvich::write::report_written` meets its contract.
+-- `calls::write::report_written` meets its contract.
 use borrow.Author.Needs.{needs}
-use Rattle.giamuvich.proofs.write.report_written.Statement.{statement}
-use Rattle.giamuvich.proofs.write.report_written.Tie as tie
+use Rattle.calls.proofs.write.report_written.Statement.{statement}
+use Rattle.calls.proofs.write.report_written.Tie as tie
 
 enum-told : tie.Need-enum-told
 enum-told c = search needs

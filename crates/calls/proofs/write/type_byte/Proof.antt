@@ -1,8 +1,8 @@
--- `giamuvich::write::type_byte` meets its contract.
+-- `calls::write::type_byte` meets its contract.
 use borrow.Author.Tests.{lt-ltb, le-ltb}
 use borrow.Author.Needs.{needs}
-use Rattle.giamuvich.proofs.write.type_byte.Statement.{statement}
-use Rattle.giamuvich.proofs.write.type_byte.Tie as tie
+use Rattle.calls.proofs.write.type_byte.Statement.{statement}
+use Rattle.calls.proofs.write.type_byte.Tie as tie
 
 returns : tie.Need-returns
 returns c = rw (lt-ltb _ _ (c .if1 .taken))

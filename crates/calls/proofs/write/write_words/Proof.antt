@@ -1,8 +1,8 @@
--- `giamuvich::write::write_words` meets its contract.
+-- `calls::write::write_words` meets its contract.
 use borrow.Author.Needs.{needs}
-use Rattle.giamuvich.proofs.Laws.{write-refused, write-few, write-done}
-use Rattle.giamuvich.proofs.write.write_words.Statement.{statement}
-use Rattle.giamuvich.proofs.write.write_words.Tie as tie
+use Rattle.calls.proofs.Laws.{write-refused, write-few, write-done}
+use Rattle.calls.proofs.write.write_words.Statement.{statement}
+use Rattle.calls.proofs.write.write_words.Tie as tie
 
 enum-known-made : tie.Need-enum-known-made
 enum-known-made c = search needs

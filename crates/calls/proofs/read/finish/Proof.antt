@@ -1,7 +1,7 @@
--- `giamuvich::read::finish` meets its contract.
+-- `calls::read::finish` meets its contract.
 use borrow.Author.Needs.{needs}
-use Rattle.giamuvich.proofs.read.finish.Statement.{statement}
-use Rattle.giamuvich.proofs.read.finish.Tie as tie
+use Rattle.calls.proofs.read.finish.Statement.{statement}
+use Rattle.calls.proofs.read.finish.Tie as tie
 
 enum-told : tie.Need-enum-told
 enum-told c = search needs
