@@ -6,6 +6,7 @@ use settings::Settings;
 use stream::Answer;
 use stream::Reader;
 use whole_block::Checked;
+use writer::Written;
 
 const DATA_LIMIT: usize = 16;
 
@@ -18,13 +19,33 @@ fn print_number(n: u64) {
     io::print_decimal(STDOUT_FILENO, n);
 }
 
+fn print_refusal(number: u64, offset: usize) -> usize {
+    print_number(number);
+    print_number(offset as u64);
+    0
+}
+
+// Prints the number and the offset of a forbidden byte, and returns the length of the block written.
+fn print_written(written: Written) -> usize {
+    match written {
+        Written::Setting => print_refusal(1, 0),
+        Written::TooShort => print_refusal(2, 0),
+        Written::Long => print_refusal(4, 0),
+        Written::Shape => print_refusal(5, 0),
+        Written::Byte(offset) => print_refusal(3, offset),
+        Written::Block(length) => {
+            print_number(0);
+            print_number(0);
+            length
+        }
+    }
+}
+
 // Writes a block of this data, and checks what was written: the writer's number and place, then the check's number, place
 // and data length.
 fn write_and_check(settings: Settings, content: &[u8], buffer: &mut [u8]) {
     let written = writer::write(settings, 68, content, buffer, 0);
-    print_number(written.number());
-    print_number(written.forbidden_offset() as u64);
-    let length = written.length();
+    let length = print_written(written);
     if 0 < length {
         if length <= buffer.len() {
             print_check(settings, &buffer[0..length]);

@@ -8,7 +8,7 @@ use settings::Settings;
 ghost use mathlib.Core.Path.{_≡_};
 ghost use Prim.Native.Nat.{_+_};
 ghost use lib.Dec.{leb};
-ghost use Rattle.writer.specs.Write.{Outcome, numberOf, forbiddenOffsetOf, lengthOf, frameOf, typeValid, writeOf};
+ghost use Rattle.writer.specs.Write.{Outcome, frameOf, typeValid, writeOf};
 
 // What writing a block gives.
 pub enum Written {
@@ -21,49 +21,6 @@ pub enum Written {
     Byte(usize),
     // The length of the block that was written.
     Block(usize),
-}
-
-impl Written {
-    // The number of document 01's table, 0 where the block was written.
-    pub fn number(self) -> u64
-        ensures { λ r. ⌜ r ≡ numberOf self ⌝ }
-    {
-        match self {
-            Written::Setting => 1,
-            Written::TooShort => 2,
-            Written::Long => 4,
-            Written::Shape => 5,
-            Written::Byte(_) => 3,
-            Written::Block(_) => 0,
-        }
-    }
-
-    pub fn forbidden_offset(self) -> usize
-        ensures { λ r. ⌜ r ≡ forbiddenOffsetOf self ⌝ }
-    {
-        match self {
-            Written::Setting => 0,
-            Written::TooShort => 0,
-            Written::Long => 0,
-            Written::Shape => 0,
-            Written::Byte(offset) => offset,
-            Written::Block(_) => 0,
-        }
-    }
-
-    // The length of the block, 0 where none was written.
-    pub fn length(self) -> usize
-        ensures { λ r. ⌜ r ≡ lengthOf self ⌝ }
-    {
-        match self {
-            Written::Setting => 0,
-            Written::TooShort => 0,
-            Written::Long => 0,
-            Written::Shape => 0,
-            Written::Byte(_) => 0,
-            Written::Block(length) => length,
-        }
-    }
 }
 
 // How many bytes a block has besides its data.
