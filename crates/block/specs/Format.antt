@@ -1,30 +1,10 @@
 -- Document 01, 'Hybrid block' and 'Minimal block' (000, C.2.2 and C.4.2): which bytes data may have, the digits, the checksum, and the bytes of a block.
 use mathlib.Core.List.{List, [], _∷_, _++_}
-use mathlib.Core.Bool.{Bool, true, false, cond, _&&_, _||_}
-use Prim.Native.Nat.{ℕ, suc, _+_, _/_, _%_}
+use Prim.Native.Nat.{ℕ, _+_, _/_}
 use lib.ListN.{length}
-use lib.Dec.{leb, eqb}
-use lib.Bits.{bitXor}
-use Rattle.settings.specs.Settings.{allowed, byKind}
+use Rattle.data_bytes.specs.DataBytes.{xorFrom, digit}
+use Rattle.settings.specs.Settings.{byKind}
 use Rattle.settings.specs.declared.Settings.{Settings}
-
-abbrev pub allAllowed : List ℕ → Bool
-allAllowed [] = true
-allAllowed (x ∷ xs) = allowed x && allAllowed xs
-
--- the offset of the first byte that is not allowed; the length where there is none
-abbrev pub firstForbidden : List ℕ → ℕ
-firstForbidden [] = 0
-firstForbidden (x ∷ xs) = cond (allowed x) (suc (firstForbidden xs)) 0
-
--- the exclusive-or of a and every byte
-abbrev pub xorFrom : ℕ → List ℕ → ℕ
-xorFrom a [] = a
-xorFrom a (x ∷ xs) = xorFrom (bitXor a x) xs
-
--- the last decimal digit, in ASCII
-abbrev pub digit : ℕ → ℕ
-digit n = n % 10 + 48
 
 -- "ccccc is five decimal digits"
 unfoldable pub fiveDigits : ℕ → List ℕ

@@ -1,14 +1,15 @@
 -- Document 01, 'Numbers that say no': the verdict on the bytes between SB and EB of a block that fits and has its CR after EB, in the order 5, 3, 6, 7.
-use mathlib.Core.List.{List, [], _∷_, _++_}
+use mathlib.Core.List.{List, [], _∷_}
 use mathlib.Core.Bool.{Bool, true, false, cond, _&&_, _||_}
-use Prim.Native.Nat.{ℕ, _+_, _-_}
+use Prim.Native.Nat.{ℕ, _-_}
 use lib.ListN.{length, take, drop, getD}
 use lib.Dec.{leb, eqb}
-use Rattle.block.specs.Format.{allAllowed, firstForbidden, version, countField, checksumOf, threeDigits}
+use Rattle.data_bytes.specs.DataBytes.{allAllowed, firstForbidden}
+use Rattle.block.specs.Format.{version, countField, checksumOf, threeDigits}
 use Rattle.settings.specs.Settings.{byKind}
 use Rattle.settings.specs.declared.Settings.{Settings}
-use Rattle.block.specs.declared.Verdict.{Verdict}
-use Rattle.block.specs.declared.Verdict.the-variants.{Accepted, Byte, Shape, Count, Check}
+use Rattle.verdict.specs.declared.Verdict.{Verdict}
+use Rattle.verdict.specs.declared.Verdict.the-variants.{Accepted, Byte, Shape, Count, Check}
 
 -- whether two fields have the same bytes
 unfoldable pub same : List ℕ → List ℕ → Bool

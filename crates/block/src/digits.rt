@@ -1,16 +1,10 @@
-// Fixed fields of three and five bytes, and decimal digits.
+// Fixed fields of three and five bytes.
+use data_bytes::digit_of;
 ghost use mathlib.Core.Path.{_≡_};
 ghost use mathlib.Core.List.{[], _∷_};
 ghost use lib.ListN.{length};
-ghost use Rattle.block.specs.Format.{digit, fiveDigits, threeDigits};
+ghost use Rattle.block.specs.Format.{fiveDigits, threeDigits};
 ghost use Rattle.block.specs.Judge.{same};
-
-// The last decimal digit of n, in ASCII.
-pub fn digit_of(n: usize) -> u8
-    ensures { λ r. ⌜ r ≡ digit n ⌝ }
-{
-    (n % 10) as u8 + 48
-}
 
 // Whether s is these three bytes.
 pub fn is_three(s: &[u8], a: u8, b: u8, c: u8) -> bool

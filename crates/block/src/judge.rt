@@ -1,13 +1,13 @@
 // The verdict on the bytes between SB and EB of a block that fits and has its CR after EB.
-use crate::Verdict;
-use crate::bytes::are_allowed;
-use crate::bytes::checksum;
-use crate::bytes::first_forbidden;
 use crate::digits::is_five_digits;
 use crate::digits::is_three;
 use crate::digits::is_three_digits;
+use data_bytes::are_allowed;
+use data_bytes::checksum;
+use data_bytes::first_forbidden;
 use settings::Kind;
 use settings::Settings;
+use verdict::Verdict;
 ghost use mathlib.Core.Path.{_≡_};
 ghost use lib.ListN.{length};
 ghost use Rattle.block.specs.Format.{checksumOf};

@@ -3,22 +3,22 @@ use mathlib.Core.Path.{_≡_, refl, sym, ap, _∙_}
 use mathlib.Core.List.{List, [], _∷_, _++_, append-assoc}
 use mathlib.Core.Bool.{Bool, true, false, cond, _||_, false≢true}
 use mathlib.Core.Logic.{_⊎_, inl, inr}
-use Prim.Native.Nat.{ℕ, _+_, _-_, _≤_}
+use Prim.Native.Nat.{ℕ, _+_, _≤_, _-_}
 use native.Mathlib.Omega.{arith}
 use lib.ListN.{length, take, drop, getD, take-append-drop}
 use lib.Seq.{drop-drop}
 use lib.Dec.{eqb, leb, ltb}
 use borrow.Author.Tests.{eqb-true, leb-true, ltb-false}
 use Rattle.lists.proofs.Tests.{and-left, and-right}
-use Rattle.block.specs.Format.{allAllowed, firstForbidden, version, threeDigits, countField, checksumOf, hybridBody}
-use Rattle.settings.specs.Settings.{byKind}
+use Rattle.data_bytes.specs.DataBytes.{allAllowed, firstForbidden}
+use Rattle.block.specs.Format.{version, threeDigits, countField, checksumOf, hybridBody}
+use Rattle.settings.specs.Settings.{byKind, valid, capacityOf}
 use Rattle.block.specs.Judge.{same, typeMatches, headerOk, checksumMatches, judgeParts, dataOf, judgeHybrid, judgeMinimal, judge}
-use Rattle.settings.specs.Settings.{valid, capacityOf}
-use Rattle.block.specs.Verdict.{numberOf, typeOf, lengthOf}
+use Rattle.verdict.specs.Verdict.{numberOf, typeOf, lengthOf}
 use Rattle.settings.specs.declared.Kind.{Kind}
 use Rattle.settings.specs.declared.Kind.the-variants.{Hybrid, Minimal}
 use Rattle.settings.specs.declared.Settings.{Settings}
-use Rattle.block.specs.declared.Verdict.the-variants.{Accepted, Byte, Shape, Count, Check, Long}
+use Rattle.verdict.specs.declared.Verdict.the-variants.{Accepted, Byte, Shape, Count, Check, Long}
 use Rattle.stream.specs.Stream.{outcome}
 use Rattle.block_theorems.proofs.Bytes.{three-allowed}
 use Rattle.block_theorems.proofs.RoundTrip.{Good, hybrid-good, minimal-good, outcome-fits}

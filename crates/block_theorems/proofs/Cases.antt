@@ -3,7 +3,8 @@ use mathlib.Core.Path.{refl}
 use Rattle.block.specs.Format.{fiveDigits, threeDigits, countField, checksumOf, hybridBody, hybridBlock}
 use Rattle.block.specs.Judge.{same, typeMatches, headerOk, checksumMatches, judgeParts, dataOf, judgeHybrid, judge}
 use Rattle.settings.specs.Settings.{valid}
-use Rattle.stream.specs.Stream.{contentOf, outcome, move, run}
+use Rattle.reader_buffer.specs.Content.{contentOf}
+use Rattle.stream.specs.Stream.{outcome, move, run}
 use Rattle.whole_block.specs.Whole.{wholeOf, checkOf}
 use Rattle.block_theorems.specs.Cases.{Each, none, _and_, cases}
 

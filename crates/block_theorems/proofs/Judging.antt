@@ -8,9 +8,10 @@ use lib.ListN.{length, take, drop, length-append}
 use lib.Seq.{take-at, drop-at}
 use borrow.Author.Tests.{eq-eqb, le-leb}
 use Rattle.block.proofs.Laws.{parts-accepted}
-use Rattle.block.specs.Format.{allAllowed, version, fiveDigits, threeDigits, countField, checksumOf, hybridBody}
+use Rattle.data_bytes.specs.DataBytes.{allAllowed}
+use Rattle.block.specs.Format.{version, fiveDigits, threeDigits, countField, checksumOf, hybridBody}
 use Rattle.block.specs.Judge.{same, typeMatches, headerOk, checksumMatches, judgeParts, dataOf, judgeHybrid}
-use Rattle.block.specs.declared.Verdict.the-variants.{Accepted, Shape}
+use Rattle.verdict.specs.declared.Verdict.the-variants.{Accepted, Shape}
 
 pub same-self : (l : List ℕ) → same l l ≡ true
 unfolding same

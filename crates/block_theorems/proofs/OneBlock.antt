@@ -10,10 +10,10 @@ use lib.Dec.{eqb}
 use borrow.Author.Tests.{eq-eqb, eqb-true}
 use Rattle.lists.proofs.Tests.{cond-ind}
 use Rattle.settings.specs.Settings.{valid}
-use Rattle.block.specs.Verdict.{numberOf, typeOf, lengthOf}
+use Rattle.verdict.specs.Verdict.{numberOf, typeOf, lengthOf}
 use Rattle.settings.specs.declared.Settings.{Settings}
-use Rattle.block.specs.declared.Verdict.{Verdict}
-use Rattle.block.specs.declared.Verdict.the-variants.{Accepted, Shape}
+use Rattle.verdict.specs.declared.Verdict.{Verdict}
+use Rattle.verdict.specs.declared.Verdict.the-variants.{Accepted, Shape}
 use Rattle.stream.proofs.Run.{run-append}
 use Rattle.stream.specs.Stream.{Said, Mode, between, inside, ended, Moved, moved, move, run, after, verdicts}
 use Rattle.whole_block.proofs.Checks.{check-setting, check-judged}

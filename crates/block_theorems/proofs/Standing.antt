@@ -12,12 +12,13 @@ use lib.Dec.{eqb}
 use borrow.Author.Tests.{eq-eqb, eqb-true}
 use Rattle.lists.proofs.Tests.{cond-ind}
 use Rattle.settings.specs.Settings.{valid}
-use Rattle.block.specs.Verdict.{numberOf}
+use Rattle.verdict.specs.Verdict.{numberOf}
 use Rattle.settings.specs.declared.Settings.{Settings}
-use Rattle.block.specs.declared.Verdict.{Verdict}
-use Rattle.block.specs.declared.Verdict.the-variants.{Accepted, Byte, Long, Shape, Count, Check, Interrupted}
+use Rattle.verdict.specs.declared.Verdict.{Verdict}
+use Rattle.verdict.specs.declared.Verdict.the-variants.{Accepted, Byte, Long, Shape, Count, Check, Interrupted}
 use Rattle.stream.proofs.Run.{run-append}
-use Rattle.stream.specs.Stream.{Said, verdicts, Mode, between, inside, ended, Moved, moved, said, contentOf, outcome, move, run, after}
+use Rattle.stream.specs.Stream.{Said, verdicts, Mode, between, inside, ended, Moved, moved, said, outcome, move, run, after}
+use Rattle.reader_buffer.specs.Content.{contentOf}
 use Rattle.block_theorems.proofs.Accepted.{outcome-sound, body-good}
 use Rattle.block_theorems.proofs.Judging.{data-body}
 use Rattle.block_theorems.proofs.RoundTrip.{good-reads}

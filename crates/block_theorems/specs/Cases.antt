@@ -3,10 +3,10 @@ use mathlib.Core.Path.{_≡_}
 use mathlib.Core.List.{List, [], _∷_, _++_}
 use Prim.Native.Nat.{ℕ}
 use Rattle.block.specs.Format.{hybridBlock}
-use Rattle.block.specs.Verdict.{numberOf, lengthOf}
+use Rattle.verdict.specs.Verdict.{numberOf, lengthOf}
 use Rattle.settings.specs.declared.Kind.the-variants.{Hybrid}
 use Rattle.settings.specs.declared.Settings.{Settings}
-use Rattle.block.specs.declared.Verdict.the-variants.{Accepted, Shape, Count, Check, Interrupted}
+use Rattle.verdict.specs.declared.Verdict.the-variants.{Accepted, Shape, Count, Check, Interrupted}
 use Rattle.stream.specs.Stream.{Said, verdicts}
 use Rattle.whole_block.specs.Whole.{checkOf}
 use Rattle.whole_block.specs.declared.Checked.{Checked}

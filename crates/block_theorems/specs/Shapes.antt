@@ -5,13 +5,13 @@ use mathlib.Core.Bool.{true}
 use mathlib.Core.Logic.{_⊎_}
 use Prim.Native.Nat.{ℕ, _+_, _≤_}
 use lib.ListN.{length}
-use Rattle.block.specs.Format.{allAllowed, threeDigits, checksumOf, hybridBody, blockOf}
-use Rattle.settings.specs.Settings.{byKind}
+use Rattle.data_bytes.specs.DataBytes.{allAllowed}
+use Rattle.block.specs.Format.{threeDigits, checksumOf, hybridBody, blockOf}
+use Rattle.settings.specs.Settings.{byKind, valid}
 use Rattle.block.specs.Judge.{typeMatches}
-use Rattle.settings.specs.Settings.{valid}
 use Rattle.settings.specs.declared.Kind.the-variants.{Hybrid, Minimal}
 use Rattle.settings.specs.declared.Settings.{Settings}
-use Rattle.block.specs.declared.Verdict.the-variants.{Accepted}
+use Rattle.verdict.specs.declared.Verdict.the-variants.{Accepted}
 use Rattle.stream.specs.Stream.{Said, between, run, after, verdicts}
 use Rattle.whole_block.specs.Whole.{initial, wholeOf}
 use Rattle.writer.specs.Write.{typeValid}

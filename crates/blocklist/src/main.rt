@@ -1,13 +1,12 @@
 // Lists the blocks of a capture on standard input: for each verdict SB's offset, the number (0 if accepted) and the data
 // length (0 if refused). Hybrid bytes, default settings, at most 4,096 data bytes.
-use block::Verdict;
 use libc::STDIN_FILENO;
 use libc::STDOUT_FILENO;
 use settings::Made;
 use settings::Settings;
 use stream::Answer;
 use stream::Reader;
-ghost use Prim.Native.Nat.{_≤_};
+use verdict::Verdict;
 
 const DATA_LIMIT: u64 = 4096;
 

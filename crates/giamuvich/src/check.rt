@@ -2,7 +2,7 @@
 use settings::Settings;
 ghost use mathlib.Core.Path.{_≡_};
 ghost use Rattle.settings.specs.Settings.{hybridOf, minimalOf};
-ghost use Rattle.calls.specs.Calls.{checkCalled, checkCall};
+ghost use Rattle.check_calls.specs.CheckCalls.{checkCalled, checkCall};
 
 #[no_mangle]
 pub extern "C" fn gmv_hybrid_check(
@@ -14,7 +14,7 @@ pub extern "C" fn gmv_hybrid_check(
 ) -> u64
     ensures { λ r. ⌜ checkCalled r (now (verdict .exit)) ≡ checkCall (hybridOf «start_block» «end_block» «data_limit») (now (block .entry)) (now (verdict .entry)) ⌝ }
 {
-    calls::check_words(
+    check_calls::check_words(
         Settings::hybrid(start_block, end_block, data_limit),
         block,
         verdict,
@@ -25,5 +25,5 @@ pub extern "C" fn gmv_hybrid_check(
 pub extern "C" fn gmv_minimal_check(data_limit: u64, block: &[u8], verdict: &mut [u64]) -> u64
     ensures { λ r. ⌜ checkCalled r (now (verdict .exit)) ≡ checkCall (minimalOf «data_limit») (now (block .entry)) (now (verdict .entry)) ⌝ }
 {
-    calls::check_words(Settings::minimal(data_limit), block, verdict)
+    check_calls::check_words(Settings::minimal(data_limit), block, verdict)
 }

@@ -2,7 +2,7 @@
 use settings::Settings;
 ghost use mathlib.Core.Path.{_≡_};
 ghost use Rattle.settings.specs.Settings.{hybridOf, minimalOf};
-ghost use Rattle.calls.specs.Calls.{readCalled, readCall};
+ghost use Rattle.read_calls.specs.ReadCalls.{readCalled, readCall};
 
 #[no_mangle]
 pub extern "C" fn gmv_hybrid_read(
@@ -16,7 +16,7 @@ pub extern "C" fn gmv_hybrid_read(
 ) -> u64
     ensures { λ r. ⌜ readCalled r (now (state .exit)) (now (buffer .exit)) (now (verdict .exit)) ≡ readCall (hybridOf «start_block» «end_block» «data_limit») (now (state .entry)) (now (part .entry)) (now (buffer .entry)) (now (verdict .entry)) ⌝ }
 {
-    calls::read_words(
+    read_calls::read_words(
         Settings::hybrid(start_block, end_block, data_limit),
         state,
         part,
@@ -35,5 +35,5 @@ pub extern "C" fn gmv_minimal_read(
 ) -> u64
     ensures { λ r. ⌜ readCalled r (now (state .exit)) (now (buffer .exit)) (now (verdict .exit)) ≡ readCall (minimalOf «data_limit») (now (state .entry)) (now (part .entry)) (now (buffer .entry)) (now (verdict .entry)) ⌝ }
 {
-    calls::read_words(Settings::minimal(data_limit), state, part, buffer, verdict)
+    read_calls::read_words(Settings::minimal(data_limit), state, part, buffer, verdict)
 }

@@ -2,7 +2,7 @@
 use settings::Settings;
 ghost use mathlib.Core.Path.{_≡_};
 ghost use Rattle.settings.specs.Settings.{hybridOf, minimalOf};
-ghost use Rattle.calls.specs.Calls.{writeCalled, writeCall};
+ghost use Rattle.write_calls.specs.WriteCalls.{writeCalled, writeCall};
 
 #[no_mangle]
 pub extern "C" fn gmv_hybrid_write(
@@ -17,7 +17,7 @@ pub extern "C" fn gmv_hybrid_write(
 ) -> u64
     ensures { λ r. ⌜ writeCalled r (now (buffer .exit)) (now (report .exit)) ≡ writeCall (hybridOf «start_block» «end_block» «data_limit») t (now (content .entry)) (now (buffer .entry)) start (now (report .entry)) ⌝ }
 {
-    calls::write_words(
+    write_calls::write_words(
         Settings::hybrid(start_block, end_block, data_limit),
         t,
         content,
@@ -37,7 +37,7 @@ pub extern "C" fn gmv_minimal_write(
 ) -> u64
     ensures { λ r. ⌜ writeCalled r (now (buffer .exit)) (now (report .exit)) ≡ writeCall (minimalOf «data_limit») 68 (now (content .entry)) (now (buffer .entry)) start (now (report .entry)) ⌝ }
 {
-    calls::write_words(
+    write_calls::write_words(
         Settings::minimal(data_limit),
         68,
         content,

@@ -1,21 +1,14 @@
 -- The ways in which a call of the reader returns, held against the definition of what it gives.
-use mathlib.Core.Path.{_≡_, sym, ap, _∙_}
+use mathlib.Core.Path.{_≡_, ap, _∙_}
 use mathlib.Core.List.{List}
 use mathlib.Core.Bool.{true, false}
-use Prim.Native.Nat.{ℕ, _+_, _-_, _≤_, _<_}
-use native.Mathlib.Nat.{add-zero, add-sub-cancel-left}
+use Prim.Native.Nat.{ℕ, _≤_, _<_, _-_}
+use native.Mathlib.Nat.{add-zero}
 use native.Mathlib.Omega.{arith}
-use native.Mathlib.Decide.{decLe}
-use lib.ListN.{length, take, drop, length-drop}
-use lib.Seq.{take-all, take-nil}
-use lib.Dec.{leb, ltb}
-use borrow.Author.Tests.{lt-ltb, le-ltb, le-leb, lt-leb}
-use Rattle.lists.proofs.Parts.{drop-none}
-use Rattle.block.specs.Verdict.{lengthOf}
-use Rattle.block.specs.declared.Verdict.{Verdict}
-use Rattle.settings.specs.Settings.{valid, capacityOf, dataOffsetOf}
+use lib.ListN.{length}
+use borrow.Author.Tests.{lt-ltb, le-ltb}
+use Rattle.settings.specs.Settings.{valid, capacityOf}
 use Rattle.settings.specs.declared.Settings.{Settings}
-use Rattle.stream.specs.Stream.{contentOf}
 use Rattle.stream.specs.Scan.{Scan, scan, fold, given, refused, scanned, readOf}
 use Rattle.stream.specs.Internal.{from, Reads}
 use Rattle.stream.specs.declared.Reader.{Reader}
@@ -53,33 +46,3 @@ module _ (g : Settings) (r : Reader) (xs b : List ℕ) where
       ap (λ (n : ℕ). given (record { answer = d .answer; reader = d .reader; used = n }) c) u
       ∙ ap (λ (t : Scan). scanned (r .position) t) (s .scan ∙ from-start)
       ∙ read-scan e h l
-
--- the part of the buffer that holds a block's data, as much of it as there is
-module _ (g : Settings) (v : Verdict) (b : List ℕ) (o n : ℕ) (f : o ≡ dataOffsetOf g) (h : n ≡ lengthOf v) where
-  pub content-none : length b < o → take 0 b ≡ contentOf g v b
-  unfolding contentOf
-  content-none l = sym (rw (← f, ← h, drop-none b o (omega arith), take-nil))
-
-  pub content-rest : o ≤ length b → length b - o < n → take (length b - o) (drop o b) ≡ contentOf g v b
-  unfolding contentOf
-  content-rest l m =
-      rw (← f, ← h, take-all (length b - o) (drop o b) (simp length-drop (omega arith)), take-all n (drop o b) (simp length-drop (omega arith)))
-
-  pub content-whole : take (o + n - o) (drop o b) ≡ contentOf g v b
-  unfolding contentOf
-  content-whole = rw (add-sub-cancel-left o n, f, h)
-
--- room for twelve bytes more, without a sum that could wrap
-pub leb-less : (d l n : ℕ) → n ≤ l → leb d (l - n) ≡ leb (d + n) l
-leb-less d l n h = go (decLe (d + n) l)
-  where
-    go : Dec (d + n ≤ l) → leb d (l - n) ≡ leb (d + n) l
-    go (yes e) = le-leb d (l - n) (omega arith) ∙ sym (le-leb (d + n) l e)
-    go (no e) = lt-leb d (l - n) (omega arith) ∙ sym (lt-leb (d + n) l (omega arith))
-
-pub ltb-less : (d l n : ℕ) → n ≤ l → ltb d (l - n) ≡ ltb (d + n) l
-ltb-less d l n h = go (decLe l (d + n))
-  where
-    go : Dec (l ≤ d + n) → ltb d (l - n) ≡ ltb (d + n) l
-    go (yes e) = le-ltb d (l - n) (omega arith) ∙ sym (le-ltb (d + n) l e)
-    go (no e) = lt-ltb d (l - n) (omega arith) ∙ sym (lt-ltb (d + n) l (omega arith))

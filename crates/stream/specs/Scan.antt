@@ -1,14 +1,14 @@
 -- Document 01, 'Reading a stream', as one call of the reader does it: from the state and the lent buffer over a part of the input, up to the first verdict.
-use mathlib.Core.List.{List, [], _∷_, _++_}
-use mathlib.Core.Bool.{Bool, true, false, cond, not}
-use Prim.Native.Nat.{ℕ, suc, _+_, _-_, max}
-use lib.ListN.{length, take, drop, set}
+use mathlib.Core.List.{List, [], _∷_}
+use mathlib.Core.Bool.{cond, not}
+use Prim.Native.Nat.{ℕ, _+_, max, _-_}
+use lib.ListN.{length, take, set}
 use lib.Dec.{ltb, eqb}
 use Rattle.settings.specs.Settings.{valid, capacityOf}
 use Rattle.block.specs.Judge.{judge}
 use Rattle.settings.specs.declared.Settings.{Settings}
-use Rattle.block.specs.declared.Verdict.{Verdict}
-use Rattle.block.specs.declared.Verdict.the-variants.{Long, Shape, Interrupted}
+use Rattle.verdict.specs.declared.Verdict.{Verdict}
+use Rattle.verdict.specs.declared.Verdict.the-variants.{Long, Shape, Interrupted}
 use Rattle.stream.specs.declared.Phase.{Phase}
 use Rattle.stream.specs.declared.Phase.the-variants.{Between, Inside, Ended}
 use Rattle.stream.specs.declared.Reader.{Reader}

@@ -1,25 +1,21 @@
 -- Document 01, 'Reading a stream': the verdicts of a whole input, and what the reader's buffer holds after it. Nothing here knows of the parts in which the input comes.
 use mathlib.Core.List.{List, [], _∷_, _++_}
-use mathlib.Core.Bool.{Bool, true, false, cond}
+use mathlib.Core.Bool.{cond}
 use Prim.Native.Nat.{ℕ, _+_}
-use lib.ListN.{length, take, drop, set}
+use lib.ListN.{length, set}
 use lib.Dec.{ltb, eqb}
-use Rattle.settings.specs.Settings.{capacityOf, dataOffsetOf}
-use Rattle.block.specs.Verdict.{lengthOf}
+use Rattle.reader_buffer.specs.Content.{contentOf}
+use Rattle.settings.specs.Settings.{capacityOf}
 use Rattle.block.specs.Judge.{judge}
 use Rattle.settings.specs.declared.Settings.{Settings}
-use Rattle.block.specs.declared.Verdict.{Verdict}
-use Rattle.block.specs.declared.Verdict.the-variants.{Long, Shape, Interrupted}
+use Rattle.verdict.specs.declared.Verdict.{Verdict}
+use Rattle.verdict.specs.declared.Verdict.the-variants.{Long, Shape, Interrupted}
 
 -- A verdict as it is given: the offset of the block's SB in the input, the verdict (with its number, place and type), and the data, empty where the block is refused.
 pub record Said : Type 0 where
   pub offset : ℕ
   pub verdict : Verdict
   pub content : List ℕ
-
--- the data of an accepted block, among the bytes between SB and EB
-unfoldable pub contentOf : Settings → Verdict → List ℕ → List ℕ
-contentOf g v body = take (lengthOf v) (drop (dataOffsetOf g) body)
 
 abbrev pub said : Settings → ℕ → Verdict → List ℕ → Said
 said g s v body = record { offset = s; verdict = v; content = contentOf g v body }

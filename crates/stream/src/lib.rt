@@ -1,15 +1,10 @@
 // Reading hybrid and minimal blocks: a stream in parts, or one whole block in memory.
-mod find;
 mod scan;
 
 ghost use mathlib.Core.Path.{_≡_};
 ghost use Rattle.stream.specs.Scan.{fresh};
-use block::Verdict;
-pub use find::find_stop;
-pub use scan::block_content;
-pub use scan::buffer_fits;
-pub use scan::is_long;
 pub use scan::read;
+use verdict::Verdict;
 
 // Where a reader stands in the stream.
 pub enum Phase {

@@ -2,23 +2,23 @@
 use mathlib.Core.Path.{_≡_, refl, sym}
 use mathlib.Core.List.{List, [], _∷_}
 use mathlib.Core.Bool.{Bool, true, false≢true}
-use Prim.Native.Nat.{ℕ, zero, suc, _+_, _-_, _≤_}
+use Prim.Native.Nat.{ℕ, zero, suc, _+_, _≤_, _-_}
 use native.Mathlib.Omega.{arith}
 use lib.ListN.{length, take, drop, length-drop}
 use lib.Seq.{length-take-le, take-take}
 use lib.Dec.{leb}
 use borrow.Author.Tests.{leb-true}
 use Rattle.lists.proofs.Tests.{cond-ind}
-use Rattle.block.specs.Format.{allAllowed, countField}
-use Rattle.settings.specs.Settings.{byKind}
-use Rattle.settings.specs.Settings.{dataOffsetOf}
-use Rattle.block.specs.Verdict.{lengthOf}
+use Rattle.data_bytes.specs.DataBytes.{allAllowed}
+use Rattle.block.specs.Format.{countField}
+use Rattle.settings.specs.Settings.{byKind, dataOffsetOf}
+use Rattle.verdict.specs.Verdict.{lengthOf}
 use Rattle.block.specs.Judge.{judge, judgeHybrid, judgeMinimal, judgeParts, headerOk, typeMatches, checksumMatches, dataOf, same}
 use Rattle.settings.specs.declared.Kind.{Kind}
 use Rattle.settings.specs.declared.Kind.the-variants.{Hybrid, Minimal}
 use Rattle.settings.specs.declared.Settings.{Settings}
-use Rattle.block.specs.declared.Verdict.{Verdict}
-use Rattle.stream.specs.Stream.{contentOf}
+use Rattle.verdict.specs.declared.Verdict.{Verdict}
+use Rattle.reader_buffer.specs.Content.{contentOf}
 
 -- the verdict has no data, or it lies among the first m bytes, from the place o on
 pub data Lies (o m : ℕ) (v : Verdict) : Type 0 where

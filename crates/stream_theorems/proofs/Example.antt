@@ -6,8 +6,8 @@ use Rattle.block.specs.Format.{fiveDigits, threeDigits, countField, checksumOf}
 use Rattle.block.specs.Judge.{judge, judgeHybrid, judgeParts, headerOk, typeMatches, checksumMatches, dataOf, same}
 use Rattle.settings.specs.declared.Kind.the-variants.{Hybrid}
 use Rattle.settings.specs.declared.Settings.{Settings}
-use Rattle.block.specs.declared.Verdict.the-variants.{Accepted}
-use Rattle.stream.specs.Stream.{contentOf}
+use Rattle.verdict.specs.declared.Verdict.the-variants.{Accepted}
+use Rattle.reader_buffer.specs.Content.{contentOf}
 use Rattle.stream.specs.Scan.{verdictOf, step, fold, readOf, fresh}
 use Rattle.stream.specs.declared.Phase.the-variants.{Inside}
 use Rattle.stream_theorems.specs.Session.{serve, session}

@@ -2,7 +2,7 @@
 use mathlib.Core.Path.{_≡_, refl, sym, ap, _∙_}
 use mathlib.Core.List.{List, [], _∷_, _++_, append-nil}
 use mathlib.Core.Bool.{Bool, true, false}
-use Prim.Native.Nat.{ℕ, suc, _+_, _-_, _≤_, _<_, max}
+use Prim.Native.Nat.{ℕ, suc, _+_, _≤_, _<_, max, _-_}
 use native.Mathlib.Numerals.{add-one}
 use native.Mathlib.Nat.{add-zero, max-eq-right}
 use native.Mathlib.Omega.{arith}
@@ -12,11 +12,12 @@ use lib.Dec.{eqb, ltb}
 use borrow.Author.Tests.{lt-ltb, le-ltb, ltb-true, ltb-false}
 use Rattle.lists.proofs.Tests.{cond-ind}
 use Rattle.settings.specs.Settings.{valid, capacityOf, dataOffsetOf}
-use Rattle.block.specs.Verdict.{lengthOf}
+use Rattle.verdict.specs.Verdict.{lengthOf}
 use Rattle.settings.specs.declared.Settings.{Settings}
-use Rattle.block.specs.declared.Verdict.{Verdict}
-use Rattle.block.specs.declared.Verdict.the-variants.{Interrupted}
-use Rattle.stream.specs.Stream.{Said, Mode, between, inside, ended, Moved, said, contentOf, outcome, move, run, after, hold, held}
+use Rattle.verdict.specs.declared.Verdict.{Verdict}
+use Rattle.verdict.specs.declared.Verdict.the-variants.{Interrupted}
+use Rattle.stream.specs.Stream.{Said, Mode, between, inside, ended, Moved, said, outcome, move, run, after, hold, held}
+use Rattle.reader_buffer.specs.Content.{contentOf}
 use Rattle.stream.specs.Scan.{Scan, verdictOf, phaseStep, step, fold, readOf}
 use Rattle.stream.specs.declared.Phase.{Phase}
 use Rattle.stream.specs.declared.Phase.the-variants.{Between, Inside, Ended}

@@ -2,7 +2,7 @@
 use mathlib.Core.Path.{_≡_, refl, sym, ap, _∙_}
 use mathlib.Core.List.{List, [], _∷_, _++_, append-assoc, append-nil}
 use mathlib.Core.Bool.{true, false, cond, false≢true}
-use Prim.Native.Nat.{ℕ, _+_, _-_, _<_}
+use Prim.Native.Nat.{ℕ, _+_, _<_, _-_}
 use native.Mathlib.Nat.{add-sub-cancel-left}
 use native.Mathlib.Omega.{arith}
 use lib.ListN.{length, take, drop, getD, take-append-drop}
@@ -11,7 +11,7 @@ use lib.Dec.{eqb}
 use borrow.Author.Tests.{eq-eqb, ne-eqb}
 use Rattle.lists.proofs.Parts.{drop-more, drop-none}
 use Rattle.lists.specs.Bytes.{hasAny}
-use Rattle.block.specs.declared.Verdict.the-variants.{Shape, Interrupted}
+use Rattle.verdict.specs.declared.Verdict.the-variants.{Shape, Interrupted}
 use Rattle.stream.proofs.Run.{run-append, free-run, free-after, clear-free}
 use Rattle.stream.proofs.Store.{Stopped}
 use Rattle.stream.specs.Stream.{Said, Mode, between, inside, ended, said, move, run, outcome, verdicts}

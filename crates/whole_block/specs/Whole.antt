@@ -1,13 +1,13 @@
 -- Document 01, 'Reading a stream': the check of one whole block.
 use mathlib.Core.List.{List, [], _∷_}
-use mathlib.Core.Bool.{Bool, true, false, cond}
+use mathlib.Core.Bool.{Bool, false, cond}
 use Prim.Native.Nat.{ℕ}
 use lib.Dec.{eqb}
 use Rattle.settings.specs.Settings.{valid}
-use Rattle.block.specs.Verdict.{numberOf}
+use Rattle.verdict.specs.Verdict.{numberOf}
 use Rattle.settings.specs.declared.Settings.{Settings}
-use Rattle.block.specs.declared.Verdict.{Verdict}
-use Rattle.block.specs.declared.Verdict.the-variants.{Shape}
+use Rattle.verdict.specs.declared.Verdict.{Verdict}
+use Rattle.verdict.specs.declared.Verdict.the-variants.{Shape}
 use Rattle.stream.specs.Stream.{Said, verdicts}
 use Rattle.whole_block.specs.declared.Checked.{Checked}
 use Rattle.whole_block.specs.declared.Checked.the-variants.{Setting, Judged}

@@ -1,8 +1,8 @@
 // Checking one whole block that lies in memory.
-use block::Verdict;
 use settings::Settings;
+use verdict::Verdict;
 ghost use mathlib.Core.Path.{_≡_};
-ghost use Prim.Native.Nat.{_≤_, _<_};
+ghost use Prim.Native.Nat.{_<_};
 ghost use lib.ListN.{length, getD};
 ghost use Rattle.stream.specs.Stream.{outcome};
 ghost use Rattle.whole_block.specs.Whole.{wholeOf, checkOf};
@@ -18,7 +18,7 @@ pub enum Checked {
 fn outcome_of(settings: Settings, body: &[u8], after: u8) -> Verdict
     ensures { λ r. ⌜ r ≡ outcome settings (now (body .entry)) after ⌝ }
 {
-    if stream::is_long(settings, body.len()) {
+    if reader_buffer::is_long(settings, body.len()) {
         return Verdict::Long;
     }
     if after != 13 {
@@ -33,7 +33,7 @@ fn whole_verdict(settings: Settings, block: &[u8]) -> Verdict
     requires { ⌜ getD (now block) 0 0 ≡ settings .«start_block» ⌝ }
     ensures { λ r. ⌜ r ≡ wholeOf settings (now (block .entry)) ⌝ }
 {
-    let stop = 1 + stream::find_stop(&block[1..], settings.start_block, settings.end_block);
+    let stop = 1 + search::find_stop(&block[1..], settings.start_block, settings.end_block);
     if stop == block.len() {
         return Verdict::Shape;
     }

@@ -1,34 +1,48 @@
 -- Words written over the first of what was lent, and the state that words encode.
-use mathlib.Core.Path.{_≡_}
-use mathlib.Core.List.{List, [], _∷_}
-use Prim.Native.Nat.{ℕ, _≤_}
-use lib.ListN.{length, getD, set}
+use mathlib.Core.Path.{_≡_, _∙_}
+use mathlib.Core.List.{List, [], _∷_, _++_}
+use Prim.Native.Nat.{ℕ, _≤_, _<_}
+use lib.ListN.{length, getD, set, drop}
 use lib.Seq.{sets-eq}
-use borrow.Author.Tests.{eq-eqb, ne-eqb}
+use borrow.Author.Tests.{eq-eqb, ne-eqb, le-leb, lt-leb, lt-ltb, le-ltb}
 use Rattle.stream.specs.declared.Phase.the-variants.{Between, Inside, Ended}
 use Rattle.words.specs.Words.{over, decoded, withPhase}
 use Rattle.words.specs.declared.Decoded.the-variants.{Unknown}
 
+-- too few words: nothing is written
+pub few : (l ws : List ℕ) → length l < length ws → l ≡ over l ws
+unfolding over
+few l ws h = rw (lt-leb (length ws) (length l) h)
+
+pub enough : (l ws : List ℕ) → length ws ≤ length l → ws ++ drop (length ws) l ≡ over l ws
+unfolding over
+enough l ws h = rw (le-leb (length ws) (length l) h)
+
 pub four : (l : List ℕ) (a b c d : ℕ) → 4 ≤ length l → set (set (set (set l 0 a) 1 b) 2 c) 3 d ≡ over l (a ∷ b ∷ c ∷ d ∷ [])
-four l a b c d h = sets-eq (a ∷ b ∷ c ∷ d ∷ []) l 0 h
+four l a b c d h = sets-eq (a ∷ b ∷ c ∷ d ∷ []) l 0 h ∙ enough l (a ∷ b ∷ c ∷ d ∷ []) h
 
 pub eight : (l : List ℕ) (a b c d e f g i : ℕ) → 8 ≤ length l
     → set (set (set (set (set (set (set (set l 0 a) 1 b) 2 c) 3 d) 4 e) 5 f) 6 g) 7 i ≡ over l (a ∷ b ∷ c ∷ d ∷ e ∷ f ∷ g ∷ i ∷ [])
-eight l a b c d e f g i h = sets-eq (a ∷ b ∷ c ∷ d ∷ e ∷ f ∷ g ∷ i ∷ []) l 0 h
+eight l a b c d e f g i h =
+    sets-eq (a ∷ b ∷ c ∷ d ∷ e ∷ f ∷ g ∷ i ∷ []) l 0 h ∙ enough l (a ∷ b ∷ c ∷ d ∷ e ∷ f ∷ g ∷ i ∷ []) h
 
--- ---- the state that words encode
-pub decoded-between : (ws : List ℕ) → getD ws 0 0 ≡ 0 → withPhase Between ws ≡ decoded ws
+-- the state that words encode
+pub decoded-few : (ws : List ℕ) → length ws < 4 → Unknown ≡ decoded ws
 unfolding decoded
-decoded-between ws e = rw (eq-eqb (getD ws 0 0) 0 e)
+decoded-few ws h = rw (lt-ltb (length ws) 4 h)
 
-pub decoded-inside : (ws : List ℕ) → (getD ws 0 0 ≡ 0 → ⊥) → getD ws 0 0 ≡ 1 → withPhase Inside ws ≡ decoded ws
+pub decoded-between : (ws : List ℕ) → 4 ≤ length ws → getD ws 0 0 ≡ 0 → withPhase Between ws ≡ decoded ws
 unfolding decoded
-decoded-inside ws n e = rw (ne-eqb (getD ws 0 0) 0 n, eq-eqb (getD ws 0 0) 1 e)
+decoded-between ws h e = rw (le-ltb (length ws) 4 h, eq-eqb (getD ws 0 0) 0 e)
 
-pub decoded-ended : (ws : List ℕ) → (getD ws 0 0 ≡ 0 → ⊥) → (getD ws 0 0 ≡ 1 → ⊥) → getD ws 0 0 ≡ 2 → withPhase Ended ws ≡ decoded ws
+pub decoded-inside : (ws : List ℕ) → 4 ≤ length ws → (getD ws 0 0 ≡ 0 → ⊥) → getD ws 0 0 ≡ 1 → withPhase Inside ws ≡ decoded ws
 unfolding decoded
-decoded-ended ws n m e = rw (ne-eqb (getD ws 0 0) 0 n, ne-eqb (getD ws 0 0) 1 m, eq-eqb (getD ws 0 0) 2 e)
+decoded-inside ws h n e = rw (le-ltb (length ws) 4 h, ne-eqb (getD ws 0 0) 0 n, eq-eqb (getD ws 0 0) 1 e)
 
-pub decoded-unknown : (ws : List ℕ) → (getD ws 0 0 ≡ 0 → ⊥) → (getD ws 0 0 ≡ 1 → ⊥) → (getD ws 0 0 ≡ 2 → ⊥) → Unknown ≡ decoded ws
+pub decoded-ended : (ws : List ℕ) → 4 ≤ length ws → (getD ws 0 0 ≡ 0 → ⊥) → (getD ws 0 0 ≡ 1 → ⊥) → getD ws 0 0 ≡ 2 → withPhase Ended ws ≡ decoded ws
 unfolding decoded
-decoded-unknown ws n m o = rw (ne-eqb (getD ws 0 0) 0 n, ne-eqb (getD ws 0 0) 1 m, ne-eqb (getD ws 0 0) 2 o)
+decoded-ended ws h n m e = rw (le-ltb (length ws) 4 h, ne-eqb (getD ws 0 0) 0 n, ne-eqb (getD ws 0 0) 1 m, eq-eqb (getD ws 0 0) 2 e)
+
+pub decoded-unknown : (ws : List ℕ) → 4 ≤ length ws → (getD ws 0 0 ≡ 0 → ⊥) → (getD ws 0 0 ≡ 1 → ⊥) → (getD ws 0 0 ≡ 2 → ⊥) → Unknown ≡ decoded ws
+unfolding decoded
+decoded-unknown ws h n m o = rw (le-ltb (length ws) 4 h, ne-eqb (getD ws 0 0) 0 n, ne-eqb (getD ws 0 0) 1 m, ne-eqb (getD ws 0 0) 2 o)

@@ -1,21 +1,21 @@
 -- What the 64-bit words that a C driver lends mean: a reader's state, a verdict, a writer's report.
 use mathlib.Core.List.{List, [], _∷_, _++_}
-use mathlib.Core.Bool.{Bool, true, false, cond}
-use Prim.Native.Nat.{ℕ, _+_}
+use mathlib.Core.Bool.{cond}
+use Prim.Native.Nat.{ℕ}
 use lib.ListN.{length, getD, drop}
-use lib.Dec.{ltb, eqb}
-use Rattle.block.specs.Verdict.{numberOf, forbiddenOffsetOf, typeOf, lengthOf}
-use Rattle.block.specs.declared.Verdict.{Verdict}
-use Rattle.block.specs.declared.Verdict.the-variants.{Accepted, Byte, Long, Shape, Count, Check, Interrupted}
+use lib.Dec.{leb, ltb, eqb}
+use Rattle.verdict.specs.Verdict.{numberOf, forbiddenOffsetOf, typeOf, lengthOf}
+use Rattle.verdict.specs.declared.Verdict.{Verdict}
+use Rattle.verdict.specs.declared.Verdict.the-variants.{Accepted, Byte, Long, Shape, Count, Check, Interrupted}
 use Rattle.stream.specs.declared.Phase.{Phase}
 use Rattle.stream.specs.declared.Phase.the-variants.{Between, Inside, Ended}
 use Rattle.stream.specs.declared.Reader.{Reader}
 use Rattle.words.specs.declared.Decoded.{Decoded}
 use Rattle.words.specs.declared.Decoded.the-variants.{Unknown, Known}
 
--- the first words of what was lent, written over; the others stay
-abbrev pub over : List ℕ → List ℕ → List ℕ
-over l ws = ws ++ drop (length ws) l
+-- the first words of what was lent, written over, and the others as they were; where there are too few, nothing is written
+unfoldable pub over : List ℕ → List ℕ → List ℕ
+over l ws = cond (leb (length ws) (length l)) (ws ++ drop (length ws) l) l
 
 abbrev pub phaseNumber : Phase → ℕ
 phaseNumber Between = 0
@@ -29,11 +29,12 @@ readerWords r = phaseNumber (r .phase) ∷ r .«body_length» ∷ r .«block_off
 abbrev pub withPhase : Phase → List ℕ → Decoded
 withPhase p ws = Known (record { phase = p; «body_length» = getD ws 1 0; «block_offset» = getD ws 2 0; position = getD ws 3 0 })
 
--- every content of the words is an input: any phase but these three encodes no state
+-- every content of the words is an input: fewer than four, or any phase but these three, encode no state
 unfoldable pub decoded : List ℕ → Decoded
 decoded ws =
-    cond (eqb (getD ws 0 0) 0) (withPhase Between ws)
-    (cond (eqb (getD ws 0 0) 1) (withPhase Inside ws) (cond (eqb (getD ws 0 0) 2) (withPhase Ended ws) Unknown))
+    cond (ltb (length ws) 4) Unknown
+    (cond (eqb (getD ws 0 0) 0) (withPhase Between ws)
+    (cond (eqb (getD ws 0 0) 1) (withPhase Inside ws) (cond (eqb (getD ws 0 0) 2) (withPhase Ended ws) Unknown)))
 
 -- where an accepted block's data begins; 0 for a refused block
 abbrev pub dataStart : ℕ → Verdict → ℕ

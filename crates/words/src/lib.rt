@@ -1,11 +1,10 @@
 // A reader's state and a verdict as the 64-bit words that a C driver lends.
-use block::Verdict;
 use stream::Phase;
 use stream::Reader;
+use verdict::Verdict;
 ghost use mathlib.Core.Path.{_≡_};
-ghost use mathlib.Core.List.{[], _∷_, _++_};
 ghost use Prim.Native.Nat.{_≤_};
-ghost use lib.ListN.{length, drop};
+ghost use lib.ListN.{length};
 ghost use Rattle.words.specs.Words.{over, phaseNumber, readerWords, decoded, dataStart, verdictWords, pendingWords};
 
 // What a reader's words encode.
@@ -42,11 +41,13 @@ fn phase_number(phase: Phase) -> u64
     }
 }
 
-// Writes a reader's state over the first four words.
+// Writes a reader's state over the first four words; nothing where there are fewer.
 pub fn write_reader(words: &mut [u64], reader: Reader)
-    requires { ⌜ 4 ≤ length (now words) ⌝ }
     ensures { λ r. ⌜ now (words .exit) ≡ over (now (words .entry)) (readerWords reader) ⌝ }
 {
+    if words.len() < 4 {
+        return;
+    }
     let phase = reader.phase;
     words[0] = phase_number(phase);
     words[1] = word(reader.body_length);
@@ -56,9 +57,11 @@ pub fn write_reader(words: &mut [u64], reader: Reader)
 
 // The state that the words encode.
 pub fn read_reader(words: &[u64]) -> Decoded
-    requires { ⌜ 4 ≤ length (now words) ⌝ }
     ensures { λ r. ⌜ r ≡ decoded (now (words .entry)) ⌝ }
 {
+    if words.len() < 4 {
+        return Decoded::Unknown;
+    }
     let phase = words[0];
     let body_length = size(words[1]);
     let block_offset = size(words[2]);
@@ -105,11 +108,13 @@ fn data_start(offset: usize, verdict: Verdict) -> usize
     }
 }
 
-// Writes a verdict over the first eight words.
+// Writes a verdict over the first eight words; nothing where there are fewer.
 pub fn write_verdict(words: &mut [u64], start: usize, verdict: Verdict, offset: usize, used: usize)
-    requires { ⌜ 8 ≤ length (now words) ⌝ }
     ensures { λ r. ⌜ now (words .exit) ≡ over (now (words .entry)) (verdictWords start verdict offset used) ⌝ }
 {
+    if words.len() < 8 {
+        return;
+    }
     words[0] = 1;
     words[1] = word(start);
     words[2] = verdict.number();
@@ -120,11 +125,13 @@ pub fn write_verdict(words: &mut [u64], start: usize, verdict: Verdict, offset: 
     words[7] = word(used);
 }
 
-// Writes over the first eight words that no block ended yet.
+// Writes over the first eight words that no block ended yet; nothing where there are fewer.
 pub fn write_pending(words: &mut [u64], used: usize)
-    requires { ⌜ 8 ≤ length (now words) ⌝ }
     ensures { λ r. ⌜ now (words .exit) ≡ over (now (words .entry)) (pendingWords used) ⌝ }
 {
+    if words.len() < 8 {
+        return;
+    }
     words[0] = 0;
     words[1] = 0;
     words[2] = 0;

@@ -2,7 +2,7 @@
 use mathlib.Core.Path.{_≡_, refl, sym, ap, _∙_}
 use mathlib.Core.List.{List, [], _∷_, _++_, append-assoc}
 use mathlib.Core.Bool.{true, false}
-use Prim.Native.Nat.{ℕ, _+_, _-_, _≤_, _<_}
+use Prim.Native.Nat.{ℕ, _+_, _≤_, _<_, _-_}
 use native.Mathlib.Decide.{decLe}
 use native.Mathlib.Omega.{arith}
 use lib.ListN.{length, drop, length-append}
@@ -11,9 +11,9 @@ use borrow.Author.Tests.{le-leb, lt-leb, leb-true}
 use borrow.Rule.Slice.PartMut.{midOf, putMid}
 use Rattle.lists.proofs.Put.{back, put-put, length-put}
 use Rattle.lists.specs.Bytes.{put}
-use Rattle.block.specs.Format.{allAllowed, firstForbidden, version, fiveDigits, threeDigits, countField, checksumOf, hybridBody, hybridBlock, minimalBlock, blockOf}
-use Rattle.settings.specs.Settings.{byKind}
-use Rattle.settings.specs.Settings.{valid}
+use Rattle.data_bytes.specs.DataBytes.{allAllowed, firstForbidden}
+use Rattle.block.specs.Format.{version, fiveDigits, threeDigits, countField, checksumOf, hybridBody, hybridBlock, minimalBlock, blockOf}
+use Rattle.settings.specs.Settings.{byKind, valid}
 use Rattle.settings.specs.declared.Kind.{Kind}
 use Rattle.settings.specs.declared.Kind.the-variants.{Hybrid, Minimal}
 use Rattle.settings.specs.declared.Settings.{Settings}

@@ -5,10 +5,10 @@ use Prim.Native.Nat.{ℕ, _+_}
 use lib.ListN.{length}
 use lib.Dec.{leb}
 use Rattle.lists.specs.Bytes.{put}
-use Rattle.block.specs.Format.{allAllowed, firstForbidden, blockOf}
-use Rattle.settings.specs.Settings.{byKind}
+use Rattle.data_bytes.specs.DataBytes.{allAllowed, firstForbidden}
+use Rattle.block.specs.Format.{blockOf}
+use Rattle.settings.specs.Settings.{byKind, valid}
 use Rattle.block.specs.Judge.{typeMatches}
-use Rattle.settings.specs.Settings.{valid}
 use Rattle.settings.specs.declared.Kind.{Kind}
 use Rattle.settings.specs.declared.Settings.{Settings}
 use Rattle.writer.specs.declared.Written.{Written}

@@ -3,10 +3,14 @@ use mathlib.Core.Path.{_∙_}
 use native.Mathlib.Omega.{arith}
 use lib.ListN.{length-set}
 use borrow.Author.Needs.{needs}
-use Rattle.words.proofs.Laws.{eight}
+use Rattle.words.proofs.Laws.{few, eight}
 use Rattle.words.specs.Words.{pendingWords}
 use Rattle.words.proofs.write_pending.Statement.{statement}
 use Rattle.words.proofs.write_pending.Tie as tie
+
+returns : tie.Need-returns
+unfolding pendingWords
+returns c = few (c .before .before .args .words .now) _ (c .if1 .taken)
 
 slice-write-words : tie.Need-slice-write-words
 slice-write-words c = omega arith
@@ -38,14 +42,15 @@ slice-write-words-8 c = simp length-set (omega arith)
 same-length : tie.Need-same-length
 same-length c = simp length-set
 
-returns : tie.Need-returns
+returns-2 : tie.Need-returns-2
 unfolding pendingWords
-returns c = eight (c .before .before .args .words .now) _ _ _ _ _ _ _ _ (c .before .before .pre) ∙ rw (c .word .ensures)
+returns-2 c = eight (c .before .before .before .args .words .now) _ _ _ _ _ _ _ _ (c .before .if1 .left) ∙ rw (c .word .ensures)
 
 pub write-pending-spec : {M : Type 1} → statement M
 write-pending-spec =
     tie.close
     (tie.spec
+    returns
     slice-write-words
     slice-write-words-2
     slice-write-words-3
@@ -56,4 +61,4 @@ write-pending-spec =
     word-requires
     slice-write-words-8
     same-length
-    returns)
+    returns-2)

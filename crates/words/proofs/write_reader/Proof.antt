@@ -3,10 +3,14 @@ use mathlib.Core.Path.{_∙_}
 use native.Mathlib.Omega.{arith}
 use lib.ListN.{length-set}
 use borrow.Author.Needs.{needs}
-use Rattle.words.proofs.Laws.{four}
+use Rattle.words.proofs.Laws.{few, four}
 use Rattle.words.specs.Words.{readerWords}
 use Rattle.words.proofs.write_reader.Statement.{statement}
 use Rattle.words.proofs.write_reader.Tie as tie
+
+returns : tie.Need-returns
+unfolding readerWords
+returns c = few (c .before .before .args .words .now) _ (c .if1 .taken)
 
 phase-number-requires : tie.Need-phase-number-requires
 phase-number-requires c κs = search needs
@@ -35,14 +39,15 @@ slice-write-words-4 c = simp length-set (omega arith)
 same-length : tie.Need-same-length
 same-length c = simp length-set
 
-returns : tie.Need-returns
+returns-2 : tie.Need-returns-2
 unfolding readerWords
-returns c = four (c .before .before .before .before .before .args .words .now) _ _ _ _ (c .before .before .before .before .before .pre) ∙ rw (c .before .before .before .phase-number .ensures, c .before .before .word .ensures, c .before .word2 .ensures, c .word3 .ensures)
+returns-2 c = four (c .before .before .before .before .before .before .args .words .now) _ _ _ _ (c .before .before .before .before .if1 .left) ∙ rw (c .before .before .before .phase-number .ensures, c .before .before .word .ensures, c .before .word2 .ensures, c .word3 .ensures)
 
 pub write-reader-spec : {M : Type 1} → statement M
 write-reader-spec =
     tie.close
     (tie.spec
+    returns
     phase-number-requires
     slice-write-words
     word-requires
@@ -52,4 +57,4 @@ write-reader-spec =
     word-requires-3
     slice-write-words-4
     same-length
-    returns)
+    returns-2)

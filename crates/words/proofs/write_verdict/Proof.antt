@@ -3,10 +3,14 @@ use mathlib.Core.Path.{_∙_}
 use native.Mathlib.Omega.{arith}
 use lib.ListN.{length-set}
 use borrow.Author.Needs.{needs}
-use Rattle.words.proofs.Laws.{eight}
+use Rattle.words.proofs.Laws.{few, eight}
 use Rattle.words.specs.Words.{verdictWords}
 use Rattle.words.proofs.write_verdict.Statement.{statement}
 use Rattle.words.proofs.write_verdict.Tie as tie
+
+returns : tie.Need-returns
+unfolding verdictWords
+returns c = few (c .before .before .args .words .now) _ (c .if1 .taken)
 
 slice-write-words : tie.Need-slice-write-words
 slice-write-words c = omega arith
@@ -68,14 +72,15 @@ slice-write-words-8 c = simp length-set (omega arith)
 same-length : tie.Need-same-length
 same-length c = simp length-set
 
-returns : tie.Need-returns
+returns-2 : tie.Need-returns-2
 unfolding verdictWords
-returns c = eight (c .before .before .before .before .before .before .before .before .before .before .before .before .args .words .now) _ _ _ _ _ _ _ _ (c .before .before .before .before .before .before .before .before .before .before .before .before .pre) ∙ rw (c .before .before .before .before .before .before .before .before .before .before .word .ensures, c .before .before .before .before .before .before .before .before .before .number .ensures, c .before .before .before .before .before .before .before .word2 .ensures, c .before .before .before .before .before .before .before .before .forbidden-offset .ensures, c .before .before .before .before .before .byte-word .ensures, c .before .before .before .before .before .before .block-type .ensures, c .before .before .before .word3 .ensures, c .before .before .before .before .data-start .ensures, c .before .word4 .ensures, c .before .before .data-length .ensures, c .word5 .ensures)
+returns-2 c = eight (c .before .before .before .before .before .before .before .before .before .before .before .before .before .args .words .now) _ _ _ _ _ _ _ _ (c .before .before .before .before .before .before .before .before .before .before .before .if1 .left) ∙ rw (c .before .before .before .before .before .before .before .before .before .before .word .ensures, c .before .before .before .before .before .before .before .before .before .number .ensures, c .before .before .before .before .before .before .before .word2 .ensures, c .before .before .before .before .before .before .before .before .forbidden-offset .ensures, c .before .before .before .before .before .byte-word .ensures, c .before .before .before .before .before .before .block-type .ensures, c .before .before .before .word3 .ensures, c .before .before .before .before .data-start .ensures, c .before .word4 .ensures, c .before .before .data-length .ensures, c .word5 .ensures)
 
 pub write-verdict-spec : {M : Type 1} → statement M
 write-verdict-spec =
     tie.close
     (tie.spec
+    returns
     slice-write-words
     word-requires
     slice-write-words-2
@@ -96,4 +101,4 @@ write-verdict-spec =
     word-requires-5
     slice-write-words-8
     same-length
-    returns)
+    returns-2)

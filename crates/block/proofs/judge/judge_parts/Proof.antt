@@ -4,7 +4,7 @@ use borrow.Author.Tests.{not-true, not-false}
 use borrow.Author.Needs.{needs}
 use Rattle.block.proofs.Laws.{parts-shape, parts-byte, parts-count, parts-check, parts-accepted}
 use Rattle.block.specs.Format.{countField}
-use Rattle.block.specs.declared.Verdict.the-variants.{Byte}
+use Rattle.verdict.specs.declared.Verdict.the-variants.{Byte}
 use Rattle.block.proofs.judge.judge_parts.Statement.{statement}
 use Rattle.block.proofs.judge.judge_parts.Tie as tie
 

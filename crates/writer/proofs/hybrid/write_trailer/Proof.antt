@@ -3,7 +3,8 @@ use lib.ListN.{length-set}
 use lib.Seq.{sets-eq}
 use Prim.Native.Nat.{_/_}
 use mathlib.Core.List.{[], _∷_}
-use Rattle.block.specs.Format.{digit, fiveDigits, threeDigits}
+use Rattle.data_bytes.specs.DataBytes.{digit}
+use Rattle.block.specs.Format.{fiveDigits, threeDigits}
 use Rattle.writer.specs.Internal.{hybridTrailer}
 use borrow.Author.Needs.{needs}
 use Rattle.writer.proofs.hybrid.write_trailer.Statement.{statement}
