@@ -1,7 +1,9 @@
-/* giamuvich.h: HL7 lower layer blocks for a C line driver.
+/* giamuvich.h: HL7 lower layer blocks, and the header fields of their messages, for a C line driver.
  *
  * Hybrid blocks (HL7 implementation guide, appendix C.2.2) and minimal blocks (C.4.2) are read
- * from a line in parts of any length, checked whole, and written. Every function is proved to
+ * from a line in parts of any length, checked whole, and written. Of the messages in them the header
+ * fields are read that sequence numbers need, and answers and control messages are written. Every
+ * function is proved to
  * return the one answer that its definition gives, for every input, and to change no memory but
  * what is said here. Nothing is allocated, nothing is kept between calls, and nothing blocks.
  *
@@ -21,7 +23,8 @@
  * refused: that block's number is verdict[GMV_VERDICT_NUMBER].
  *
  * Refusals come in the order 1, 2, 11, and then those of the block: reading 8, 4, 5, 3, 6, 7;
- * writing 4, 5, 3. Minimal reading has 8, 4, 5, 3 only, and 5 there means only EB without CR.
+ * writing 4, 5, 3. Minimal reading has 8, 4, 5, 3 only, and 5 there means only EB without CR. For
+ * messages: reading 2, 9; writing 1, 2, 3, 9, 10.
  */
 #ifndef GIAMUVICH_H
 #define GIAMUVICH_H
@@ -39,9 +42,9 @@ typedef char gmv_size_is_64_bits[sizeof(size_t) == 8 ? 1 : -1];
 /* The numbers. */
 enum {
     GMV_OK = 0,          /* done; of a block: accepted */
-    GMV_SETTING = 1,     /* a setting is outside its range */
+    GMV_SETTING = 1,     /* a setting, or a code that stands for one of a few things, is outside its range */
     GMV_TOO_SHORT = 2,   /* lent memory is shorter than the stated need */
-    GMV_BYTE = 3,        /* a data byte is not allowed */
+    GMV_BYTE = 3,        /* a data byte, or a byte of a control ID, is not allowed */
     GMV_LONG = 4,        /* over data_limit + 12 bytes between SB and EB (minimal: data_limit); at a
                             writer: data over data_limit */
     GMV_SHAPE = 5,       /* under 12 bytes, wrong type, version or CR, wrong NAK data, EB without CR;
@@ -49,6 +52,9 @@ enum {
     GMV_COUNT = 6,       /* the five digits are not 5 plus the data's length */
     GMV_CHECK = 7,       /* the three digits are neither 999 nor the checksum */
     GMV_INTERRUPTED = 8, /* SB came inside the block */
+    GMV_HEAD = 9,        /* no readable header, control ID or, in an answer, MSA segment; at a writer of
+                            answers: a control ID that cannot stand in a field */
+    GMV_NUMBER = 10,     /* at a writer of answers: a number over 999999999999999 */
     GMV_STATE = 11       /* a reader's words encode no state, or the stream's offsets are used up */
 };
 
@@ -154,6 +160,101 @@ uint64_t gmv_hybrid_write(uint64_t start_block, uint64_t end_block, uint64_t dat
                           uint64_t *report, size_t report_words);
 uint64_t gmv_minimal_write(uint64_t data_limit,
                            const uint8_t *content, size_t content_length,
+                           uint8_t *buffer, size_t buffer_length, size_t start,
+                           uint64_t *report, size_t report_words);
+
+/* ---- Header fields of a message. Fields are parts of the message: an offset and a length. ---- */
+
+/* -1 as a sequence number. */
+#define GMV_MINUS_ONE UINT64_MAX
+
+/* What a field that should hold a number holds. */
+enum {
+    GMV_FIELD_MISSING = 0,    /* the field is missing or empty */
+    GMV_FIELD_NOT_NUMBER = 1, /* it is neither -1 nor 1 to 15 digits within its bound */
+    GMV_FIELD_NUMBER = 2      /* a number, or -1 (GMV_MINUS_ONE) */
+};
+
+/* Acknowledgment codes. */
+enum {
+    GMV_CODE_OTHER = 0,
+    GMV_CODE_AA = 1, /* application accept */
+    GMV_CODE_AE = 2, /* application error */
+    GMV_CODE_AR = 3  /* application reject */
+};
+
+/* The words of a message's header. */
+enum {
+    GMV_HEADER_CONTROL_ID_OFFSET = 0, /* MSH-10 */
+    GMV_HEADER_CONTROL_ID_LENGTH = 1, /* 1 to 20 */
+    GMV_HEADER_SEQUENCE_OFFSET = 2,   /* MSH-13, the sequence number */
+    GMV_HEADER_SEQUENCE_LENGTH = 3,   /* 0 where it is missing or empty */
+    GMV_HEADER_SEQUENCE_FIELD = 4,    /* GMV_FIELD_.. ; the bound is 999999999999998 */
+    GMV_HEADER_SEQUENCE_NUMBER = 5,   /* the number, or GMV_MINUS_ONE; 0 where it is none */
+    GMV_HEADER_WORDS = 6
+};
+
+/* The words of an answer (MSA segment). */
+enum {
+    GMV_ANSWER_CODE_OFFSET = 0,       /* MSA-1, the acknowledgment code */
+    GMV_ANSWER_CODE_LENGTH = 1,
+    GMV_ANSWER_CODE = 2,              /* GMV_CODE_.. */
+    GMV_ANSWER_CONTROL_ID_OFFSET = 3, /* MSA-2, of any length */
+    GMV_ANSWER_CONTROL_ID_LENGTH = 4,
+    GMV_ANSWER_EXPECTED_OFFSET = 5,   /* MSA-4, the expected sequence number */
+    GMV_ANSWER_EXPECTED_LENGTH = 6,
+    GMV_ANSWER_EXPECTED_FIELD = 7,    /* GMV_FIELD_.. ; the bound is 999999999999999 */
+    GMV_ANSWER_EXPECTED_NUMBER = 8,   /* the number, or GMV_MINUS_ONE; 0 where it is none */
+    GMV_ANSWER_WORDS = 9
+};
+
+/* The words of a message writer's report (the same places as a block writer's). */
+enum { GMV_REPORT_MESSAGE_LENGTH = 0 /* the bytes written, 0 if refused */ };
+
+/* Reads MSH-10 and MSH-13 of a message. The message begins "MSH|" and its first segment ends in CR;
+ * MSH-10 follows the ninth bar and MSH-13 the twelfth, each up to the next bar or the CR. A field
+ * that is missing has length 0, and its offset is that of the segment's CR.
+ *
+ * Returns 0 with the words written; or, in this order and with nothing changed, 2 (header_words below
+ * GMV_HEADER_WORDS) or 9. Every byte is taken as it is, also one that no block could hold. */
+uint64_t gmv_header_read(const uint8_t *message, size_t message_length,
+                         uint64_t *header, size_t header_words);
+
+/* Reads MSA-1, MSA-2 and MSA-4 of an answer: a message whose header can be read (as above, MSH-10
+ * included) and whose second segment begins "MSA|" and ends in CR. What follows is not looked at.
+ *
+ * Returns 0 with the words written; or, in this order and with nothing changed, 2 (answer_words below
+ * GMV_ANSWER_WORDS) or 9. */
+uint64_t gmv_answer_read(const uint8_t *message, size_t message_length,
+                         uint64_t *answer, size_t answer_words);
+
+/* Writes the answer to a request with this control ID into the buffer from offset start on:
+ *     MSH|^~\&|||||||ACK|ID|P|2.3.1<CR>MSA|CODE|ID||NUMBER<CR>
+ * 38 bytes, twice the control ID and the number's digits (-1 has two). Nothing else of the buffer
+ * changes. code is GMV_CODE_AA, GMV_CODE_AE or GMV_CODE_AR; number is GMV_MINUS_ONE or at most
+ * 999999999999999.
+ *
+ * Returns 0 with the report written; or, in this order:
+ *   1  code is none of the three; nothing changed
+ *   2  the report has under GMV_REPORT_WORDS words, or the buffer from start on is shorter than the
+ *      answer would be (for a number that is too large: with all its digits); nothing changed
+ *   3  a byte of the control ID is not allowed in data; the report has length 0 and the offset of the
+ *      first such byte in the control ID; the buffer is unchanged
+ *   9  the control ID has under 1 or over 20 bytes, or a bar or CR in it; report 0, 0; buffer unchanged
+ *   10 the number is over 999999999999999; report 0, 0; buffer unchanged */
+uint64_t gmv_answer_write(const uint8_t *control_id, size_t control_id_length,
+                          uint64_t code, uint64_t number,
+                          uint8_t *buffer, size_t buffer_length, size_t start,
+                          uint64_t *report, size_t report_words);
+
+/* Writes the sender's control message for 0 or -1 into the buffer from offset start on:
+ *     MSH|^~\&|||||||TYPE|0|P|2.3.1|0<CR>      (31 bytes; for -1 both fields read -1, 33 bytes)
+ * type is three capital letters A to Z.
+ *
+ * Returns 0 with the report written; or, in this order and with nothing changed, 1 (type is not three capital letters,
+ * or number is neither 0 nor GMV_MINUS_ONE) or 2 (the report has under GMV_REPORT_WORDS words, or the
+ * buffer from start on is too short). */
+uint64_t gmv_control_write(const uint8_t *type, size_t type_length, uint64_t number,
                            uint8_t *buffer, size_t buffer_length, size_t start,
                            uint64_t *report, size_t report_words);
 

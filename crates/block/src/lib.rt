@@ -1,4 +1,4 @@
-// HL7 lower layer blocks: their data, checksum and digits, and the verdict on the bytes of one block.
+// HL7 lower layer blocks: their checksum and fields, and the verdict on the bytes of one block.
 mod digits;
 mod judge;
 

@@ -41,7 +41,7 @@ fn print_written(written: Written) -> usize {
     }
 }
 
-// Writes a block of this data, and checks what was written: the writer's number and place, then the check's number, place
+// Writes a block of this data, and checks what was written: the writer's number and offset, then the check's number, offset
 // and data length.
 fn write_and_check(settings: Settings, content: &[u8], buffer: &mut [u8]) {
     let written = writer::write(settings, 68, content, buffer, 0);
@@ -70,7 +70,7 @@ fn print_reading(settings: Settings, part: &[u8]) {
     let answer = reading.answer;
     match answer {
         Answer::Setting => print_text(b" setting"),
-        Answer::TooShort => print_text(b" remaining"),
+        Answer::TooShort => print_text(b" too short"),
         Answer::State => print_text(b" state"),
         Answer::Pending => print_text(b" pending"),
         Answer::Found(_, verdict) => print_number(verdict.number()),

@@ -1,4 +1,3 @@
-pub mod Cases
 pub mod Bytes
 pub mod Reading
 pub mod Judging

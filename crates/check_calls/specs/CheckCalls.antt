@@ -11,7 +11,8 @@ use Rattle.settings.specs.declared.Made.the-variants.{Valid, Refused}
 use Rattle.whole_block.specs.Whole.{checkOf, checkedNumber}
 use Rattle.whole_block.specs.declared.Checked.{Checked}
 use Rattle.whole_block.specs.declared.Checked.the-variants.{Setting as BadSetting, Judged}
-use Rattle.words.specs.Words.{over, verdictWords}
+use Rattle.lists.specs.Bytes.{over}
+use Rattle.words.specs.Words.{verdictWords}
 
 -- gmv_hybrid_check, gmv_minimal_check: the number, and what is left in the verdict
 pub record CheckCall : Type 0 where

@@ -2,3 +2,4 @@ pub mod Tests
 pub mod Parts
 pub mod Search
 pub mod Put
+pub mod Over

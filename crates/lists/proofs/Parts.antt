@@ -1,13 +1,13 @@
 -- Parts of lists: one element more, a stretch that is written, and a part that was lent and came back.
 use mathlib.Core.Path.{_≡_, sym, ap, _∙_}
 use mathlib.Core.List.{List, [], _∷_, _++_}
-use Prim.Native.Nat.{ℕ, _+_, _≤_, _<_, min}
+use Prim.Native.Nat.{ℕ, _+_, _-_, _≤_, _<_, min}
 use native.Mathlib.Numerals.{add-one}
-use native.Mathlib.Nat.{min-eq-left, min-eq-right}
+use native.Mathlib.Nat.{min-eq-left, min-eq-right, add-sub-cancel-left}
 use native.Mathlib.Decide.{decLe}
 use native.Mathlib.Omega.{arith}
-use lib.ListN.{length, take, drop, getD, set, drop-of-length-le}
-use lib.Seq.{drop-cons, take-suc, append-snoc, set-at, length-take-le, take-length, drop-length, take-all}
+use lib.ListN.{length, take, drop, getD, set, drop-of-length-le, length-drop}
+use lib.Seq.{drop-cons, take-suc, append-snoc, set-at, length-take-le, take-length, drop-length, take-all, take-nil}
 use Rattle.lists.specs.Bytes.{overwritten}
 
 -- the bytes from i on are the byte at i and those after it
@@ -33,3 +33,14 @@ over-least t s = go (decLe (length s) (length t))
     go (no h) =
         let e : length t ≤ length s = omega arith in
         rw (min-eq-right e, drop-length, drop-none t (length s) e)
+
+-- a part that begins at o and has n bytes, as many of them as there are
+pub part-none : (s : List ℕ) (o n : ℕ) → length s < o → take 0 s ≡ take n (drop o s)
+part-none s o n h = sym (rw (drop-none s o (omega arith), take-nil))
+
+pub part-rest : (s : List ℕ) (o n : ℕ) → o ≤ length s → length s - o < n → take (length s - o) (drop o s) ≡ take n (drop o s)
+part-rest s o n l m =
+    rw (take-all (length s - o) (drop o s) (simp length-drop (omega arith)), take-all n (drop o s) (simp length-drop (omega arith)))
+
+pub part-whole : (s : List ℕ) (o n : ℕ) → take (o + n - o) (drop o s) ≡ take n (drop o s)
+part-whole s o n = rw (add-sub-cancel-left o n)

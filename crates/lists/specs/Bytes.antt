@@ -3,7 +3,7 @@ use mathlib.Core.List.{List, [], _∷_, _++_}
 use mathlib.Core.Bool.{Bool, true, false, cond, _||_}
 use Prim.Native.Nat.{ℕ, suc, _+_}
 use lib.ListN.{length, take, drop}
-use lib.Dec.{eqb}
+use lib.Dec.{leb, eqb}
 
 -- how many bytes come before the first a or b
 abbrev pub clear : ℕ → ℕ → List ℕ → ℕ
@@ -22,3 +22,7 @@ put l a vs = take a l ++ vs ++ drop (a + length vs) l
 -- target with source written over its beginning, as much of it as fits
 abbrev pub overwritten : List ℕ → List ℕ → List ℕ
 overwritten target source = take (length target) source ++ drop (length source) target
+
+-- words with others written over their beginning, if there are so many; otherwise as they were
+unfoldable pub over : List ℕ → List ℕ → List ℕ
+over l ws = cond (leb (length ws) (length l)) (ws ++ drop (length ws) l) l

@@ -1,6 +1,7 @@
-// Copying bytes, with the laws about lists that the proofs of the other crates cite (proofs/).
+// Copying bytes and handing on a part of them, with the laws about lists that the proofs of the other crates cite (proofs/).
 ghost use mathlib.Core.Path.{_≡_};
 ghost use Prim.Native.Nat.{min};
+ghost use lib.ListN.{take, drop};
 ghost use Rattle.lists.specs.Bytes.{overwritten};
 
 fn smaller(a: usize, b: usize) -> usize
@@ -19,4 +20,17 @@ pub fn copy_bytes(target: &mut [u8], source: &[u8])
         target[i] = source[i];
         i += 1;
     }
+}
+
+// The part of s that begins at `start` and has `size` bytes, or as many of them as there are.
+pub fn part_of(s: &[u8], start: usize, size: usize) -> &[u8]
+    ensures { λ r. ⌜ now r ≡ take size (drop start (now (s .entry))) ⌝ }
+{
+    if s.len() < start {
+        return &s[..0];
+    }
+    if s.len() - start < size {
+        return &s[start..];
+    }
+    &s[start..start + size]
 }

@@ -12,7 +12,8 @@ use Rattle.stream.specs.Scan.{Read, readOf, fresh, answerNumber}
 use Rattle.stream.specs.declared.Reader.{Reader}
 use Rattle.stream.specs.declared.Answer.{Answer}
 use Rattle.stream.specs.declared.Answer.the-variants.{Setting, TooShort, State, Pending, Found}
-use Rattle.words.specs.Words.{over, readerWords, decoded, verdictWords, pendingWords}
+use Rattle.lists.specs.Bytes.{over}
+use Rattle.words.specs.Words.{readerWords, decoded, verdictWords, pendingWords}
 use Rattle.words.specs.declared.Decoded.{Decoded}
 use Rattle.words.specs.declared.Decoded.the-variants.{Unknown, Known}
 

@@ -11,15 +11,7 @@ ghost use Rattle.reader_buffer.specs.Content.{contentOf};
 pub fn block_content(settings: Settings, verdict: Verdict, buffer: &[u8]) -> &[u8]
     ensures { λ r. ⌜ now r ≡ contentOf settings verdict (now (buffer .entry)) ⌝ }
 {
-    let offset = settings.data_offset();
-    let length = verdict.data_length();
-    if buffer.len() < offset {
-        return &buffer[..0];
-    }
-    if buffer.len() - offset < length {
-        return &buffer[offset..];
-    }
-    &buffer[offset..offset + length]
+    lists::part_of(buffer, settings.data_offset(), verdict.data_length())
 }
 
 // Whether a block of this many bytes between SB and EB is too long.

@@ -1,14 +1,21 @@
--- What valid settings say.
+-- What is made of settings, and what valid ones say.
 use mathlib.Core.Path.{_≡_}
-use mathlib.Core.Bool.{true, not, _&&_}
+use mathlib.Core.Bool.{true, false, not, _&&_}
 use Prim.Native.Nat.{_≤_}
 use lib.Dec.{eqb, leb}
 use borrow.Author.Tests.{leb-true}
 use Rattle.lists.proofs.Tests.{and-right}
-use Rattle.settings.specs.Settings.{allowed, byKind, valid, hybridValid, minimalValid}
+use Rattle.settings.specs.Settings.{allowed, byKind, valid, hybridValid, minimalValid, madeOf}
 use Rattle.settings.specs.declared.Kind.{Kind}
 use Rattle.settings.specs.declared.Kind.the-variants.{Hybrid, Minimal}
 use Rattle.settings.specs.declared.Settings.{Settings}
+use Rattle.settings.specs.declared.Made.the-variants.{Valid, Refused}
+
+pub made-valid : (g : Settings) → valid g ≡ true → Valid g ≡ madeOf g
+made-valid g h = rw h
+
+pub made-refused : (g : Settings) → valid g ≡ false → Refused ≡ madeOf g
+made-refused g h = rw h
 
 -- valid settings have a data limit within its range
 pub valid-limit : (g : Settings) → valid g ≡ true → g .«data_limit» ≤ 99994

@@ -1,4 +1,4 @@
-// Reading hybrid and minimal blocks: a stream in parts, or one whole block in memory.
+// Reading a stream of hybrid or minimal blocks, in parts.
 mod scan;
 
 ghost use mathlib.Core.Path.{_≡_};

@@ -115,7 +115,7 @@ fn found_between(start: usize, verdict: Verdict, position: usize, used: usize) -
     }
 }
 
-// From place `at` of the part on, after a block's EB. The offset of the part's first byte is `position`.
+// From offset `at` of the part on, after a block's EB. The offset of the part's first byte is `position`.
 fn read_ended(
     settings: Settings,
     held: usize,
@@ -140,7 +140,7 @@ fn read_ended(
     found_between(start, verdict, here + 1, at + 1)
 }
 
-// From place `at` on, inside a block.
+// From offset `at` on, inside a block.
 fn read_inside(
     settings: Settings,
     held: usize,

@@ -1,22 +1,15 @@
 -- Words written over the first of what was lent, and the state that words encode.
 use mathlib.Core.Path.{_≡_, _∙_}
-use mathlib.Core.List.{List, [], _∷_, _++_}
+use mathlib.Core.List.{List, [], _∷_}
 use Prim.Native.Nat.{ℕ, _≤_, _<_}
-use lib.ListN.{length, getD, set, drop}
+use lib.ListN.{length, getD, set}
 use lib.Seq.{sets-eq}
-use borrow.Author.Tests.{eq-eqb, ne-eqb, le-leb, lt-leb, lt-ltb, le-ltb}
+use borrow.Author.Tests.{eq-eqb, ne-eqb, lt-ltb, le-ltb}
+use Rattle.lists.proofs.Over.{enough}
 use Rattle.stream.specs.declared.Phase.the-variants.{Between, Inside, Ended}
-use Rattle.words.specs.Words.{over, decoded, withPhase}
+use Rattle.lists.specs.Bytes.{over}
+use Rattle.words.specs.Words.{decoded, withPhase}
 use Rattle.words.specs.declared.Decoded.the-variants.{Unknown}
-
--- too few words: nothing is written
-pub few : (l ws : List ℕ) → length l < length ws → l ≡ over l ws
-unfolding over
-few l ws h = rw (lt-leb (length ws) (length l) h)
-
-pub enough : (l ws : List ℕ) → length ws ≤ length l → ws ++ drop (length ws) l ≡ over l ws
-unfolding over
-enough l ws h = rw (le-leb (length ws) (length l) h)
 
 pub four : (l : List ℕ) (a b c d : ℕ) → 4 ≤ length l → set (set (set (set l 0 a) 1 b) 2 c) 3 d ≡ over l (a ∷ b ∷ c ∷ d ∷ [])
 four l a b c d h = sets-eq (a ∷ b ∷ c ∷ d ∷ []) l 0 h ∙ enough l (a ∷ b ∷ c ∷ d ∷ []) h

@@ -1,9 +1,9 @@
 -- What the 64-bit words that a C driver lends mean: a reader's state, a verdict, a writer's report.
-use mathlib.Core.List.{List, [], _∷_, _++_}
+use mathlib.Core.List.{List, [], _∷_}
 use mathlib.Core.Bool.{cond}
 use Prim.Native.Nat.{ℕ}
-use lib.ListN.{length, getD, drop}
-use lib.Dec.{leb, ltb, eqb}
+use lib.ListN.{length, getD}
+use lib.Dec.{ltb, eqb}
 use Rattle.verdict.specs.Verdict.{numberOf, forbiddenOffsetOf, typeOf, lengthOf}
 use Rattle.verdict.specs.declared.Verdict.{Verdict}
 use Rattle.verdict.specs.declared.Verdict.the-variants.{Accepted, Byte, Long, Shape, Count, Check, Interrupted}
@@ -12,10 +12,6 @@ use Rattle.stream.specs.declared.Phase.the-variants.{Between, Inside, Ended}
 use Rattle.stream.specs.declared.Reader.{Reader}
 use Rattle.words.specs.declared.Decoded.{Decoded}
 use Rattle.words.specs.declared.Decoded.the-variants.{Unknown, Known}
-
--- the first words of what was lent, written over, and the others as they were; where there are too few, nothing is written
-unfoldable pub over : List ℕ → List ℕ → List ℕ
-over l ws = cond (leb (length ws) (length l)) (ws ++ drop (length ws) l) l
 
 abbrev pub phaseNumber : Phase → ℕ
 phaseNumber Between = 0

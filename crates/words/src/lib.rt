@@ -3,9 +3,8 @@ use stream::Phase;
 use stream::Reader;
 use verdict::Verdict;
 ghost use mathlib.Core.Path.{_≡_};
-ghost use Prim.Native.Nat.{_≤_};
-ghost use lib.ListN.{length};
-ghost use Rattle.words.specs.Words.{over, phaseNumber, readerWords, decoded, dataStart, verdictWords, pendingWords};
+ghost use Rattle.lists.specs.Bytes.{over};
+ghost use Rattle.words.specs.Words.{phaseNumber, readerWords, decoded, dataStart, verdictWords, pendingWords};
 
 // What a reader's words encode.
 pub enum Decoded {

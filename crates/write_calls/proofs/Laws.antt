@@ -10,8 +10,8 @@ use Rattle.writer.specs.declared.Written.{Written}
 use Rattle.writer.specs.declared.Written.the-variants.{Block, Setting as WrongSetting, TooShort as WriterTooShort, Long as LongContent, Shape as WrongType, Byte as ForbiddenByte}
 use Rattle.settings.specs.declared.Settings.{Settings}
 use Rattle.settings.specs.declared.Made.the-variants.{Valid, Refused}
-use Rattle.words.proofs.Laws.{enough}
-use Rattle.words.specs.Words.{over}
+use Rattle.lists.proofs.Over.{enough}
+use Rattle.lists.specs.Bytes.{over}
 use Rattle.write_calls.specs.WriteCalls.{WriteCall, writeCalled, writeFinished, typeByte, writeCall}
 
 pub two : (l : List ℕ) (a b : ℕ) → 2 ≤ length l → set (set l 0 a) 1 b ≡ over l (a ∷ b ∷ [])

@@ -10,7 +10,7 @@ use Rattle.settings.specs.declared.Made.the-variants.{Valid, Refused}
 use Rattle.writer.specs.Write.{writeOf, numberOf as writtenNumber, forbiddenOffsetOf as writtenForbiddenOffset, lengthOf as writtenLength}
 use Rattle.writer.specs.declared.Written.{Written}
 use Rattle.writer.specs.declared.Written.the-variants.{Block, Setting as WrongSetting, TooShort as WriterTooShort, Long as LongContent, Shape as WrongType, Byte as ForbiddenByte}
-use Rattle.words.specs.Words.{over}
+use Rattle.lists.specs.Bytes.{over}
 
 -- gmv_hybrid_write, gmv_minimal_write: the number, and what is left in the buffer and the report
 pub record WriteCall : Type 0 where

@@ -5,7 +5,7 @@ ghost use mathlib.Core.Path.{_≡_};
 ghost use mathlib.Core.List.{[], _∷_};
 ghost use Prim.Native.Nat.{_≤_};
 ghost use lib.ListN.{length};
-ghost use Rattle.words.specs.Words.{over};
+ghost use Rattle.lists.specs.Bytes.{over};
 ghost use Rattle.write_calls.specs.WriteCalls.{writeCalled, writeFinished, typeByte, writeCall};
 
 // Writes over the first two words.

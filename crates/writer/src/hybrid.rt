@@ -39,7 +39,7 @@ fn write_trailer(out: &mut [u8], count: usize, sum: usize, end_block: u8)
     out[9] = 13;
 }
 
-// Writes the block from the place on, and returns its length.
+// Writes the block from that offset on, and returns its length.
 pub fn write_block(
     settings: Settings,
     t: u8,

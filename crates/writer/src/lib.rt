@@ -1,4 +1,4 @@
-// Writing one block into the caller's buffer, from a place the caller names.
+// Writing one block into the caller's buffer, from an offset the caller names (document 01: place).
 mod content;
 mod hybrid;
 mod minimal;
@@ -33,7 +33,7 @@ fn frame(kind: Kind) -> usize
     }
 }
 
-// Whether a block's frame and data fit from the place on in a buffer of `have` bytes.
+// Whether a block's frame and data fit from that offset on in a buffer of `have` bytes.
 fn is_long_enough(have: usize, start: usize, frame: usize, size: usize) -> bool
     ensures { λ r. ⌜ r ≡ leb (start + (size + frame)) have ⌝ }
 {
@@ -57,7 +57,7 @@ fn type_valid(kind: Kind, t: u8, content: &[u8]) -> bool
     }
 }
 
-// Writes a block with this type and data into the buffer from the place on. A refusal writes nothing.
+// Writes a block with this type and data into the buffer from that offset on. A refusal writes nothing.
 pub fn write(settings: Settings, t: u8, content: &[u8], buffer: &mut [u8], start: usize) -> Written
     ensures { λ r. ⌜ _≡_ {A = Outcome} (record { answer = r; buffer = now (buffer .exit) }) (writeOf settings t (now (content .entry)) start (now (buffer .entry))) ⌝ }
 {

@@ -25,7 +25,7 @@ fn write_trailer(out: &mut [u8], end_block: u8)
     out[1] = 13;
 }
 
-// Writes the block from the place on, and returns its length.
+// Writes the block from that offset on, and returns its length.
 pub fn write_block(settings: Settings, content: &[u8], buffer: &mut [u8], start: usize) -> usize
     requires { ⌜ start + (length (now content) + 3) ≤ length (now buffer) ⌝ }
     ensures { λ r. ⌜ r ≡ length (minimalBlock settings (now (content .entry))) ⌝ }

@@ -1,4 +1,4 @@
--- `stream::check::check_block` meets its contract.
+-- `whole_block::check_block` meets its contract.
 use mathlib.Core.Path.{sym, ap, _∙_}
 use native.Mathlib.Omega.{arith}
 use borrow.Author.Tests.{not-true, not-false}

@@ -1,4 +1,4 @@
--- `stream::check::whole_verdict` meets its contract.
+-- `whole_block::whole_verdict` meets its contract.
 use mathlib.Core.Path.{_≡_, _∙_}
 use Prim.Native.Nat.{_+_, _<_}
 use native.Mathlib.Omega.{arith}

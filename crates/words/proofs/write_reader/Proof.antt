@@ -3,7 +3,8 @@ use mathlib.Core.Path.{_∙_}
 use native.Mathlib.Omega.{arith}
 use lib.ListN.{length-set}
 use borrow.Author.Needs.{needs}
-use Rattle.words.proofs.Laws.{few, four}
+use Rattle.lists.proofs.Over.{few}
+use Rattle.words.proofs.Laws.{four}
 use Rattle.words.specs.Words.{readerWords}
 use Rattle.words.proofs.write_reader.Statement.{statement}
 use Rattle.words.proofs.write_reader.Tie as tie

@@ -1,4 +1,4 @@
--- `block::Settings::hybrid` meets its contract.
+-- `settings::Settings::hybrid` meets its contract.
 use mathlib.Core.Path.{sym, _∙_}
 use borrow.Author.Tests.{lt-ltb, le-ltb}
 use borrow.Author.Needs.{needs}

@@ -1,4 +1,4 @@
--- `block::Settings::is_valid` meets its contract.
+-- `settings::Settings::is_valid` meets its contract.
 use borrow.Author.Needs.{needs}
 use Rattle.settings.specs.Settings.{valid}
 use Rattle.settings.proofs.Settings.is_valid.Statement.{statement}

@@ -1,0 +1,20 @@
+-- The cases by hand: each equation by computing both sides.
+use mathlib.Core.Path.{refl}
+use Rattle.block.specs.Format.{fiveDigits, threeDigits, countField, checksumOf, hybridBody, hybridBlock}
+use Rattle.block.specs.Judge.{same, typeMatches, headerOk, checksumMatches, judgeParts, dataOf, judgeHybrid, judge}
+use Rattle.settings.specs.Settings.{valid}
+use Rattle.reader_buffer.specs.Content.{contentOf}
+use Rattle.stream.specs.Stream.{outcome, move, run}
+use Rattle.whole_block.specs.Whole.{wholeOf, checkOf}
+use Rattle.numbers.specs.Numbers.{decimal}
+use Rattle.messages.specs.Messages.{answerMessage, controlMessage}
+use Rattle.cases.specs.Cases.{Each, none, _and_, cases}
+
+-- "The P cases are proved of the definitions as one list under one claim"
+pub all-cases : Each cases
+unfolding fiveDigits threeDigits countField checksumOf hybridBody hybridBlock same typeMatches headerOk checksumMatches judgeParts dataOf judgeHybrid judge valid contentOf outcome move run wholeOf checkOf decimal answerMessage controlMessage
+all-cases =
+    refl and refl and refl and refl and refl and refl and refl and refl and refl and refl and
+    refl and refl and refl and refl and refl and refl and refl and refl and refl and refl and
+    refl and refl and refl and refl and refl and refl and refl and refl and refl and refl and
+    refl and refl and refl and none

@@ -1,0 +1,3 @@
+pub mod Laws
+pub mod Segment
+pub mod Joined

@@ -1,0 +1,76 @@
+-- `message_calls::write::write_control_words` meets its contract.
+use borrow.Author.Needs.{needs}
+use Rattle.message_calls.proofs.write.write_control_words.Statement.{statement}
+use Rattle.message_calls.proofs.write.write_control_words.Tie as tie
+use mathlib.Core.Path.{refl, sym, _∙_}
+use Rattle.message_calls.proofs.Laws.{done, control-refused, control-other, control-short, control-done, control-call}
+
+from-letters-requires : tie.Need-from-letters-requires
+from-letters-requires c κs = search needs
+
+enum-known-name : tie.Need-enum-known-name
+enum-known-name c = search needs
+
+enum-told : tie.Need-enum-told
+enum-told c = search needs
+
+returns : tie.Need-returns
+returns c = control-refused (c .before .before .before .before .before .before .args .letters .now) (c .before .before .before .before .before .before .args .number) (c .before .before .before .before .before .before .args .buffer .now) (c .before .before .before .before .before .before .args .start) (c .before .before .before .before .before .before .args .report .now) (sym (c .before .before .from-letters .ensures) ∙ c .enum-told .given .1)
+
+control-of-requires : tie.Need-control-of-requires
+control-of-requires c κs = search needs
+
+enum-known-control : tie.Need-enum-known-control
+enum-known-control c = search needs
+
+enum-told-2 : tie.Need-enum-told-2
+enum-told-2 c = search needs
+
+returns-2 : tie.Need-returns-2
+returns-2 c =
+    let a = c .before .before .before .before .before .before .before .before .before .before .args in
+    control-other (a .letters .now) (a .number) (a .buffer .now) (a .start) (a .report .now) (c .before .before .before .before .name .given .0 .0) (sym (c .before .before .before .before .before .before .from-letters .ensures) ∙ c .before .before .before .before .name .given .1) (sym (c .before .before .control-of .ensures) ∙ c .enum-told2 .given .1)
+
+returns-3 : tie.Need-returns-3
+returns-3 c =
+    let a = c .before .before .before .before .before .before .before .before .before .before .before .before .args in
+    control-short (c .before .before .before .before .before .before .name .given .0 .0) (c .before .before .control .given .0 .0) (a .buffer .now) (a .start) (a .report .now) (c .if1 .taken)
+    ∙ control-call (a .letters .now) (a .number) (a .buffer .now) (a .start) (a .report .now) (c .before .before .before .before .before .before .name .given .0 .0) (sym (c .before .before .before .before .before .before .before .before .from-letters .ensures) ∙ c .before .before .before .before .before .before .name .given .1) (c .before .before .control .given .0 .0) (sym (c .before .before .before .before .control-of .ensures) ∙ c .before .before .control .given .1)
+
+write-control-requires : tie.Need-write-control-requires
+write-control-requires c κs = search needs
+
+report-written-requires : tie.Need-report-written-requires
+report-written-requires c κs = search needs
+
+same-length : tie.Need-same-length
+same-length c = search needs
+
+same-length-2 : tie.Need-same-length-2
+same-length-2 c = search needs
+
+returns-4 : tie.Need-returns-4
+returns-4 c =
+    let a = c .before .before .before .before .before .before .before .before .before .before .before .before .before .before .before .before .before .before .before .before .args in
+    done (a .report .now) _ _ (c .before .before .before .before .before .before .write-control .result) (c .before .before .report-written .result) _ (c .before .before .report-written .ensures) (c .before .before .before .before .before .before .write-control .ensures)
+    ∙ control-done (c .before .before .before .before .before .before .before .before .before .before .before .before .before .before .name .given .0 .0) (c .before .before .before .before .before .before .before .before .before .before .control .given .0 .0) (a .buffer .now) (a .start) (a .report .now) (c .before .before .before .before .before .before .before .before .if1 .left)
+    ∙ control-call (a .letters .now) (a .number) (a .buffer .now) (a .start) (a .report .now) (c .before .before .before .before .before .before .before .before .before .before .before .before .before .before .name .given .0 .0) (sym (c .before .before .before .before .before .before .before .before .before .before .before .before .before .before .before .before .from-letters .ensures) ∙ c .before .before .before .before .before .before .before .before .before .before .before .before .before .before .name .given .1) (c .before .before .before .before .before .before .before .before .before .before .control .given .0 .0) (sym (c .before .before .before .before .before .before .before .before .before .before .before .before .control-of .ensures) ∙ c .before .before .before .before .before .before .before .before .before .before .control .given .1)
+
+pub write-control-words-spec : {M : Type 1} → statement M
+write-control-words-spec =
+    tie.close
+    (tie.spec
+    from-letters-requires
+    enum-known-name
+    enum-told
+    returns
+    control-of-requires
+    enum-known-control
+    enum-told-2
+    returns-2
+    returns-3
+    write-control-requires
+    report-written-requires
+    same-length
+    same-length-2
+    returns-4)

@@ -1,0 +1,23 @@
+// What the C functions for messages do, on slices: the words are looked at, the library is called, and its answer is written
+// into the words.
+mod read;
+mod report;
+mod write;
+
+use header::Code;
+use messages::Control;
+pub use read::read_answer_words;
+pub use read::read_header_words;
+pub use write::write_answer_words;
+pub use write::write_control_words;
+
+// What a number from C stands for.
+pub enum CodeMade {
+    NoCode,
+    ACode(Code),
+}
+
+pub enum ControlMade {
+    NoControl,
+    AControl(Control),
+}

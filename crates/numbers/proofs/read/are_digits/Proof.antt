@@ -1,0 +1,39 @@
+-- `numbers::read::are_digits` meets its contract.
+use Rattle.numbers.proofs.read.are_digits.Statement.{statement}
+use Rattle.numbers.proofs.read.are_digits.Tie as tie
+use mathlib.Core.Bool.{_&&_}
+use mathlib.Core.Path.{_≡_, sym, _∙_}
+use Prim.Native.Nat.{_≤_, _-_}
+use lib.ListN.{length, drop}
+use borrow.Author.Needs.{needs}
+use Rattle.numbers.specs.Numbers.{allDigits}
+use Rattle.numbers.proofs.Laws.{digits-more, digits-none}
+
+abbrev Inv-loop : tie.InvT-loop
+Inv-loop s good₀ i₀ good i = (i ≤ length s) × ((good && allDigits (drop i s)) ≡ allDigits s)
+
+abbrev μ-loop : tie.MeasureT-loop
+μ-loop s good₀ i₀ good i = length s - i
+
+loop-holds : tie.Need-loop-holds Inv-loop μ-loop
+loop-holds c = search needs
+
+shared-slice-read-x : tie.Need-shared-slice-read-x Inv-loop μ-loop
+shared-slice-read-x c = search needs
+
+add-i : tie.Need-add-i Inv-loop μ-loop
+add-i c = search needs
+
+loop-less : tie.Need-loop-less Inv-loop μ-loop
+loop-less c = search needs
+
+loop-again : tie.Need-loop-again Inv-loop μ-loop
+loop-again c = (search needs, digits-more _ (c .before .before .loop .i) (c .before .before .loop .good) (c .before .loop-test .taken) ∙ c .before .before .loop .inv .1)
+
+returns : tie.Need-returns Inv-loop μ-loop
+returns c = sym (digits-none _ (c .before .loop .i) (c .before .loop .good) (c .loop-test .left)) ∙ c .before .loop .inv .1
+
+pub are-digits-spec : {M : Type 1} → statement M
+are-digits-spec =
+    tie.close
+    (tie.spec Inv-loop μ-loop loop-holds shared-slice-read-x add-i loop-less loop-again returns)

@@ -1,0 +1,65 @@
+// Writing a number: -1, or plain decimal.
+use crate::SequenceNumber;
+use data_bytes::digit_of;
+ghost use mathlib.Core.Path.{_≡_};
+ghost use Prim.Native.Nat.{_+_, _≤_};
+ghost use lib.ListN.{length};
+ghost use Rattle.lists.specs.Bytes.{put};
+ghost use Rattle.numbers.specs.Numbers.{decimal, textOf, written};
+
+// How many digits n has.
+fn digit_count(n: u64) -> usize
+    ensures { λ r. ⌜ r ≡ length (decimal n) ⌝ }
+{
+    let mut count = 1;
+    let mut rest = n;
+    while 9 < rest {
+        rest = rest / 10;
+        count += 1;
+    }
+    count
+}
+
+// Writes the digits of n, the last one first.
+fn write_digits(out: &mut [u8], start: usize, n: u64)
+    requires { ⌜ start + length (decimal n) ≤ length (now out) ⌝ }
+    ensures { λ r. ⌜ now (out .exit) ≡ put (now (out .entry)) start (decimal n) ⌝ }
+{
+    let mut i = start + digit_count(n);
+    let mut rest = n;
+    while 9 < rest {
+        i -= 1;
+        out[i] = digit_of(rest as usize);
+        rest = rest / 10;
+    }
+    out[i - 1] = digit_of(rest as usize);
+}
+
+// How many bytes a number takes in a field.
+pub fn text_length(number: SequenceNumber) -> usize
+    ensures { λ r. ⌜ r ≡ length (textOf number) ⌝ }
+{
+    match number {
+        SequenceNumber::MinusOne => 2,
+        SequenceNumber::Number(n) => digit_count(n),
+    }
+}
+
+// Writes a number into the buffer from the offset on; nothing where it does not fit.
+pub fn write_number(out: &mut [u8], start: usize, number: SequenceNumber)
+    ensures { λ r. ⌜ now (out .exit) ≡ written (now (out .entry)) start (textOf number) ⌝ }
+{
+    if out.len() < start {
+        return;
+    }
+    if out.len() - start < text_length(number) {
+        return;
+    }
+    match number {
+        SequenceNumber::MinusOne => {
+            out[start] = 45;
+            out[start + 1] = 49;
+        }
+        SequenceNumber::Number(n) => write_digits(out, start, n),
+    }
+}
