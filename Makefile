@@ -23,7 +23,7 @@ prove: setup
 	rt check
 
 $(archive): $(proved_sources) | setup
-	rt staticlib giamuvich
+	tests/archive
 
 $(header): include/giamuvich.h
 	@mkdir -p $(@D)

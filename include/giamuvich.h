@@ -3,8 +3,7 @@
  * Hybrid blocks (HL7 implementation guide, appendix C.2.2) and minimal blocks (C.4.2) are read
  * from a line in parts of any length, checked whole, and written. Of the messages in them the header
  * fields are read that sequence numbers need, and answers and control messages are written. Every
- * function is proved to
- * return the one answer that its definition gives, for every input, and to change no memory but
+ * function is proved to return the one answer that its definition gives, for every input, and to change no memory but
  * what is said here. Nothing is allocated, nothing is kept between calls, and nothing blocks.
  *
  * What the caller answers for, and nothing else:

@@ -25,10 +25,10 @@ impl Input {
         let count = PASS_BYTES / (size + 15);
         let contents: Vec<Vec<u8>> = (0..count).map(|_| content(&mut random, size)).collect();
         let mut stream = vec![0; count * (size + 15)];
-        let mut place = 0;
+        let mut start = 0;
         for content in &contents {
-            let written = plain::write(&NUMBERS, b'D', content, &mut stream, place);
-            place += written.expect("good data and room enough");
+            let written = plain::write(&NUMBERS, b'D', content, &mut stream, start);
+            start += written.expect("good data and space enough");
         }
         Input {
             size,
@@ -48,10 +48,10 @@ impl Input {
 }
 
 /// Printable bytes in segments that end in CR.
-fn content(random: &mut Random, size: usize) -> Vec<u8> {
+pub fn content(random: &mut Random, size: usize) -> Vec<u8> {
     let mut bytes = Vec::with_capacity(size);
-    for place in 0..size {
-        if place + 1 == size || random.one_in(60) {
+    for index in 0..size {
+        if index + 1 == size || random.one_in(60) {
             bytes.push(0x0D);
         } else {
             bytes.push(random.between(0x20, 0x7E) as u8);

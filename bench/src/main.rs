@@ -1,19 +1,24 @@
-//! Times the library against plain Rust on the same inputs, side by side, and prints a table in
-//! Markdown. Both sides are release builds; verdicts and bytes are compared in every round.
+//! Times the library against plain Rust on the same inputs, side by side, and prints tables in
+//! Markdown: blocks read, written and checked, then messages read and written. Both sides are
+//! release builds; verdicts, words and bytes are compared in every round.
 
 #[allow(dead_code)]
 #[path = "../../tests/host/src/ffi.rs"]
 mod ffi;
 mod inputs;
+mod messages;
 mod plain;
+mod plain_messages;
 #[allow(dead_code)]
 #[path = "../../tests/host/src/prng.rs"]
 mod prng;
 mod sides;
 mod timing;
 
+use ffi::names::MINUS_ONE;
 use inputs::Input;
-use timing::Row;
+use messages::{Reader, Writing, BEHIND, HEADERS};
+use timing::{Row, Spread, Work};
 
 const SIZES: [usize; 4] = [16, 200, 4_000, 60_000];
 const ROUNDS: usize = 25;
@@ -55,16 +60,12 @@ fn processor() -> String {
     name.unwrap_or("unknown processor").to_string()
 }
 
-fn main() {
-    println!(
-        "Processor: {}. {ROUNDS} rounds after a warm-up, the two sides in turn.",
-        processor()
-    );
+fn block_table() {
     println!(
         "ns per byte of the blocks, SB to CR; medians. Ratio: library by plain Rust, round by"
     );
     println!(
-        "round. Buffers are lent again as they are, not cleared. Data limit 99,994. The clock"
+        "round. Buffers are used again as they are, not cleared. Data limit 99,994. The clock"
     );
     println!("is the thread's processor time, not wall time.");
     println!();
@@ -84,4 +85,104 @@ fn main() {
         0 => println!("limits of the reader: all {} hold", LIMITS.len()),
         _ => println!("limits of the reader: {broken} of {} broken", LIMITS.len()),
     }
+}
+
+fn spread_text(spread: &Spread) -> String {
+    format!(
+        "{:.3} | {:.3} to {:.3}",
+        spread.median, spread.least, spread.most
+    )
+}
+
+/// The rows of one reading function on messages with the same first bytes. Gives the medians of
+/// the time with bytes behind by that with none.
+fn print_reader(reader: &Reader) -> Vec<f64> {
+    let mut readings = BEHIND.map(|behind| reader.with_behind(behind));
+    let mut works: Vec<&mut dyn Work> = Vec::new();
+    for reading in &mut readings {
+        works.push(reading);
+    }
+    let times = timing::rounds(&mut works, ROUNDS);
+    let mut medians = Vec::new();
+    for (behind, rounds) in BEHIND.iter().zip(&times) {
+        let growth = timing::ratio(&rounds.library, &times[0].library);
+        medians.push(growth.median);
+        let growth = match behind {
+            0 => "1 | -".to_string(),
+            _ => spread_text(&growth),
+        };
+        println!(
+            "| {} | {} | {behind} | {:.1} | {:.1} | {} | {growth} |",
+            reader.act,
+            reader.length(),
+            timing::median(&rounds.library),
+            timing::median(&rounds.plain),
+            spread_text(&timing::ratio(&rounds.library, &rounds.plain)),
+        );
+    }
+    medians.split_off(1)
+}
+
+fn reader_table() {
+    println!(
+        "Messages read: ns per call; medians. To read: the bytes of the first segment, or of an"
+    );
+    println!(
+        "answer's two. Behind: the bytes of further segments. Ratio: library by plain Rust. Last:"
+    );
+    println!("library by library on the same first bytes with nothing behind, round by round.");
+    println!();
+    println!(
+        "| act | to read | behind | library ns | plain Rust ns | ratio | spread \
+         | by nothing behind | spread |"
+    );
+    println!("|---|---|---|---|---|---|---|---|---|");
+    let mut medians = Vec::new();
+    for length in HEADERS {
+        medians.extend(print_reader(&Reader::header(length)));
+    }
+    medians.extend(print_reader(&Reader::answer()));
+    let all = timing::spread(medians);
+    println!();
+    println!(
+        "with bytes behind by nothing behind: medians from {:.3} to {:.3}",
+        all.least, all.most
+    );
+}
+
+fn writer_table() {
+    println!("Messages written: ns per call; medians.");
+    println!();
+    println!("| act | message bytes | library ns | plain Rust ns | ratio | spread |");
+    println!("|---|---|---|---|---|---|");
+    let writings = [
+        Writing::answers(2, 2),
+        Writing::answers(20, 15),
+        Writing::controls(0),
+        Writing::controls(MINUS_ONE),
+    ];
+    for mut writing in writings {
+        let times = timing::rounds(&mut [&mut writing], ROUNDS);
+        println!(
+            "| {} | {} | {:.1} | {:.1} | {} |",
+            writing.act,
+            writing.length,
+            timing::median(&times[0].library),
+            timing::median(&times[0].plain),
+            spread_text(&timing::ratio(&times[0].library, &times[0].plain)),
+        );
+    }
+}
+
+fn main() {
+    println!(
+        "Processor: {}. {ROUNDS} rounds after a warm-up, the two sides in turn.",
+        processor()
+    );
+    block_table();
+    println!();
+    messages::compare_sides();
+    reader_table();
+    println!();
+    writer_table();
 }

@@ -13,7 +13,7 @@ pub struct Numbers {
 pub struct Verdict {
     pub offset: u64,
     pub number: u64,
-    pub place: u64,
+    pub forbidden_offset: u64,
     pub block_type: u64,
     pub data_length: u64,
 }
@@ -101,17 +101,17 @@ impl Reader {
     }
 }
 
-fn refused(number: u64, place: usize, offset: u64) -> Verdict {
+fn refused(number: u64, forbidden_offset: usize, offset: u64) -> Verdict {
     Verdict {
         offset,
         number,
-        place: place as u64,
+        forbidden_offset: forbidden_offset as u64,
         block_type: 0,
         data_length: 0,
     }
 }
 
-fn allowed(byte: u8) -> bool {
+pub fn allowed(byte: u8) -> bool {
     byte == CARRIAGE_RETURN || (0x20..=0x7E).contains(&byte)
 }
 
@@ -145,9 +145,9 @@ fn judge(numbers: &Numbers, long: bool, body: &[u8], after: u8, offset: u64) -> 
     if block_type != b'D' && !(block_type == b'N' && nak_reason(data)) {
         return refused(5, 0, offset);
     }
-    for (place, &byte) in data.iter().enumerate() {
+    for (index, &byte) in data.iter().enumerate() {
         if !allowed(byte) {
-            return refused(3, place, offset);
+            return refused(3, index, offset);
         }
     }
     if decimal(&body[data_end..data_end + 5]) != Some(5 + data.len()) {
@@ -164,7 +164,7 @@ fn judge(numbers: &Numbers, long: bool, body: &[u8], after: u8, offset: u64) -> 
     Verdict {
         offset,
         number: 0,
-        place: 0,
+        forbidden_offset: 0,
         block_type: block_type.into(),
         data_length: data.len() as u64,
     }
@@ -193,17 +193,17 @@ pub fn check(numbers: &Numbers, bytes: &[u8]) -> Verdict {
     judge(numbers, long, &rest[..length], rest[length + 1], 0)
 }
 
-/// Writes a block from a place of the buffer; gives its length, or the number that says no.
+/// Writes a block from an offset of the buffer on; gives its length, or the number that says no.
 pub fn write(
     numbers: &Numbers,
     block_type: u8,
     content: &[u8],
     buffer: &mut [u8],
-    place: usize,
+    start: usize,
 ) -> Result<usize, u64> {
     let length = content.len() + 15;
-    let room = buffer.len().saturating_sub(place);
-    if room < length {
+    let space = buffer.len().saturating_sub(start);
+    if space < length {
         return Err(2);
     }
     if content.len() > numbers.limit {
@@ -215,7 +215,7 @@ pub fn write(
     if content.iter().any(|&byte| !allowed(byte)) {
         return Err(3);
     }
-    let block = &mut buffer[place..place + length];
+    let block = &mut buffer[start..start + length];
     block[..5].copy_from_slice(&[numbers.start, block_type, b'2', b'3', CARRIAGE_RETURN]);
     let data_end = 5 + content.len();
     block[5..data_end].copy_from_slice(content);

@@ -14,7 +14,7 @@ const HYBRID: HybridNumbers = HybridNumbers {
     data_limit: NUMBERS.limit as u64,
 };
 
-/// Memory that is lent again in every pass, and what the last pass gave.
+/// Memory that is used again in every pass, and what the last pass gave.
 pub struct Side {
     pub verdicts: Vec<Verdict>,
     pub output: Vec<u8>,
@@ -56,7 +56,7 @@ impl Side {
         }
     }
 
-    /// The limit: each block is copied to the start of the lent buffer, and no more.
+    /// The limit: each block is copied to the start of the buffer, and no more.
     pub fn copy(&mut self, input: &Input) {
         let length = input.block_length();
         for _ in 0..PASSES {
@@ -92,22 +92,22 @@ impl Side {
     }
 
     fn library_write(&mut self, input: &Input) {
-        let mut place = 0;
+        let mut start = 0;
         let mut report = [0; names::REPORT_WORDS];
         let block_type = u64::from(b'D');
         for content in &input.contents {
             let output = &mut self.output;
-            let number = ffi::hybrid_write(HYBRID, block_type, content, output, place, &mut report);
+            let number = ffi::hybrid_write(HYBRID, block_type, content, output, start, &mut report);
             assert_eq!(number, names::OK);
-            place += report[names::BLOCK_LENGTH] as usize;
+            start += report[names::BLOCK_LENGTH] as usize;
         }
     }
 
     fn plain_write(&mut self, input: &Input) {
-        let mut place = 0;
+        let mut start = 0;
         for content in &input.contents {
-            let written = plain::write(&NUMBERS, b'D', content, &mut self.output, place);
-            place += written.expect("good data and room enough");
+            let written = plain::write(&NUMBERS, b'D', content, &mut self.output, start);
+            start += written.expect("good data and space enough");
         }
     }
 
@@ -131,7 +131,7 @@ fn verdict_of(words: &[u64; names::VERDICT_WORDS]) -> Verdict {
     Verdict {
         offset: words[names::OFFSET],
         number: words[names::NUMBER],
-        place: words[names::PLACE],
+        forbidden_offset: words[names::VERDICT_FORBIDDEN_OFFSET],
         block_type: words[names::TYPE],
         data_length: words[names::DATA_LENGTH],
     }

@@ -22,7 +22,7 @@ pub struct Row {
     pub ratio: Spread,
 }
 
-fn spread(mut values: Vec<f64>) -> Spread {
+pub fn spread(mut values: Vec<f64>) -> Spread {
     values.sort_by(f64::total_cmp);
     Spread {
         median: values[values.len() / 2],
@@ -86,15 +86,80 @@ pub fn measure(act: &'static str, input: &Input, rounds: usize) -> Row {
             copy.push(copy_time / input.timed_bytes() as f64);
         }
     }
-    let ratios = library.iter().zip(&plain).map(|(left, right)| left / right);
     Row {
         act,
         size: input.size,
-        ratio: spread(ratios.collect()),
-        library: spread(library).median,
-        plain: spread(plain).median,
-        copy: spread(copy).median,
+        ratio: ratio(&library, &plain),
+        library: median(&library),
+        plain: median(&plain),
+        copy: median(&copy),
     }
+}
+
+/// Something that both sides do, so many calls long; each side leaves its results for comparison.
+pub trait Work {
+    fn calls(&self) -> usize;
+    fn library(&mut self);
+    fn plain(&mut self);
+    fn compare(&self);
+}
+
+/// ns per call of both sides, round by round.
+#[derive(Clone, Default)]
+pub struct Rounds {
+    pub library: Vec<f64>,
+    pub plain: Vec<f64>,
+}
+
+/// So many turns of each work make a round: the machine's speed changes, and works are compared.
+const TURNS: usize = 20;
+
+/// Times some works in the same rounds, turn by turn. Which side begins, and which work, changes
+/// from turn to turn.
+pub fn rounds(works: &mut [&mut dyn Work], rounds: usize) -> Vec<Rounds> {
+    let mut times = vec![Rounds::default(); works.len()];
+    for round in 0..WARM_UP + rounds {
+        let mut sums = vec![[0.0; 2]; works.len()];
+        for turn in 0..TURNS {
+            for index in 0..works.len() {
+                let index = (index + turn) % works.len();
+                let [library, plain] = one_turn(works[index], turn % 2 == 0);
+                sums[index][0] += library / TURNS as f64;
+                sums[index][1] += plain / TURNS as f64;
+            }
+        }
+        if round >= WARM_UP {
+            for (times, [library, plain]) in times.iter_mut().zip(sums) {
+                times.library.push(library);
+                times.plain.push(plain);
+            }
+        }
+    }
+    times
+}
+
+fn one_turn(work: &mut dyn Work, library_first: bool) -> [f64; 2] {
+    let calls = work.calls() as f64;
+    let mut library = 0.0;
+    if library_first {
+        library = nanoseconds(|| work.library());
+    }
+    let plain = nanoseconds(|| work.plain());
+    if !library_first {
+        library = nanoseconds(|| work.library());
+    }
+    work.compare();
+    [library / calls, plain / calls]
+}
+
+pub fn median(values: &[f64]) -> f64 {
+    spread(values.to_vec()).median
+}
+
+/// The ratio of two lists of times, round by round.
+pub fn ratio(times: &[f64], others: &[f64]) -> Spread {
+    let ratios = times.iter().zip(others).map(|(left, right)| left / right);
+    spread(ratios.collect())
 }
 
 /// Both sides must have given the same verdicts, one accepted one for each block, or the same

@@ -50,8 +50,8 @@ static void check_verdict(const block_case *c, const guarded *verdict, uint64_t 
 
 static void checked_whole(const block_case *c)
 {
-    guarded block = lend_copy(c->bytes, c->length);
-    guarded verdict = lend(GMV_VERDICT_WORDS * sizeof(uint64_t), 0xEE);
+    guarded block = guard_copy(c->bytes, c->length);
+    guarded verdict = guard(GMV_VERDICT_WORDS * sizeof(uint64_t), 0xEE);
 
     CHECK(check_block(link_of_cases, block.at, block.size, &verdict) == c->number);
     check_verdict(c, &verdict, 5);
@@ -71,7 +71,7 @@ static void read_in_parts(const block_case *c, size_t size)
 
     CHECK(list.count == 1);
     CHECK(list.words[0][GMV_VERDICT_USED] == c->length);
-    verdict = lend_copy(list.words[0], sizeof list.words[0]);
+    verdict = guard_copy(list.words[0], sizeof list.words[0]);
     check_verdict(c, &verdict, 4);
     CHECK(memcmp(buffer.at, c->bytes + 1, body) == 0);
     CHECK(same_from(&buffer, body));
@@ -81,9 +81,9 @@ static void read_in_parts(const block_case *c, size_t size)
 
 static void written(const block_case *c)
 {
-    guarded content = lend_copy(c->bytes + 5, c->data_length);
-    guarded buffer = lend(c->length, 0x55);
-    guarded report = lend(GMV_REPORT_WORDS * sizeof(uint64_t), 0xEE);
+    guarded content = guard_copy(c->bytes + 5, c->data_length);
+    guarded buffer = guard(c->length, 0x55);
+    guarded report = guard(GMV_REPORT_WORDS * sizeof(uint64_t), 0xEE);
 
     CHECK(write_block(link_of_cases, c->type, &content, &buffer, 0, &report) == GMV_OK);
     CHECK(words_of(&report)[GMV_REPORT_BLOCK_LENGTH] == c->length);

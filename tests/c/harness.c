@@ -54,12 +54,12 @@ static void broken(const char *what)
 
 /* ---- guarded memory */
 
-enum { GUARD = 64, ROOM = 1 << 17, PAGE_AREAS = 8 };
+enum { GUARD = 64, AREA_SIZE = 1 << 17, PAGE_AREAS = 8 };
 
 static const uint8_t guard_paint = 0xA5;
 static enum memory_kind memory_kind = FENCED_PAGES;
 static uint8_t *area_end[PAGE_AREAS]; /* where the fence behind an area begins */
-static int area_lent[PAGE_AREAS];
+static int area_used[PAGE_AREAS];
 
 void use_memory(enum memory_kind kind)
 {
@@ -69,21 +69,22 @@ void use_memory(enum memory_kind kind)
 static uint8_t *new_area(void)
 {
     size_t page = (size_t)sysconf(_SC_PAGESIZE);
-    uint8_t *start = mmap(NULL, ROOM + 2 * page, PROT_NONE, MAP_PRIVATE | MAP_ANONYMOUS, -1, 0);
+    uint8_t *start =
+        mmap(NULL, AREA_SIZE + 2 * page, PROT_NONE, MAP_PRIVATE | MAP_ANONYMOUS, -1, 0);
 
-    if (start == MAP_FAILED || mprotect(start + page, ROOM, PROT_READ | PROT_WRITE) != 0)
+    if (start == MAP_FAILED || mprotect(start + page, AREA_SIZE, PROT_READ | PROT_WRITE) != 0)
         broken("no memory between fences");
-    return start + page + ROOM;
+    return start + page + AREA_SIZE;
 }
 
 /* Memory that ends where an inaccessible page begins. */
 static uint8_t *page_memory(size_t size)
 {
     for (int i = 0; i < PAGE_AREAS; i++)
-        if (!area_lent[i]) {
+        if (!area_used[i]) {
             if (!area_end[i])
                 area_end[i] = new_area();
-            area_lent[i] = 1;
+            area_used[i] = 1;
             return area_end[i] - size;
         }
     broken("more memory guarded at once than there are areas");
@@ -99,11 +100,11 @@ static uint8_t *malloc_memory(size_t size)
     return start + GUARD;
 }
 
-guarded lend(size_t size, uint8_t paint)
+guarded guard(size_t size, uint8_t paint)
 {
     guarded memory = {NULL, size, malloc(size + 1), memory_kind == FENCED_PAGES};
 
-    if (!memory.kept || size + GUARD > ROOM)
+    if (!memory.kept || size + GUARD > AREA_SIZE)
         broken("no memory of that size");
     memory.at = memory.pages ? page_memory(size) : malloc_memory(size);
     memset(memory.at - GUARD, guard_paint, GUARD);
@@ -112,9 +113,9 @@ guarded lend(size_t size, uint8_t paint)
     return memory;
 }
 
-guarded lend_copy(const void *bytes, size_t size)
+guarded guard_copy(const void *bytes, size_t size)
 {
-    guarded memory = lend(size, 0);
+    guarded memory = guard(size, 0);
 
     if (size > 0)
         memcpy(memory.at, bytes, size);
@@ -128,7 +129,7 @@ void give_back(guarded *memory)
     if (memory->pages) {
         for (int i = 0; i < PAGE_AREAS; i++)
             if (area_end[i] == memory->at + memory->size)
-                area_lent[i] = 0;
+                area_used[i] = 0;
     } else {
         free(memory->at - GUARD);
     }
@@ -210,14 +211,14 @@ uint64_t check_block(settings link, const uint8_t *block, size_t length, guarded
                             words_of(verdict), word_count(verdict));
 }
 
-uint64_t write_block(settings link, uint64_t type, const guarded *content, guarded *buffer, size_t place,
-                     guarded *report)
+uint64_t write_block(settings link, uint64_t type, const guarded *content, guarded *buffer,
+                     size_t start, guarded *report)
 {
     if (link.minimal)
         return gmv_minimal_write(link.data_limit, content->at, content->size, buffer->at,
-                                 buffer->size, place, words_of(report), word_count(report));
+                                 buffer->size, start, words_of(report), word_count(report));
     return gmv_hybrid_write(link.start_block, link.end_block, link.data_limit, type, content->at,
-                            content->size, buffer->at, buffer->size, place, words_of(report),
+                            content->size, buffer->at, buffer->size, start, words_of(report),
                             word_count(report));
 }
 
@@ -225,17 +226,20 @@ int says_accepted(const guarded *verdict, uint64_t type, uint64_t data_offset, u
 {
     const uint64_t *words = words_of(verdict);
 
-    return words[GMV_VERDICT_FOUND] == 1 && words[GMV_VERDICT_NUMBER] == GMV_OK && words[GMV_VERDICT_FORBIDDEN_OFFSET] == 0 &&
-           words[GMV_VERDICT_TYPE] == type && words[GMV_VERDICT_DATA_OFFSET] == data_offset &&
+    return words[GMV_VERDICT_FOUND] == 1 && words[GMV_VERDICT_NUMBER] == GMV_OK &&
+           words[GMV_VERDICT_FORBIDDEN_OFFSET] == 0 && words[GMV_VERDICT_TYPE] == type &&
+           words[GMV_VERDICT_DATA_OFFSET] == data_offset &&
            words[GMV_VERDICT_DATA_LENGTH] == data_length;
 }
 
-int says_refused(const guarded *verdict, uint64_t number, uint64_t place)
+int says_refused(const guarded *verdict, uint64_t number, uint64_t forbidden_offset)
 {
     const uint64_t *words = words_of(verdict);
 
-    return words[GMV_VERDICT_FOUND] == 1 && words[GMV_VERDICT_NUMBER] == number && words[GMV_VERDICT_FORBIDDEN_OFFSET] == place &&
-           words[GMV_VERDICT_TYPE] == 0 && words[GMV_VERDICT_DATA_OFFSET] == 0 && words[GMV_VERDICT_DATA_LENGTH] == 0;
+    return words[GMV_VERDICT_FOUND] == 1 && words[GMV_VERDICT_NUMBER] == number &&
+           words[GMV_VERDICT_FORBIDDEN_OFFSET] == forbidden_offset &&
+           words[GMV_VERDICT_TYPE] == 0 && words[GMV_VERDICT_DATA_OFFSET] == 0 &&
+           words[GMV_VERDICT_DATA_LENGTH] == 0;
 }
 
 /* ---- streams */
@@ -247,7 +251,7 @@ static void read_whole_part(settings link, guarded *state, const uint8_t *bytes,
     size_t at = start;
 
     do {
-        guarded part = lend_copy(bytes + at, end - at);
+        guarded part = guard_copy(bytes + at, end - at);
         uint64_t answer = read_part(link, state, part.at, part.size, buffer, verdict);
         const uint64_t *words = words_of(verdict);
 
@@ -271,11 +275,11 @@ static void read_whole_part(settings link, guarded *state, const uint8_t *bytes,
 listing read_stream(settings link, const uint8_t *bytes, size_t length, size_t size, guarded *buffer)
 {
     listing list = {0, {{0}}};
-    guarded state = lend(GMV_READER_WORDS * sizeof(uint64_t), 0xEE);
-    guarded verdict = lend(GMV_VERDICT_WORDS * sizeof(uint64_t), 0xEE);
+    guarded state = guard(GMV_READER_WORDS * sizeof(uint64_t), 0xEE);
+    guarded verdict = guard(GMV_VERDICT_WORDS * sizeof(uint64_t), 0xEE);
     size_t at = 0;
 
-    *buffer = lend(need_of(link), 0x55);
+    *buffer = guard(need_of(link), 0x55);
     CHECK(gmv_reader_fresh(words_of(&state), word_count(&state)) == GMV_OK);
     while (at < length) {
         size_t step = size > 0 ? size : random_below(8);

@@ -1,4 +1,4 @@
-/* What the C tests share: named tests, memory guarded with guards, a driver's line, random numbers. */
+/* What the C tests share: named tests, memory with guards, a driver's line, random numbers. */
 #ifndef HARNESS_H
 #define HARNESS_H
 
@@ -11,10 +11,10 @@ void check_fact(int holds, const char *fact, const char *file, int line);
 int finish_tests(void);
 #define CHECK(fact) check_fact((fact) != 0, #fact, __FILE__, __LINE__)
 
-/* Lent memory: exactly `size` bytes. A touch of the byte after them ends the program, by a page that
- * cannot be accessed or, for memory of malloc, by the address sanitizer (which sees the test's own
- * code and memcpy, not the inside of the archive: hence the pages). The bytes just before them are
- * painted and looked at. `kept` is a copy of the content, made by keep(). */
+/* Guarded memory: exactly `size` bytes. A touch of the byte after them ends the program, by a page
+ * that cannot be accessed or, for memory of malloc, by the address sanitizer (which sees the test's
+ * own code and memcpy, not the inside of the archive: hence the pages). The bytes just before them
+ * are painted and looked at. `kept` is a copy of the content, made by keep(). */
 typedef struct {
     uint8_t *at;
     size_t size;
@@ -25,8 +25,8 @@ typedef struct {
 enum memory_kind { FENCED_PAGES, EXACT_MALLOC };
 void use_memory(enum memory_kind kind);
 
-guarded lend(size_t size, uint8_t paint);
-guarded lend_copy(const void *bytes, size_t size);
+guarded guard(size_t size, uint8_t paint);
+guarded guard_copy(const void *bytes, size_t size);
 void give_back(guarded *memory);
 uint64_t *words_of(const guarded *memory);
 size_t word_count(const guarded *memory);
@@ -51,12 +51,12 @@ size_t overhead_of(settings link); /* a block's bytes besides its data: 15 or 3 
 uint64_t read_part(settings link, guarded *state, const uint8_t *part, size_t part_length,
                    guarded *buffer, guarded *verdict);
 uint64_t check_block(settings link, const uint8_t *block, size_t length, guarded *verdict);
-uint64_t write_block(settings link, uint64_t type, const guarded *content, guarded *buffer, size_t place,
-                     guarded *report);
+uint64_t write_block(settings link, uint64_t type, const guarded *content, guarded *buffer,
+                     size_t start, guarded *report);
 
 /* The verdict says: a block accepted, of this type, with its data there; or refused so. */
 int says_accepted(const guarded *verdict, uint64_t type, uint64_t data_offset, uint64_t data_length);
-int says_refused(const guarded *verdict, uint64_t number, uint64_t place);
+int says_refused(const guarded *verdict, uint64_t number, uint64_t forbidden_offset);
 
 /* A list of verdicts, as a driver gets them from a stream that comes in parts. */
 enum { LISTED = 64 };
@@ -81,6 +81,7 @@ void test_round_trips(void);
 void test_refusals(void);
 void test_settings(void);
 void test_random(void);
+void test_messages(void);
 void test_stack(void);
 
 #endif

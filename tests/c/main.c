@@ -16,6 +16,7 @@ static void run_all(enum memory_kind kind)
     test_refusals();
     test_settings();
     test_random();
+    test_messages();
 }
 
 int main(void)

@@ -37,12 +37,12 @@ static uint8_t random_line_byte(settings link)
 }
 
 /* A good block of random data at bytes[at], if it fits. Returns its length or 0. */
-static size_t random_block(settings link, uint8_t *bytes, size_t at, size_t room)
+static size_t random_block(settings link, uint8_t *bytes, size_t at, size_t size)
 {
-    guarded content = lend(random_below(link.data_limit + 1), 0);
-    guarded block = lend_copy(bytes + at, room - at);
+    guarded content = guard(random_below(link.data_limit + 1), 0);
+    guarded block = guard_copy(bytes + at, size - at);
     uint64_t report[GMV_REPORT_WORDS] = {0, 0};
-    guarded words = lend_copy(report, sizeof report);
+    guarded words = guard_copy(report, sizeof report);
     size_t length;
 
     for (size_t i = 0; i < content.size; i++)
@@ -56,9 +56,9 @@ static size_t random_block(settings link, uint8_t *bytes, size_t at, size_t room
     return length;
 }
 
-static size_t random_stream(settings link, uint8_t *bytes, size_t room)
+static size_t random_stream(settings link, uint8_t *bytes, size_t size)
 {
-    size_t length = random_below(room + 1), at = 0;
+    size_t length = random_below(size + 1), at = 0;
 
     while (at < length) {
         size_t block = random_below(4) == 0 ? random_block(link, bytes, at, length) : 0;
@@ -117,8 +117,8 @@ static void check_answers_as_the_stream(void)
         if (length > 0 && random_below(8) > 0)
             bytes[0] = (uint8_t)link.start_block;
         list = read_stream(link, bytes, length, 0, &buffer);
-        block = lend_copy(bytes, length);
-        verdict = lend(GMV_VERDICT_WORDS * WORD, 0xEE);
+        block = guard_copy(bytes, length);
+        verdict = guard(GMV_VERDICT_WORDS * WORD, 0xEE);
         CHECK(check_block(link, block.at, length, &verdict) ==
               check_after_stream(link, bytes, length, &list));
         CHECK(unchanged(&block));
@@ -199,10 +199,10 @@ static void any_state(void)
         before[GMV_READER_PHASE] = random_below(3);
     for (size_t i = 0; i < length; i++)
         bytes[i] = random_line_byte(link);
-    state = lend_copy(before, sizeof before);
-    part = lend_copy(bytes, length);
-    buffer = lend(need_of(link) + over, random_data_byte());
-    verdict = lend(GMV_VERDICT_WORDS * WORD, 0xEE);
+    state = guard_copy(before, sizeof before);
+    part = guard_copy(bytes, length);
+    buffer = guard(need_of(link) + over, random_data_byte());
+    verdict = guard(GMV_VERDICT_WORDS * WORD, 0xEE);
 
     answer = read_part(link, &state, part.at, part.size, &buffer, &verdict);
     CHECK(answer == early_answer(before, length));

@@ -21,11 +21,11 @@ static reading new_reading(settings link)
     reading r;
 
     r.link = link;
-    r.state = lend(GMV_READER_WORDS * WORD, 0);
-    r.part = link.minimal ? lend_copy(good_minimal, GOOD_MINIMAL_LENGTH)
-                          : lend_copy(good_block, GOOD_LENGTH);
-    r.buffer = lend(need_of(link), 0x55);
-    r.verdict = lend(GMV_VERDICT_WORDS * WORD, 0xEE);
+    r.state = guard(GMV_READER_WORDS * WORD, 0);
+    r.part = link.minimal ? guard_copy(good_minimal, GOOD_MINIMAL_LENGTH)
+                          : guard_copy(good_block, GOOD_LENGTH);
+    r.buffer = guard(need_of(link), 0x55);
+    r.verdict = guard(GMV_VERDICT_WORDS * WORD, 0xEE);
     return r;
 }
 
@@ -40,7 +40,7 @@ static void end_reading(reading *r)
 static void resize(guarded *memory, size_t size, uint8_t paint)
 {
     give_back(memory);
-    *memory = lend(size, paint);
+    *memory = guard(size, paint);
 }
 
 static uint64_t call_reader(reading *r)
@@ -69,12 +69,12 @@ static void reader_accepts_the_good_block(reading *r)
     CHECK(same_from(&r->verdict, GMV_VERDICT_WORDS * WORD));
 }
 
-/* ---- 2: room */
+/* ---- 2: memory that is too short */
 
 static void fresh_needs_words(void)
 {
     for (size_t words = 0; words < GMV_READER_WORDS; words++) {
-        guarded state = lend(words * WORD, 0xEE);
+        guarded state = guard(words * WORD, 0xEE);
 
         CHECK(gmv_reader_fresh(words_of(&state), words) == GMV_TOO_SHORT);
         CHECK(unchanged(&state));
@@ -86,7 +86,7 @@ static void fresh_needs_words(void)
 static void fresh_changes_four_words(void)
 {
     for (size_t words = GMV_READER_WORDS; words < 12; words++) {
-        guarded state = lend(words * WORD, 0xEE);
+        guarded state = guard(words * WORD, 0xEE);
 
         CHECK(gmv_reader_fresh(words_of(&state), words) == GMV_OK);
         CHECK(words_of(&state)[GMV_READER_PHASE] == 0);
@@ -131,7 +131,7 @@ static void reader_needs_buffer(settings link)
     }
 }
 
-/* Also with an empty part: room is looked at in every call. */
+/* Also with an empty part: the buffer is looked at in every call. */
 static void reader_needs_buffer_for_nothing(settings link)
 {
     reading r = new_reading(link);
@@ -226,7 +226,7 @@ static void reader_order(settings link)
 
 static void check_order(settings link)
 {
-    guarded verdict = lend(0, 0);
+    guarded verdict = guard(0, 0);
 
     CHECK(check_block(link, NULL, 0, &verdict) == GMV_TOO_SHORT);
     link.data_limit = 99995;
@@ -272,15 +272,16 @@ static void null_pointers(void)
 
 /* ---- blocks that are refused, 3 to 8 */
 
-/* The check, and the stream in parts of every size, refuse the block with this number and place. */
+/* The check, and the stream in parts of every size, refuse the block with this number, and with this
+ * offset of a forbidden byte. */
 static void block_refused(settings link, const void *bytes, size_t length, uint64_t number,
-                          uint64_t place)
+                          uint64_t forbidden_offset)
 {
-    guarded block = lend_copy(bytes, length);
-    guarded verdict = lend(GMV_VERDICT_WORDS * WORD, 0xEE);
+    guarded block = guard_copy(bytes, length);
+    guarded verdict = guard(GMV_VERDICT_WORDS * WORD, 0xEE);
 
     CHECK(check_block(link, block.at, block.size, &verdict) == number);
-    CHECK(says_refused(&verdict, number, place));
+    CHECK(says_refused(&verdict, number, forbidden_offset));
     CHECK(words_of(&verdict)[GMV_VERDICT_OFFSET] == 0 && words_of(&verdict)[GMV_VERDICT_USED] == length);
     give_back(&verdict);
     for (size_t size = 1; size <= length; size++) {
@@ -288,13 +289,15 @@ static void block_refused(settings link, const void *bytes, size_t length, uint6
         listing list = read_stream(link, block.at, length, size, &buffer);
 
         CHECK(list.count == 1 && list.words[0][GMV_VERDICT_USED] == length);
-        CHECK(list.words[0][GMV_VERDICT_NUMBER] == number && list.words[0][GMV_VERDICT_FORBIDDEN_OFFSET] == place);
+        CHECK(list.words[0][GMV_VERDICT_NUMBER] == number);
+        CHECK(list.words[0][GMV_VERDICT_FORBIDDEN_OFFSET] == forbidden_offset);
         give_back(&buffer);
     }
     give_back(&block);
 }
 
-#define REFUSED(link, text, number, place) block_refused(link, text, sizeof text - 1, number, place)
+#define REFUSED(link, text, number, offset) \
+    block_refused(link, text, sizeof text - 1, number, offset)
 
 static void hybrid_byte(void)
 {
@@ -353,7 +356,7 @@ static void hybrid_check_digits(void)
     REFUSED(hybrid(9), "\x0B" "D23\r" "00005" "05A" "\x1C\r", GMV_CHECK, 0);
 }
 
-static void hybrid_cut(void)
+static void hybrid_interrupted(void)
 {
     REFUSED(hybrid(9), "\x0B" "\x0B", GMV_INTERRUPTED, 0);
     REFUSED(hybrid(9), "\x0B" "D23\r" "00005" "067" "\x0B", GMV_INTERRUPTED, 0);
@@ -375,8 +378,8 @@ static void minimal_refusals(void)
 /* Bytes that are not one whole block: the check answers 5. */
 static void not_one_block(settings link, const void *bytes, size_t length)
 {
-    guarded block = lend_copy(bytes, length);
-    guarded verdict = lend(GMV_VERDICT_WORDS * WORD, 0xEE);
+    guarded block = guard_copy(bytes, length);
+    guarded verdict = guard(GMV_VERDICT_WORDS * WORD, 0xEE);
 
     CHECK(check_block(link, block.at, block.size, &verdict) == GMV_SHAPE);
     CHECK(says_refused(&verdict, GMV_SHAPE, 0));
@@ -426,8 +429,8 @@ static void block_after_lost_cr(void)
     }
 }
 
-/* The SB that cuts a block begins the next one. */
-static void block_after_cut(void)
+/* The SB that interrupts a block begins the next one. */
+static void block_after_interruption(void)
 {
     const char *bytes = "\x0B" "D23" "\x0B" "D23\r" "00005" "067" "\x1C\r";
 
@@ -451,7 +454,7 @@ static void endless_block(settings link, uint64_t body_length)
     words_of(&r.state)[GMV_READER_PHASE] = 1;
     words_of(&r.state)[GMV_READER_BODY_LENGTH] = body_length;
     give_back(&r.part);
-    r.part = lend_copy("abc\x1C\r", 5);
+    r.part = guard_copy("abc\x1C\r", 5);
     CHECK(call_reader(&r) == GMV_OK);
     CHECK(says_refused(&r.verdict, GMV_LONG, 0));
     CHECK(unchanged(&r.buffer));
@@ -474,19 +477,19 @@ typedef struct {
     settings link;
     uint64_t type;
     guarded content, buffer, report;
-    size_t place;
+    size_t start;
 } writing;
 
-static writing new_writing(settings link, const char *content, size_t room)
+static writing new_writing(settings link, const char *content, size_t size)
 {
     writing w;
 
     w.link = link;
     w.type = 'D';
-    w.content = lend_copy(content, strlen(content));
-    w.buffer = lend(room, 0x55);
-    w.report = lend(GMV_REPORT_WORDS * WORD, 0xEE);
-    w.place = 0;
+    w.content = guard_copy(content, strlen(content));
+    w.buffer = guard(size, 0x55);
+    w.report = guard(GMV_REPORT_WORDS * WORD, 0xEE);
+    w.start = 0;
     return w;
 }
 
@@ -499,7 +502,7 @@ static void end_writing(writing *w)
 
 static uint64_t call_writer(writing *w)
 {
-    return write_block(w->link, w->type, &w->content, &w->buffer, w->place, &w->report);
+    return write_block(w->link, w->type, &w->content, &w->buffer, w->start, &w->report);
 }
 
 /* 1 or 2: nothing changes, the report neither. */
@@ -512,11 +515,11 @@ static void writer_refuses_early(writing *w, uint64_t number)
 }
 
 /* 3, 4 or 5: the report is written, the buffer is unchanged. */
-static void writer_refuses(writing *w, uint64_t number, uint64_t place)
+static void writer_refuses(writing *w, uint64_t number, uint64_t forbidden_offset)
 {
     CHECK(call_writer(w) == number);
     CHECK(words_of(&w->report)[GMV_REPORT_BLOCK_LENGTH] == 0);
-    CHECK(words_of(&w->report)[GMV_REPORT_FORBIDDEN_OFFSET] == place);
+    CHECK(words_of(&w->report)[GMV_REPORT_FORBIDDEN_OFFSET] == forbidden_offset);
     CHECK(unchanged(&w->content));
     CHECK(unchanged(&w->buffer));
 }
@@ -543,40 +546,40 @@ static void writer_changes_two_report_words(settings link)
     end_writing(&w);
 }
 
-static void writer_needs_room(settings link)
+static void writer_needs_space(settings link)
 {
-    for (size_t room = 0; room < 2 + overhead_of(link); room++) {
-        writing w = new_writing(link, "ab", room);
+    for (size_t size = 0; size < 2 + overhead_of(link); size++) {
+        writing w = new_writing(link, "ab", size);
 
         writer_refuses_early(&w, GMV_TOO_SHORT);
         end_writing(&w);
     }
 }
 
-static void writer_refuses_place(settings link, size_t place)
+static void writer_refuses_start(settings link, size_t start)
 {
     writing w = new_writing(link, "ab", 2 + overhead_of(link));
 
-    w.place = place;
+    w.start = start;
     writer_refuses_early(&w, GMV_TOO_SHORT);
     end_writing(&w);
 }
 
-static void writer_refuses_places(settings link)
+static void writer_refuses_starts(settings link)
 {
-    for (size_t place = 1; place < 60; place++)
-        writer_refuses_place(link, place);
+    for (size_t start = 1; start < 60; start++)
+        writer_refuses_start(link, start);
     for (size_t below = 0; below < 60; below++) {
-        writer_refuses_place(link, SIZE_MAX - below);
-        writer_refuses_place(link, SIZE_MAX / 2 - below);
+        writer_refuses_start(link, SIZE_MAX - below);
+        writer_refuses_start(link, SIZE_MAX / 2 - below);
     }
 }
 
-/* Room comes before the data: 4, 5 and 3 are said only where the block would fit. */
+/* The buffer comes before the data: 4, 5 and 3 are said only where the block would fit. */
 static void writer_order(settings link)
 {
-    const size_t room = 3 + overhead_of(link);
-    writing w = new_writing(link, "a\x01" "b", room - 1);
+    const size_t size = 3 + overhead_of(link);
+    writing w = new_writing(link, "a\x01" "b", size - 1);
 
     w.link.data_limit = 2;
     w.type = 'x';
@@ -584,7 +587,7 @@ static void writer_order(settings link)
     w.link.data_limit = 0;
     writer_refuses_early(&w, GMV_SETTING);
     w.link.data_limit = 2;
-    resize(&w.buffer, room, 0x55);
+    resize(&w.buffer, size, 0x55);
     writer_refuses(&w, GMV_LONG, 0);
     w.link.data_limit = 3;
     if (!link.minimal)
@@ -664,7 +667,7 @@ static void test_reader_refusals(void)
 
 static void test_block_refusals(void)
 {
-    begin_test("hybrid: 3 with the place of the byte");
+    begin_test("hybrid: 3 with the offset of the byte");
     hybrid_byte();
     begin_test("hybrid: 4, before 5 and 3");
     hybrid_long();
@@ -677,7 +680,7 @@ static void test_block_refusals(void)
     begin_test("hybrid: 7");
     hybrid_check_digits();
     begin_test("hybrid: 8, before 4");
-    hybrid_cut();
+    hybrid_interrupted();
     begin_test("minimal: 3, 4, 5 and 8");
     minimal_refusals();
     begin_test("hybrid check: 5 for what is not one whole block");
@@ -688,8 +691,8 @@ static void test_block_refusals(void)
     unfinished_and_long();
     begin_test("hybrid: a block right after an EB without CR");
     block_after_lost_cr();
-    begin_test("hybrid: a block right after a cut");
-    block_after_cut();
+    begin_test("hybrid: a block right after an interrupted one");
+    block_after_interruption();
     BOTH("4 for a block of any length over the limit", endless_blocks);
 }
 
@@ -697,8 +700,8 @@ static void test_writer_refusals(void)
 {
     BOTH("writer: 2 with too few report words", writer_needs_report_words);
     BOTH("writer: two report words changed, no more", writer_changes_two_report_words);
-    BOTH("writer: 2 with too little room", writer_needs_room);
-    BOTH("writer: 2 with a place too far on, up to SIZE_MAX", writer_refuses_places);
+    BOTH("writer: 2 with too short a buffer", writer_needs_space);
+    BOTH("writer: 2 with a start too far on, up to SIZE_MAX", writer_refuses_starts);
     BOTH("writer: 1, 2, 4, 5, 3 in this order", writer_order);
     begin_test("writer: 5 for every other type");
     writer_refuses_types();

@@ -1,11 +1,11 @@
-/* What is written reads back, at the limits and at every place of the buffer. */
+/* What is written reads back, at the limits and at every offset of the buffer. */
 #include "harness.h"
 
 #include <string.h>
 
 static guarded random_content(size_t length)
 {
-    guarded content = lend(length, 0);
+    guarded content = guard(length, 0);
 
     for (size_t i = 0; i < length; i++)
         content.at[i] = random_data_byte();
@@ -16,7 +16,7 @@ static guarded random_content(size_t length)
 /* The written bytes, checked whole, are an accepted block with this content. */
 static void checks_back(settings link, uint64_t type, const guarded *block, const guarded *content)
 {
-    guarded verdict = lend(GMV_VERDICT_WORDS * sizeof(uint64_t), 0xEE);
+    guarded verdict = guard(GMV_VERDICT_WORDS * sizeof(uint64_t), 0xEE);
     size_t start = link.minimal ? 1 : 5;
 
     CHECK(check_block(link, block->at, block->size, &verdict) == GMV_OK);
@@ -45,8 +45,8 @@ static void reads_back(settings link, uint64_t type, const guarded *block, const
 
 static void round_trip(settings link, uint64_t type, guarded *content)
 {
-    guarded block = lend(content->size + overhead_of(link), 0x55);
-    guarded report = lend(GMV_REPORT_WORDS * sizeof(uint64_t), 0xEE);
+    guarded block = guard(content->size + overhead_of(link), 0x55);
+    guarded report = guard(GMV_REPORT_WORDS * sizeof(uint64_t), 0xEE);
 
     CHECK(write_block(link, type, content, &block, 0, &report) == GMV_OK);
     CHECK(words_of(&report)[GMV_REPORT_BLOCK_LENGTH] == block.size);
@@ -66,8 +66,8 @@ static void round_trip(settings link, uint64_t type, guarded *content)
 static void one_too_many(settings link)
 {
     guarded content = random_content(link.data_limit + 1);
-    guarded block = lend(content.size + overhead_of(link), 0x55);
-    guarded report = lend(GMV_REPORT_WORDS * sizeof(uint64_t), 0xEE);
+    guarded block = guard(content.size + overhead_of(link), 0x55);
+    guarded report = guard(GMV_REPORT_WORDS * sizeof(uint64_t), 0xEE);
 
     CHECK(write_block(link, 'D', &content, &block, 0, &report) == GMV_LONG);
     CHECK(words_of(&report)[GMV_REPORT_BLOCK_LENGTH] == 0);
@@ -117,7 +117,7 @@ static void every_short_length(settings link)
 static void nak_blocks(settings link)
 {
     for (const char *reason = "CXBG"; *reason; reason++) {
-        guarded content = lend_copy(reason, 1);
+        guarded content = guard_copy(reason, 1);
 
         round_trip(link, 'N', &content);
         give_back(&content);
@@ -138,19 +138,19 @@ static void other_settings(void)
 }
 
 /* Only the block's bytes change, wherever in the buffer it is put. */
-static void at_place(settings link, size_t place, size_t after)
+static void at_offset(settings link, size_t start, size_t after)
 {
     guarded content = random_content(9);
     size_t length = content.size + overhead_of(link);
-    guarded buffer = lend(place + length + after, 0x55);
-    guarded report = lend(GMV_REPORT_WORDS * sizeof(uint64_t), 0xEE);
+    guarded buffer = guard(start + length + after, 0x55);
+    guarded report = guard(GMV_REPORT_WORDS * sizeof(uint64_t), 0xEE);
     guarded block;
 
-    CHECK(write_block(link, 'D', &content, &buffer, place, &report) == GMV_OK);
+    CHECK(write_block(link, 'D', &content, &buffer, start, &report) == GMV_OK);
     CHECK(words_of(&report)[GMV_REPORT_BLOCK_LENGTH] == length);
-    CHECK(memcmp(buffer.at, buffer.kept, place) == 0);
-    CHECK(same_from(&buffer, place + length));
-    block = lend_copy(buffer.at + place, length);
+    CHECK(memcmp(buffer.at, buffer.kept, start) == 0);
+    CHECK(same_from(&buffer, start + length));
+    block = guard_copy(buffer.at + start, length);
     checks_back(link, 'D', &block, &content);
     give_back(&block);
     give_back(&content);
@@ -158,21 +158,21 @@ static void at_place(settings link, size_t place, size_t after)
     give_back(&report);
 }
 
-static void at_every_place(settings link)
+static void at_every_offset(settings link)
 {
-    for (size_t place = 0; place < 40; place++) {
-        at_place(link, place, 0);
-        at_place(link, place, 1);
-        at_place(link, place, 33);
+    for (size_t start = 0; start < 40; start++) {
+        at_offset(link, start, 0);
+        at_offset(link, start, 1);
+        at_offset(link, start, 33);
     }
 }
 
 /* A byte is written, and read, exactly if it is 20 to 7E or CR. */
 static void byte_value(settings link, unsigned value, size_t offset)
 {
-    guarded content = lend(5, 'x');
-    guarded block = lend(content.size + overhead_of(link), 0x55);
-    guarded report = lend(GMV_REPORT_WORDS * sizeof(uint64_t), 0xEE);
+    guarded content = guard(5, 'x');
+    guarded block = guard(content.size + overhead_of(link), 0x55);
+    guarded report = guard(GMV_REPORT_WORDS * sizeof(uint64_t), 0xEE);
     int allowed = value == '\r' || (value >= 0x20 && value <= 0x7E);
     uint64_t answer;
 
@@ -209,10 +209,10 @@ void test_round_trips(void)
     nak_blocks(hybrid(4096));
     begin_test("blocks with other SB and EB read back");
     other_settings();
-    begin_test("hybrid block at every place, nothing else of the buffer changes");
-    at_every_place(hybrid(128));
-    begin_test("minimal block at every place, nothing else of the buffer changes");
-    at_every_place(minimal(128));
+    begin_test("hybrid block at every offset, nothing else of the buffer changes");
+    at_every_offset(hybrid(128));
+    begin_test("minimal block at every offset, nothing else of the buffer changes");
+    at_every_offset(minimal(128));
     begin_test("hybrid writer takes exactly the allowed data bytes");
     every_byte_value(hybrid(128));
     begin_test("minimal writer takes exactly the allowed data bytes");

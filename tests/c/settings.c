@@ -12,11 +12,11 @@ static memory new_memory(void)
     static const uint8_t bytes[] = {'x', 'y', 'z'};
     memory m;
 
-    m.state = lend(GMV_READER_WORDS * WORD, 0);
-    m.part = lend_copy(bytes, sizeof bytes);
-    m.buffer = lend(40, 0x55);
-    m.verdict = lend(GMV_VERDICT_WORDS * WORD, 0xEE);
-    m.report = lend(GMV_REPORT_WORDS * WORD, 0xEE);
+    m.state = guard(GMV_READER_WORDS * WORD, 0);
+    m.part = guard_copy(bytes, sizeof bytes);
+    m.buffer = guard(40, 0x55);
+    m.verdict = guard(GMV_VERDICT_WORDS * WORD, 0xEE);
+    m.report = guard(GMV_REPORT_WORDS * WORD, 0xEE);
     return m;
 }
 

@@ -10,7 +10,8 @@ use lib.Dec.{eqb}
 use borrow.Author.Tests.{le-leb}
 use Rattle.data_bytes.specs.DataBytes.{allAllowed, firstForbidden}
 use Rattle.block.specs.Format.{countField, version}
-use Rattle.block.specs.Judge.{same, isReason, typeMatches, checksumMatches, judgeParts, judgeHybrid, headerOk, dataOf}
+use Rattle.lists.specs.Bytes.{same}
+use Rattle.block.specs.Judge.{isReason, typeMatches, checksumMatches, judgeParts, judgeHybrid, headerOk, dataOf}
 use Rattle.verdict.specs.declared.Verdict.the-variants.{Accepted, Byte, Shape, Count, Check}
 
 -- fields of three and of five bytes, compared byte by byte

@@ -4,19 +4,13 @@ use mathlib.Core.Bool.{Bool, true, false, cond, _&&_, _||_}
 use Prim.Native.Nat.{ℕ, _-_}
 use lib.ListN.{length, take, drop, getD}
 use lib.Dec.{leb, eqb}
+use Rattle.lists.specs.Bytes.{same}
 use Rattle.data_bytes.specs.DataBytes.{allAllowed, firstForbidden}
 use Rattle.block.specs.Format.{version, countField, checksumOf, threeDigits}
 use Rattle.settings.specs.Settings.{byKind}
 use Rattle.settings.specs.declared.Settings.{Settings}
 use Rattle.verdict.specs.declared.Verdict.{Verdict}
 use Rattle.verdict.specs.declared.Verdict.the-variants.{Accepted, Byte, Shape, Count, Check}
-
--- whether two fields have the same bytes
-unfoldable pub same : List ℕ → List ℕ → Bool
-same [] [] = true
-same [] (y ∷ ys) = false
-same (x ∷ xs) [] = false
-same (x ∷ xs) (y ∷ ys) = eqb x y && same xs ys
 
 -- "An N block's data is one byte: C, X, B or G."
 abbrev pub isReason : List ℕ → Bool

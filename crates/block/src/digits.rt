@@ -4,7 +4,7 @@ ghost use mathlib.Core.Path.{_≡_};
 ghost use mathlib.Core.List.{[], _∷_};
 ghost use lib.ListN.{length};
 ghost use Rattle.block.specs.Format.{fiveDigits, threeDigits};
-ghost use Rattle.block.specs.Judge.{same};
+ghost use Rattle.lists.specs.Bytes.{same};
 
 // Whether s is these three bytes.
 pub fn is_three(s: &[u8], a: u8, b: u8, c: u8) -> bool

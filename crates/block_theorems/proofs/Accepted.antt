@@ -13,7 +13,8 @@ use Rattle.lists.proofs.Tests.{and-left, and-right}
 use Rattle.data_bytes.specs.DataBytes.{allAllowed, firstForbidden}
 use Rattle.block.specs.Format.{version, threeDigits, countField, checksumOf, hybridBody}
 use Rattle.settings.specs.Settings.{byKind, valid, capacityOf}
-use Rattle.block.specs.Judge.{same, typeMatches, headerOk, checksumMatches, judgeParts, dataOf, judgeHybrid, judgeMinimal, judge}
+use Rattle.lists.specs.Bytes.{same}
+use Rattle.block.specs.Judge.{typeMatches, headerOk, checksumMatches, judgeParts, dataOf, judgeHybrid, judgeMinimal, judge}
 use Rattle.verdict.specs.Verdict.{numberOf, typeOf, lengthOf}
 use Rattle.settings.specs.declared.Kind.{Kind}
 use Rattle.settings.specs.declared.Kind.the-variants.{Hybrid, Minimal}

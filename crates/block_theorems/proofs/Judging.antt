@@ -10,7 +10,8 @@ use borrow.Author.Tests.{eq-eqb, le-leb}
 use Rattle.block.proofs.Laws.{parts-accepted}
 use Rattle.data_bytes.specs.DataBytes.{allAllowed}
 use Rattle.block.specs.Format.{version, fiveDigits, threeDigits, countField, checksumOf, hybridBody}
-use Rattle.block.specs.Judge.{same, typeMatches, headerOk, checksumMatches, judgeParts, dataOf, judgeHybrid}
+use Rattle.lists.specs.Bytes.{same}
+use Rattle.block.specs.Judge.{typeMatches, headerOk, checksumMatches, judgeParts, dataOf, judgeHybrid}
 use Rattle.verdict.specs.declared.Verdict.the-variants.{Accepted, Shape}
 
 pub same-self : (l : List ℕ) → same l l ≡ true

@@ -1,7 +1,8 @@
 -- The cases by hand: each equation by computing both sides.
 use mathlib.Core.Path.{refl}
 use Rattle.block.specs.Format.{fiveDigits, threeDigits, countField, checksumOf, hybridBody, hybridBlock}
-use Rattle.block.specs.Judge.{same, typeMatches, headerOk, checksumMatches, judgeParts, dataOf, judgeHybrid, judge}
+use Rattle.lists.specs.Bytes.{same}
+use Rattle.block.specs.Judge.{typeMatches, headerOk, checksumMatches, judgeParts, dataOf, judgeHybrid, judge}
 use Rattle.settings.specs.Settings.{valid}
 use Rattle.reader_buffer.specs.Content.{contentOf}
 use Rattle.stream.specs.Stream.{outcome, move, run}

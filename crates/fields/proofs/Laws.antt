@@ -1,4 +1,4 @@
--- Where fields stand: one bar more, fields counted on from another field, and the end of the segment seen from a field.
+-- Where fields stand, one bar after the other.
 use mathlib.Core.Path.{_≡_, refl, sym, ap, _∙_}
 use mathlib.Core.List.{List, [], _∷_}
 use mathlib.Core.Bool.{Bool, true, false, _||_}

@@ -1,6 +1,6 @@
 -- Bytes searched, and bytes written over others.
 use mathlib.Core.List.{List, [], _∷_, _++_}
-use mathlib.Core.Bool.{Bool, true, false, cond, _||_}
+use mathlib.Core.Bool.{Bool, true, false, cond, _&&_, _||_}
 use Prim.Native.Nat.{ℕ, suc, _+_}
 use lib.ListN.{length, take, drop}
 use lib.Dec.{leb, eqb}
@@ -14,6 +14,13 @@ clear a b (x ∷ xs) = cond (eqb x a || eqb x b) 0 (suc (clear a b xs))
 abbrev pub hasAny : ℕ → ℕ → List ℕ → Bool
 hasAny a b [] = false
 hasAny a b (x ∷ xs) = (eqb x a || eqb x b) || hasAny a b xs
+
+-- whether two lists have the same bytes
+unfoldable pub same : List ℕ → List ℕ → Bool
+same [] [] = true
+same [] (y ∷ ys) = false
+same (x ∷ xs) [] = false
+same (x ∷ xs) (y ∷ ys) = eqb x y && same xs ys
 
 -- l with vs written over it from place a on
 unfoldable pub put : List ℕ → ℕ → List ℕ → List ℕ

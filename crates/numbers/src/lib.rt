@@ -1,7 +1,9 @@
 // Numbers in fields: -1 or plain digits, read and written.
+mod compare;
 mod read;
 mod write;
 
+pub use compare::is_text;
 pub use read::read_number;
 pub use write::text_length;
 pub use write::write_number;

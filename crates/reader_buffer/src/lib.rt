@@ -11,7 +11,9 @@ ghost use Rattle.reader_buffer.specs.Content.{contentOf};
 pub fn block_content(settings: Settings, verdict: Verdict, buffer: &[u8]) -> &[u8]
     ensures { λ r. ⌜ now r ≡ contentOf settings verdict (now (buffer .entry)) ⌝ }
 {
-    lists::part_of(buffer, settings.data_offset(), verdict.data_length())
+    let offset = settings.data_offset();
+    let size = verdict.data_length();
+    lists::part_of(buffer, offset, size)
 }
 
 // Whether a block of this many bytes between SB and EB is too long.

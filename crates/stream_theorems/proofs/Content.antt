@@ -13,7 +13,8 @@ use Rattle.data_bytes.specs.DataBytes.{allAllowed}
 use Rattle.block.specs.Format.{countField}
 use Rattle.settings.specs.Settings.{byKind, dataOffsetOf}
 use Rattle.verdict.specs.Verdict.{lengthOf}
-use Rattle.block.specs.Judge.{judge, judgeHybrid, judgeMinimal, judgeParts, headerOk, typeMatches, checksumMatches, dataOf, same}
+use Rattle.block.specs.Judge.{judge, judgeHybrid, judgeMinimal, judgeParts, headerOk, typeMatches, checksumMatches, dataOf}
+use Rattle.lists.specs.Bytes.{same}
 use Rattle.settings.specs.declared.Kind.{Kind}
 use Rattle.settings.specs.declared.Kind.the-variants.{Hybrid, Minimal}
 use Rattle.settings.specs.declared.Settings.{Settings}

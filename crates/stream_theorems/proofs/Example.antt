@@ -3,7 +3,8 @@ use mathlib.Core.Path.{_≡_, refl}
 use mathlib.Core.List.{[], _∷_}
 use Rattle.settings.specs.Settings.{valid}
 use Rattle.block.specs.Format.{fiveDigits, threeDigits, countField, checksumOf}
-use Rattle.block.specs.Judge.{judge, judgeHybrid, judgeParts, headerOk, typeMatches, checksumMatches, dataOf, same}
+use Rattle.block.specs.Judge.{judge, judgeHybrid, judgeParts, headerOk, typeMatches, checksumMatches, dataOf}
+use Rattle.lists.specs.Bytes.{same}
 use Rattle.settings.specs.declared.Kind.the-variants.{Hybrid}
 use Rattle.settings.specs.declared.Settings.{Settings}
 use Rattle.verdict.specs.declared.Verdict.the-variants.{Accepted}

@@ -1,20 +1,25 @@
 //! Each function here makes one or more calls of the library and compares the answer, and every
-//! word and byte of the lent memory, with the model.
+//! word and byte of the memory, with the model.
 
-use crate::lent::{same, Lent};
+use crate::guarded::{same, Guarded};
 use crate::library;
 use host::model::{self, Block, Settings};
 use host::prng::Random;
 
 pub type Outcome = Result<(), String>;
 
-const GUARD_WORD: u64 = 0x5A5A_A5A5_0FF0_F00F;
-const GUARD_BYTE: u8 = 0xC3;
+pub const GUARD_WORD: u64 = 0x5A5A_A5A5_0FF0_F00F;
+pub const GUARD_BYTE: u8 = 0xC3;
 
-/// Draws random numbers for a group and counts the calls that were compared.
+/// Draws random numbers for a group and counts what was compared: calls of the functions for
+/// blocks, and messages that were read or written. Of the messages read, those with a header that
+/// the model reads are counted too, and those with an answer.
 pub struct Compare {
     pub random: Random,
     pub inputs: u64,
+    pub messages: u64,
+    pub headers: u64,
+    pub answers: u64,
 }
 
 /// One reading call, from any words.
@@ -34,7 +39,7 @@ pub struct WriteCall<'a> {
     pub block_type: u64,
     pub content: &'a [u8],
     pub buffer: &'a [u8],
-    pub place: usize,
+    pub start: usize,
     pub report_words: usize,
 }
 
@@ -48,8 +53,8 @@ struct Expected {
 
 /// A reader in the middle of a stream, beside what its memory must be.
 struct Reader {
-    state: Lent<u64>,
-    buffer: Lent<u8>,
+    state: Guarded<u64>,
+    buffer: Guarded<u8>,
     expected_state: Vec<u64>,
     expected_buffer: Vec<u8>,
     position: usize,
@@ -65,7 +70,7 @@ impl Reader {
     }
 }
 
-fn same_number(found: u64, expected: u64) -> Outcome {
+pub fn same_number(found: u64, expected: u64) -> Outcome {
     if found == expected {
         Ok(())
     } else {
@@ -82,6 +87,9 @@ impl Compare {
         Compare {
             random: Random::new(seed),
             inputs: 0,
+            messages: 0,
+            headers: 0,
+            answers: 0,
         }
     }
 
@@ -94,8 +102,8 @@ impl Compare {
     pub fn check_with(&mut self, settings: &Settings, bytes: &[u8], words: usize) -> Outcome {
         self.inputs += 1;
         let before = self.random.words(words);
-        let mut verdict = Lent::new(&before, GUARD_WORD);
-        let found = library::check(settings, bytes, verdict.lend());
+        let mut verdict = Guarded::new(&before, GUARD_WORD);
+        let found = library::check(settings, bytes, verdict.content_mut());
         let mut expected = before;
         let number = match model::check_refusal(settings, words) {
             Some(number) => number,
@@ -122,16 +130,16 @@ impl Compare {
         self.inputs += 1;
         let before = self.random.words(call.verdict_words);
         let expected = expected_read(call, &before);
-        let mut state = Lent::new(call.state, GUARD_WORD);
-        let mut buffer = Lent::new(call.buffer, GUARD_BYTE);
-        let mut verdict = Lent::new(&before, GUARD_WORD);
+        let mut state = Guarded::new(call.state, GUARD_WORD);
+        let mut buffer = Guarded::new(call.buffer, GUARD_BYTE);
+        let mut verdict = Guarded::new(&before, GUARD_WORD);
         let settings = call.settings;
         let found = library::read(
             &settings,
-            state.lend(),
+            state.content_mut(),
             call.part,
-            buffer.lend(),
-            verdict.lend(),
+            buffer.content_mut(),
+            verdict.content_mut(),
         );
         same_number(found, expected.number)
             .and_then(|()| verdict.compare("verdict", &expected.words))
@@ -145,24 +153,24 @@ impl Compare {
         self.inputs += 1;
         let before = self.random.words(call.report_words);
         let expected = expected_write(call, &before);
-        let mut buffer = Lent::new(call.buffer, GUARD_BYTE);
-        let mut report = Lent::new(&before, GUARD_WORD);
+        let mut buffer = Guarded::new(call.buffer, GUARD_BYTE);
+        let mut report = Guarded::new(&before, GUARD_WORD);
         let settings = call.settings;
         let found = library::write(
             &settings,
             call.block_type,
             call.content,
-            buffer.lend(),
-            call.place,
-            report.lend(),
+            buffer.content_mut(),
+            call.start,
+            report.content_mut(),
         );
         same_number(found, expected.number)
             .and_then(|()| report.compare("report", &expected.words))
             .and_then(|()| buffer.compare("buffer", &expected.buffer))
             .map_err(|why| write_text(call, &why))?;
         if found == 0 {
-            let end = call.place + report.content()[0] as usize;
-            let block = buffer.content()[call.place..end].to_vec();
+            let end = call.start + report.content()[0] as usize;
+            let block = buffer.content()[call.start..end].to_vec();
             self.reads_back(call, &block)?;
         }
         Ok(())
@@ -177,24 +185,27 @@ impl Compare {
         self.stream(&call.settings, block, &[])
     }
 
-    /// Reads a stream in parts that end at the given places (in order, perhaps equal ones), and
+    /// Reads a stream in parts that end at the given offsets (in order, perhaps equal ones), and
     /// compares all memory after each call.
-    pub fn stream(&mut self, settings: &Settings, input: &[u8], cuts: &[usize]) -> Outcome {
+    pub fn stream(&mut self, settings: &Settings, input: &[u8], part_ends: &[usize]) -> Outcome {
         let blocks = model::blocks(settings, input);
-        let lent = input.to_vec();
+        let given = input.to_vec();
         let mut reader = self.fresh_reader(settings)?;
         let mut from = 0;
-        for &to in cuts.iter().chain(&[input.len()]) {
-            self.part(settings, &lent, &blocks, &mut reader, from..to)
+        for &to in part_ends.iter().chain(&[input.len()]) {
+            self.part(settings, &given, &blocks, &mut reader, from..to)
                 .map_err(|why| {
                     let settings = library::settings_text(settings);
                     let hex = library::hex(input);
-                    let place = reader.position;
-                    format!("stream, {settings}, cuts {cuts:?}, at {place}: {why}; input {hex}")
+                    let position = reader.position;
+                    format!(
+                        "stream, {settings}, part ends {part_ends:?}, at {position}: {why}; \
+                         input {hex}"
+                    )
                 })?;
             from = to;
         }
-        if lent != input {
+        if given != input {
             return Err(format!("the part changed; input {}", library::hex(input)));
         }
         Ok(())
@@ -203,23 +214,23 @@ impl Compare {
     /// The same in one part, in random parts, and (if short) byte by byte.
     pub fn stream_all_ways(&mut self, settings: &Settings, input: &[u8]) -> Outcome {
         self.stream(settings, input, &[])?;
-        let cuts = self.random_cuts(input.len());
-        self.stream(settings, input, &cuts)?;
+        let part_ends = self.random_part_ends(input.len());
+        self.stream(settings, input, &part_ends)?;
         if input.len() <= 64 && self.random.one_in(4) {
-            let cuts: Vec<usize> = (0..input.len()).collect();
-            self.stream(settings, input, &cuts)?;
+            let part_ends: Vec<usize> = (0..input.len()).collect();
+            self.stream(settings, input, &part_ends)?;
         }
         Ok(())
     }
 
-    pub fn random_cuts(&mut self, length: usize) -> Vec<usize> {
+    pub fn random_part_ends(&mut self, length: usize) -> Vec<usize> {
         let count = self.random.below(6);
-        let mut cuts: Vec<usize> = (0..count).map(|_| self.random.below(length + 1)).collect();
+        let mut part_ends: Vec<usize> = (0..count).map(|_| self.random.below(length + 1)).collect();
         if count > 0 && self.random.one_in(3) {
-            cuts.push(cuts[0]);
+            part_ends.push(part_ends[0]);
         }
-        cuts.sort_unstable();
-        cuts
+        part_ends.sort_unstable();
+        part_ends
     }
 
     fn fresh_reader(&mut self, settings: &Settings) -> Result<Reader, String> {
@@ -228,8 +239,8 @@ impl Compare {
         let state_before = self.random.words(state_words);
         let longer = self.random.pick(&[0, 0, 1, 2, 3, 17]);
         let buffer_before = self.random.bytes(settings.fits() + longer);
-        let mut state = Lent::new(&state_before, GUARD_WORD);
-        let number = host::ffi::reader_fresh(state.lend());
+        let mut state = Guarded::new(&state_before, GUARD_WORD);
+        let number = host::ffi::reader_fresh(state.content_mut());
         let mut expected_state = state_before;
         expected_state[..4].fill(0);
         same_number(number, 0)
@@ -237,7 +248,7 @@ impl Compare {
             .map_err(|why| format!("gmv_reader_fresh, {state_words} words: {why}"))?;
         Ok(Reader {
             state,
-            buffer: Lent::new(&buffer_before, GUARD_BYTE),
+            buffer: Guarded::new(&buffer_before, GUARD_BYTE),
             expected_state,
             expected_buffer: buffer_before,
             position: 0,
@@ -285,11 +296,11 @@ impl Compare {
         reader.expect(settings, input, blocks, rest.start + used);
         let verdict_words = 8 + self.random.below(3);
         let mut expected_words = self.random.words(verdict_words);
-        let mut verdict = Lent::new(&expected_words, GUARD_WORD);
+        let mut verdict = Guarded::new(&expected_words, GUARD_WORD);
         expected_words[..8].copy_from_slice(&words);
-        let state = reader.state.lend();
-        let buffer = reader.buffer.lend();
-        let found = library::read(settings, state, &input[rest], buffer, verdict.lend());
+        let state = reader.state.content_mut();
+        let buffer = reader.buffer.content_mut();
+        let found = library::read(settings, state, &input[rest], buffer, verdict.content_mut());
         same_number(found, 0)?;
         verdict.compare("verdict", &expected_words)?;
         reader.state.compare("state", &reader.expected_state)?;
@@ -342,7 +353,7 @@ fn expected_write(call: &WriteCall, report_before: &[u64]) -> Expected {
         &call.settings,
         call.content.len(),
         call.buffer.len(),
-        call.place,
+        call.start,
         call.report_words,
     );
     if let Some(number) = refusal {
@@ -351,12 +362,12 @@ fn expected_write(call: &WriteCall, report_before: &[u64]) -> Expected {
     }
     match model::written(&call.settings, call.block_type, call.content) {
         Ok(block) => {
-            expected.buffer[call.place..][..block.len()].copy_from_slice(&block);
+            expected.buffer[call.start..][..block.len()].copy_from_slice(&block);
             expected.words[..2].copy_from_slice(&[block.len() as u64, 0]);
         }
-        Err((number, place)) => {
+        Err((number, forbidden_offset)) => {
             expected.number = number;
-            expected.words[..2].copy_from_slice(&[0, place]);
+            expected.words[..2].copy_from_slice(&[0, forbidden_offset]);
         }
     }
     expected
@@ -375,10 +386,10 @@ fn read_text(call: &ReadCall, why: &str) -> String {
 
 fn write_text(call: &WriteCall, why: &str) -> String {
     format!(
-        "write, {}, type {:#x}, place {}, {} buffer bytes, {} report words: {why}; data {}",
+        "write, {}, type {:#x}, start {}, {} buffer bytes, {} report words: {why}; data {}",
         library::settings_text(&call.settings),
         call.block_type,
-        call.place,
+        call.start,
         call.buffer.len(),
         call.report_words,
         library::hex(call.content)

@@ -5,19 +5,21 @@
 pub mod names {
     pub const OK: u64 = 0;
     pub const SETTING: u64 = 1;
-    pub const ROOM: u64 = 2;
+    pub const TOO_SHORT: u64 = 2;
     pub const BYTE: u64 = 3;
     pub const LONG: u64 = 4;
     pub const SHAPE: u64 = 5;
     pub const COUNT: u64 = 6;
     pub const CHECK: u64 = 7;
-    pub const CUT: u64 = 8;
+    pub const INTERRUPTED: u64 = 8;
+    pub const HEAD: u64 = 9;
+    pub const TOO_LARGE: u64 = 10;
     pub const STATE: u64 = 11;
 
     pub const FOUND: usize = 0;
     pub const OFFSET: usize = 1;
     pub const NUMBER: usize = 2;
-    pub const PLACE: usize = 3;
+    pub const VERDICT_FORBIDDEN_OFFSET: usize = 3;
     pub const TYPE: usize = 4;
     pub const DATA_OFFSET: usize = 5;
     pub const DATA_LENGTH: usize = 6;
@@ -31,8 +33,40 @@ pub mod names {
     pub const READER_WORDS: usize = 4;
 
     pub const BLOCK_LENGTH: usize = 0;
-    pub const REFUSED_PLACE: usize = 1;
+    pub const REPORT_FORBIDDEN_OFFSET: usize = 1;
     pub const REPORT_WORDS: usize = 2;
+
+    pub const MINUS_ONE: u64 = u64::MAX;
+
+    pub const FIELD_MISSING: u64 = 0;
+    pub const FIELD_NOT_NUMBER: u64 = 1;
+    pub const FIELD_NUMBER: u64 = 2;
+
+    pub const CODE_OTHER: u64 = 0;
+    pub const CODE_AA: u64 = 1;
+    pub const CODE_AE: u64 = 2;
+    pub const CODE_AR: u64 = 3;
+
+    pub const HEADER_CONTROL_ID_OFFSET: usize = 0;
+    pub const HEADER_CONTROL_ID_LENGTH: usize = 1;
+    pub const HEADER_SEQUENCE_OFFSET: usize = 2;
+    pub const HEADER_SEQUENCE_LENGTH: usize = 3;
+    pub const HEADER_SEQUENCE_FIELD: usize = 4;
+    pub const HEADER_SEQUENCE_NUMBER: usize = 5;
+    pub const HEADER_WORDS: usize = 6;
+
+    pub const ANSWER_CODE_OFFSET: usize = 0;
+    pub const ANSWER_CODE_LENGTH: usize = 1;
+    pub const ANSWER_CODE: usize = 2;
+    pub const ANSWER_CONTROL_ID_OFFSET: usize = 3;
+    pub const ANSWER_CONTROL_ID_LENGTH: usize = 4;
+    pub const ANSWER_EXPECTED_OFFSET: usize = 5;
+    pub const ANSWER_EXPECTED_LENGTH: usize = 6;
+    pub const ANSWER_EXPECTED_FIELD: usize = 7;
+    pub const ANSWER_EXPECTED_NUMBER: usize = 8;
+    pub const ANSWER_WORDS: usize = 9;
+
+    pub const MESSAGE_LENGTH: usize = 0;
 }
 
 /// The functions as C sees them.
@@ -93,7 +127,7 @@ pub mod raw {
             content_length: usize,
             buffer: *mut u8,
             buffer_length: usize,
-            place: usize,
+            start: usize,
             report: *mut u64,
             report_words: usize,
         ) -> u64;
@@ -104,7 +138,44 @@ pub mod raw {
             content_length: usize,
             buffer: *mut u8,
             buffer_length: usize,
-            place: usize,
+            start: usize,
+            report: *mut u64,
+            report_words: usize,
+        ) -> u64;
+
+        pub fn gmv_header_read(
+            message: *const u8,
+            message_length: usize,
+            header: *mut u64,
+            header_words: usize,
+        ) -> u64;
+
+        pub fn gmv_answer_read(
+            message: *const u8,
+            message_length: usize,
+            answer: *mut u64,
+            answer_words: usize,
+        ) -> u64;
+
+        pub fn gmv_answer_write(
+            control_id: *const u8,
+            control_id_length: usize,
+            code: u64,
+            number: u64,
+            buffer: *mut u8,
+            buffer_length: usize,
+            start: usize,
+            report: *mut u64,
+            report_words: usize,
+        ) -> u64;
+
+        pub fn gmv_control_write(
+            message_type: *const u8,
+            type_length: usize,
+            number: u64,
+            buffer: *mut u8,
+            buffer_length: usize,
+            start: usize,
             report: *mut u64,
             report_words: usize,
         ) -> u64;
@@ -205,7 +276,7 @@ pub fn hybrid_write(
     block_type: u64,
     content: &[u8],
     buffer: &mut [u8],
-    place: usize,
+    start: usize,
     report: &mut [u64],
 ) -> u64 {
     // SAFETY: each slice has memory of the length passed, and none overlaps another.
@@ -219,7 +290,7 @@ pub fn hybrid_write(
             content.len(),
             buffer.as_mut_ptr(),
             buffer.len(),
-            place,
+            start,
             report.as_mut_ptr(),
             report.len(),
         )
@@ -230,7 +301,7 @@ pub fn minimal_write(
     data_limit: u64,
     content: &[u8],
     buffer: &mut [u8],
-    place: usize,
+    start: usize,
     report: &mut [u64],
 ) -> u64 {
     // SAFETY: each slice has memory of the length passed, and none overlaps another.
@@ -241,7 +312,77 @@ pub fn minimal_write(
             content.len(),
             buffer.as_mut_ptr(),
             buffer.len(),
-            place,
+            start,
+            report.as_mut_ptr(),
+            report.len(),
+        )
+    }
+}
+
+pub fn header_read(message: &[u8], header: &mut [u64]) -> u64 {
+    // SAFETY: each slice has memory of the length passed, and none overlaps another.
+    unsafe {
+        raw::gmv_header_read(
+            message.as_ptr(),
+            message.len(),
+            header.as_mut_ptr(),
+            header.len(),
+        )
+    }
+}
+
+pub fn answer_read(message: &[u8], answer: &mut [u64]) -> u64 {
+    // SAFETY: each slice has memory of the length passed, and none overlaps another.
+    unsafe {
+        raw::gmv_answer_read(
+            message.as_ptr(),
+            message.len(),
+            answer.as_mut_ptr(),
+            answer.len(),
+        )
+    }
+}
+
+pub fn answer_write(
+    control_id: &[u8],
+    code: u64,
+    number: u64,
+    buffer: &mut [u8],
+    start: usize,
+    report: &mut [u64],
+) -> u64 {
+    // SAFETY: each slice has memory of the length passed, and none overlaps another.
+    unsafe {
+        raw::gmv_answer_write(
+            control_id.as_ptr(),
+            control_id.len(),
+            code,
+            number,
+            buffer.as_mut_ptr(),
+            buffer.len(),
+            start,
+            report.as_mut_ptr(),
+            report.len(),
+        )
+    }
+}
+
+pub fn control_write(
+    message_type: &[u8],
+    number: u64,
+    buffer: &mut [u8],
+    start: usize,
+    report: &mut [u64],
+) -> u64 {
+    // SAFETY: each slice has memory of the length passed, and none overlaps another.
+    unsafe {
+        raw::gmv_control_write(
+            message_type.as_ptr(),
+            message_type.len(),
+            number,
+            buffer.as_mut_ptr(),
+            buffer.len(),
+            start,
             report.as_mut_ptr(),
             report.len(),
         )

@@ -39,7 +39,7 @@ pub fn write(
     block_type: u64,
     content: &[u8],
     buffer: &mut [u8],
-    place: usize,
+    start: usize,
     report: &mut [u64],
 ) -> u64 {
     match settings.layer {
@@ -48,10 +48,10 @@ pub fn write(
             block_type,
             content,
             buffer,
-            place,
+            start,
             report,
         ),
-        Layer::Minimal => ffi::minimal_write(settings.limit, content, buffer, place, report),
+        Layer::Minimal => ffi::minimal_write(settings.limit, content, buffer, start, report),
     }
 }
 
@@ -71,4 +71,11 @@ pub fn hex(bytes: &[u8]) -> String {
     let digits: Vec<String> = shown.iter().map(|byte| format!("{byte:02X}")).collect();
     let more = if bytes.len() > SHOWN { " ..." } else { "" };
     format!("({} bytes) {}{more}", bytes.len(), digits.join(" "))
+}
+
+/// The bytes of a message as text; of a long one its beginning.
+pub fn text(bytes: &[u8]) -> String {
+    let shown = &bytes[..bytes.len().min(SHOWN)];
+    let more = if bytes.len() > SHOWN { " ..." } else { "" };
+    format!("({} bytes) {}{more}", bytes.len(), shown.escape_ascii())
 }

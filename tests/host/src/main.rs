@@ -1,11 +1,14 @@
 //! Runs the groups of tests: `hosttests [SEED] [GROUP]`. The seed is a decimal number.
 
 mod compare;
+mod compare_messages;
 mod faults;
 mod groups;
-mod lent;
+mod guarded;
 mod library;
 mod make;
+mod make_messages;
+mod real;
 
 use compare::Compare;
 use std::process::ExitCode;
@@ -13,8 +16,14 @@ use std::time::Instant;
 
 const SEED: u64 = 20_261_115;
 
-/// How many inputs a whole run compares at least.
-const LEAST_INPUTS: u64 = 1_000_000;
+/// How many inputs a whole run compares at least: calls of the functions for blocks; messages read
+/// or written; and of the messages read, those whose header can be read, and those that are answers.
+const LEAST: [(&str, u64); 4] = [
+    ("inputs", 1_000_000),
+    ("messages", 2_000_000),
+    ("readable headers", 500_000),
+    ("readable answers", 250_000),
+];
 
 /// A seed of its own for each group, so that one group can be run alone.
 fn group_seed(seed: u64, name: &str) -> u64 {
@@ -23,12 +32,25 @@ fn group_seed(seed: u64, name: &str) -> u64 {
     })
 }
 
-/// A run that compared fewer inputs than promised has failed, whatever they gave.
-fn too_few(inputs: u64) -> bool {
-    if inputs < LEAST_INPUTS {
-        println!("FAIL inputs: {inputs}, and {LEAST_INPUTS} are promised");
+/// A run that compared fewer of something than promised has failed, whatever they gave.
+fn too_few(compared: &[u64; 4]) -> bool {
+    let mut fewer = false;
+    for ((what, least), &found) in LEAST.into_iter().zip(compared) {
+        if found < least {
+            println!("FAIL {what}: {found}, and {least} are promised");
+            fewer = true;
+        }
     }
-    inputs < LEAST_INPUTS
+    fewer
+}
+
+/// What a group compared.
+fn tally(compare: &Compare) -> String {
+    match (compare.inputs, compare.messages) {
+        (inputs, 0) => format!("{inputs} inputs"),
+        (0, messages) => format!("{messages} messages"),
+        (inputs, messages) => format!("{inputs} inputs, {messages} messages"),
+    }
 }
 
 fn main() -> ExitCode {
@@ -42,7 +64,8 @@ fn main() -> ExitCode {
         }
     };
     let only = arguments.get(1);
-    let (mut passed, mut failed, mut inputs) = (0, 0, 0);
+    let (mut passed, mut failed) = (0, 0);
+    let mut compared = [0; 4];
     let begun = Instant::now();
     faults::install();
     for &(name, group) in groups::ALL {
@@ -53,7 +76,7 @@ fn main() -> ExitCode {
         let mut compare = Compare::new(group_seed(seed, name));
         match group(&mut compare) {
             Ok(()) => {
-                println!("ok {name} ({} inputs)", compare.inputs);
+                println!("ok {name} ({})", tally(&compare));
                 passed += 1;
             }
             Err(why) => {
@@ -61,10 +84,20 @@ fn main() -> ExitCode {
                 failed += 1;
             }
         }
-        inputs += compare.inputs;
+        let counts = [
+            compare.inputs,
+            compare.messages,
+            compare.headers,
+            compare.answers,
+        ];
+        for (sum, count) in compared.iter_mut().zip(counts) {
+            *sum += count;
+        }
     }
-    failed += u64::from(only.is_none() && too_few(inputs));
+    failed += u64::from(only.is_none() && too_few(&compared));
     let seconds = begun.elapsed().as_secs_f64();
+    let [inputs, messages, headers, answers] = compared;
+    println!("{messages} messages, of them {headers} readable headers, {answers} readable answers");
     println!("{inputs} inputs in {seconds:.1} s, seed {seed}");
     println!("host: {passed} passed, {failed} failed");
     ExitCode::from(u8::from(failed > 0 || passed == 0))

@@ -168,21 +168,21 @@ pub fn wrong_field(random: &mut Random, settings: &Settings) -> Vec<u8> {
     match random.below(11) {
         0 => fields.head[0] = random.byte(),
         1 => {
-            let place = random.between(1, 3);
-            fields.head[place] = random.byte();
+            let offset = random.between(1, 3);
+            fields.head[offset] = random.byte();
         }
         2 if length > 0 => {
-            let place = random.below(length);
-            fields.data[place] = forbidden(random, settings);
+            let offset = random.below(length);
+            fields.data[offset] = forbidden(random, settings);
         }
         3 => fields.count = decimal((length + random.between(3, 7)) % 100_000, 5),
         4 => {
-            let place = random.below(5);
-            fields.count[place] = random.byte();
+            let offset = random.below(5);
+            fields.count[offset] = random.byte();
         }
         5 => {
-            let place = random.below(3);
-            fields.checksum[place] = random.byte();
+            let offset = random.below(3);
+            fields.checksum[offset] = random.byte();
             return fields.bytes();
         }
         6 => fields.end = vec![settings.end as u8, random.byte()],
@@ -217,10 +217,10 @@ pub fn noise(random: &mut Random) -> Vec<u8> {
     random.bytes(length)
 }
 
-/// A good block with a byte changed, put in or taken out, or cut short.
+/// A good block with a byte changed, put in or taken out, or shortened.
 pub fn spoiled(random: &mut Random, settings: &Settings) -> Vec<u8> {
     let mut bytes = good(random, settings);
-    let place = random.below(bytes.len());
+    let offset = random.below(bytes.len());
     let special = [
         settings.start as u8,
         settings.end as u8,
@@ -233,12 +233,12 @@ pub fn spoiled(random: &mut Random, settings: &Settings) -> Vec<u8> {
         random.byte()
     };
     match random.below(4) {
-        0 => bytes[place] = byte,
-        1 => bytes.insert(place, byte),
+        0 => bytes[offset] = byte,
+        1 => bytes.insert(offset, byte),
         2 => {
-            bytes.remove(place);
+            bytes.remove(offset);
         }
-        _ => bytes.truncate(place),
+        _ => bytes.truncate(offset),
     }
     bytes
 }

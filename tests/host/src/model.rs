@@ -92,11 +92,12 @@ impl Settings {
     }
 }
 
-/// What is said of one block: its number, the place, and if accepted its type and data.
+/// What is said of one block: its number, the offset of a forbidden byte (else 0), and if accepted
+/// its type and data.
 #[derive(Clone, Debug, PartialEq, Eq)]
 pub struct Judgement {
     pub number: u64,
-    pub place: u64,
+    pub forbidden_offset: u64,
     pub block_type: u8,
     pub data: Range<usize>,
 }
@@ -105,16 +106,16 @@ impl Judgement {
     fn accepted(block_type: u8, data: Range<usize>) -> Judgement {
         Judgement {
             number: 0,
-            place: 0,
+            forbidden_offset: 0,
             block_type,
             data,
         }
     }
 
-    fn refused(number: u64, place: usize) -> Judgement {
+    fn refused(number: u64, forbidden_offset: usize) -> Judgement {
         Judgement {
             number,
-            place: place as u64,
+            forbidden_offset: forbidden_offset as u64,
             block_type: 0,
             data: 0..0,
         }
@@ -125,7 +126,7 @@ fn allowed(byte: u8) -> bool {
     byte == CARRIAGE_RETURN || (0x20..=0x7E).contains(&byte)
 }
 
-fn first_forbidden(data: &[u8]) -> Option<usize> {
+pub(crate) fn first_forbidden(data: &[u8]) -> Option<usize> {
     data.iter().position(|&byte| !allowed(byte))
 }
 
@@ -137,8 +138,8 @@ fn exclusive_or(bytes: &[u8]) -> u8 {
     bytes.iter().fold(0, |sum, byte| sum ^ byte)
 }
 
-/// Judges a block that was not cut. `long`: more bytes came than fit; otherwise `body` is what
-/// stood between SB and EB. `after` is the byte after EB.
+/// Judges a block that was not interrupted. `long`: more bytes came than fit; otherwise `body` is
+/// what stood between SB and EB. `after` is the byte after EB.
 pub fn judge(settings: &Settings, long: bool, body: &[u8], after: u8) -> Judgement {
     if long {
         return Judgement::refused(4, 0);
@@ -149,7 +150,7 @@ pub fn judge(settings: &Settings, long: bool, body: &[u8], after: u8) -> Judgeme
     match settings.layer {
         Layer::Hybrid => judge_hybrid(settings, body),
         Layer::Minimal => match first_forbidden(body) {
-            Some(place) => Judgement::refused(3, place),
+            Some(offset) => Judgement::refused(3, offset),
             None => Judgement::accepted(b'D', 0..body.len()),
         },
     }
@@ -166,8 +167,8 @@ fn judge_hybrid(settings: &Settings, body: &[u8]) -> Judgement {
         b'N' if nak_reason(data) => {}
         _ => return Judgement::refused(5, 0),
     }
-    if let Some(place) = first_forbidden(data) {
-        return Judgement::refused(3, place);
+    if let Some(offset) = first_forbidden(data) {
+        return Judgement::refused(3, offset);
     }
     let count = &body[data_end..data_end + 5];
     if count != format!("{:05}", 5 + data.len()).as_bytes() {
@@ -187,7 +188,7 @@ pub struct Verdict {
     pub at: usize,
     pub offset: u64,
     pub number: u64,
-    pub place: u64,
+    pub forbidden_offset: u64,
     pub block_type: u8,
     pub data: Vec<u8>,
 }
@@ -198,7 +199,7 @@ impl Verdict {
             at,
             offset,
             number: judgement.number,
-            place: judgement.place,
+            forbidden_offset: judgement.forbidden_offset,
             block_type: judgement.block_type,
             data: body[judgement.data].to_vec(),
         }
@@ -211,7 +212,7 @@ impl Verdict {
             1,
             self.offset,
             self.number,
-            self.place,
+            self.forbidden_offset,
             u64::from(self.block_type),
             if accepted { data_offset as u64 } else { 0 },
             self.data.len() as u64,
@@ -265,8 +266,8 @@ fn block_at(settings: &Settings, input: &[u8], start: usize) -> Block {
     let stop = start + 1 + length;
     let body = &rest[..length];
     let verdict = if input[stop] == settings.start_byte() {
-        let cut = Judgement::refused(8, 0);
-        Some(Verdict::new(stop, start as u64, cut, body))
+        let interrupted = Judgement::refused(8, 0);
+        Some(Verdict::new(stop, start as u64, interrupted, body))
     } else {
         input.get(stop + 1).map(|&after| {
             let judgement = judge(settings, length > settings.fits(), body, after);
@@ -302,8 +303,8 @@ pub fn state_after(settings: &Settings, blocks: &[Block], count: usize) -> [u64;
     [phase, counted as u64, block.start as u64, count as u64]
 }
 
-/// What the bytes of the input at the indices `read` do to the lent buffer: a byte between SB and
-/// EB goes to its own place if it fits, and nothing else is ever written.
+/// What the bytes of the input at the indices `read` do to the buffer: a byte between SB and EB
+/// goes to its own offset if it fits, and nothing else is ever written.
 pub fn fill_buffer(
     settings: &Settings,
     input: &[u8],
@@ -316,9 +317,9 @@ pub fn fill_buffer(
         let from = first.max(read.start);
         let to = block.stop.unwrap_or(input.len()).min(read.end);
         for (index, &byte) in input.iter().enumerate().take(to).skip(from) {
-            let place = index - first;
-            if place < settings.fits() {
-                buffer[place] = byte;
+            let offset = index - first;
+            if offset < settings.fits() {
+                buffer[offset] = byte;
             }
         }
     }
@@ -340,8 +341,8 @@ pub fn check(settings: &Settings, bytes: &[u8]) -> Verdict {
     }
 }
 
-/// The block that a writer makes, or its number and place: 4, 5, 3 in this order. A minimal
-/// writer has no type.
+/// The block that a writer makes, or its number and the offset of a forbidden byte (else 0): 4, 5,
+/// 3 in this order. A minimal writer has no type.
 pub fn written(settings: &Settings, block_type: u64, data: &[u8]) -> Result<Vec<u8>, (u64, u64)> {
     let hybrid = settings.layer == Layer::Hybrid;
     if data.len() as u64 > settings.limit {
@@ -351,8 +352,8 @@ pub fn written(settings: &Settings, block_type: u64, data: &[u8]) -> Result<Vec<
     if hybrid && !(block_type == u64::from(b'D') || nak && nak_reason(data)) {
         return Err((5, 0));
     }
-    if let Some(place) = first_forbidden(data) {
-        return Err((3, place as u64));
+    if let Some(offset) = first_forbidden(data) {
+        return Err((3, offset as u64));
     }
     let mut block = vec![settings.start_byte()];
     if hybrid {
@@ -401,13 +402,13 @@ pub fn write_refusal(
     settings: &Settings,
     data_length: usize,
     buffer_length: usize,
-    place: usize,
+    start: usize,
     report_words: usize,
 ) -> Option<u64> {
     if settings.refused() {
         return Some(1);
     }
-    let need = place as u128 + data_length as u128 + settings.overhead() as u128;
+    let need = start as u128 + data_length as u128 + settings.overhead() as u128;
     (report_words < 2 || need > buffer_length as u128).then_some(2)
 }
 
@@ -475,8 +476,8 @@ fn resume_inside(
             return resume_ended(settings, current, position, part, index + 1, buffer);
         }
         if byte == settings.start_byte() {
-            let cut = Verdict::new(index, current.offset, Judgement::refused(8, 0), &[]);
-            return answered(settings, cut, position, part);
+            let interrupted = Verdict::new(index, current.offset, Judgement::refused(8, 0), &[]);
+            return answered(settings, interrupted, position, part);
         }
         if current.length < fits {
             buffer[current.length as usize] = byte;

@@ -1,4 +1,4 @@
-//! Inputs against readers that take many bytes at a time: forbidden bytes at every place, all
+//! Inputs against readers that take many bytes at a time: forbidden bytes at every offset, all
 //! pairs of neighbours, and digits that only a careless sum takes for the right number.
 
 use crate::compare::{Compare, Outcome, WriteCall};
@@ -19,19 +19,19 @@ fn data_everywhere(compare: &mut Compare, settings: &Settings, data: &[u8]) -> O
     let noise = compare.random.below(20);
     let stream = [&vec![b' '; noise][..], &block[..]].concat();
     compare.stream(settings, &stream, &[])?;
-    let cuts = compare.random_cuts(stream.len());
-    compare.stream(settings, &stream, &cuts)?;
+    let part_ends = compare.random_part_ends(stream.len());
+    compare.stream(settings, &stream, &part_ends)?;
     compare.write_call(&WriteCall {
         settings: *settings,
         block_type: u64::from(b'D'),
         content: data,
         buffer: &vec![0xEE; block.len() + noise + 2],
-        place: noise,
+        start: noise,
         report_words: 2,
     })
 }
 
-/// One byte that is not plain data at every place of data of many lengths, then several.
+/// One byte that is not plain data at every offset of data of many lengths, then several.
 pub fn forbidden_bytes(compare: &mut Compare) -> Outcome {
     for length in LENGTHS {
         let [hybrid, minimal] = both_layers(compare, length as u64);
@@ -40,10 +40,10 @@ pub fn forbidden_bytes(compare: &mut Compare) -> Outcome {
             let odd = [
                 0x00, 0x09, 0x0A, 0x0C, 0x0E, 0x1F, 0x7F, 0x80, 0x8D, 0xA0, 0xFF,
             ];
-            for place in 0..length {
+            for offset in 0..length {
                 for byte in odd.into_iter().chain(delimiters) {
                     let mut data = make::data(&mut compare.random, length);
-                    data[place] = byte;
+                    data[offset] = byte;
                     data_everywhere(compare, &settings, &data)?;
                 }
             }
@@ -55,8 +55,8 @@ pub fn forbidden_bytes(compare: &mut Compare) -> Outcome {
         let mut data = make::data(&mut compare.random, length);
         for _ in 0..compare.random.between(1, 4) {
             if length > 0 {
-                let place = compare.random.below(length);
-                data[place] = make::forbidden(&mut compare.random, &settings);
+                let offset = compare.random.below(length);
+                data[offset] = make::forbidden(&mut compare.random, &settings);
             }
         }
         data_everywhere(compare, &settings, &data)?;
@@ -69,16 +69,16 @@ pub fn adjacent_pairs(compare: &mut Compare) -> Outcome {
     for pair in 0..=u16::MAX {
         for settings in [Settings::hybrid(0x0B, 0x1C, 24), Settings::minimal(24)] {
             let mut data = make::data(&mut compare.random, 24);
-            let place = compare.random.below(23);
-            data[place..place + 2].copy_from_slice(&pair.to_be_bytes());
+            let offset = compare.random.below(23);
+            data[offset..offset + 2].copy_from_slice(&pair.to_be_bytes());
             let block = make::block(&settings, b'D', &data);
             compare.check(&settings, &block)?;
             compare.stream(&settings, &block, &[])?;
         }
         let settings = make::hybrid_settings(&mut compare.random, 24);
         let mut data = make::data(&mut compare.random, 24);
-        let place = compare.random.below(23);
-        data[place..place + 2].copy_from_slice(&pair.to_be_bytes());
+        let offset = compare.random.below(23);
+        data[offset..offset + 2].copy_from_slice(&pair.to_be_bytes());
         data_everywhere(compare, &settings, &data)?;
     }
     Ok(())
@@ -108,7 +108,7 @@ pub fn checksum_look_alikes(compare: &mut Compare) -> Outcome {
     Ok(())
 }
 
-/// Five bytes whose careless sum is the right count: one place takes some tens of the next.
+/// Five bytes whose careless sum is the right count: one digit takes some tens of the next.
 pub fn count_look_alikes(compare: &mut Compare) -> Outcome {
     for _ in 0..100_000 {
         let limit = compare.random.pick(&[12, 25, 120, 300, 1_200]);
@@ -117,12 +117,12 @@ pub fn count_look_alikes(compare: &mut Compare) -> Outcome {
         let data = make::data(&mut compare.random, length);
         let mut fields = Fields::new(&settings, b'D', &data);
         for _ in 0..compare.random.between(1, 3) {
-            let place = compare.random.below(4);
+            let offset = compare.random.below(4);
             let tens = compare.random.between(0, 24) as i64 - 5;
-            let upper = fields.count[place] as i64 - tens;
-            let lower = fields.count[place + 1] as i64 + 10 * tens;
-            fields.count[place] = upper as u8;
-            fields.count[place + 1] = lower as u8;
+            let upper = fields.count[offset] as i64 - tens;
+            let lower = fields.count[offset + 1] as i64 + 10 * tens;
+            fields.count[offset] = upper as u8;
+            fields.count[offset + 1] = lower as u8;
         }
         compare.check(&settings, &fields.bytes())?;
         compare.stream(&settings, &fields.bytes(), &[])?;

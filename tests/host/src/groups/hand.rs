@@ -5,7 +5,7 @@ use crate::compare::{Compare, Outcome};
 use crate::library;
 use host::model::{self, Settings};
 
-/// Offset, number, place, type and data of a verdict.
+/// Offset, number, offset of a forbidden byte, type and data of a verdict.
 type Hand<'a> = (u64, u64, u64, u8, &'a [u8]);
 type Listed = Vec<(u64, u64, u64, u8, Vec<u8>)>;
 
@@ -49,7 +49,7 @@ fn model_list(settings: &Settings, input: &[u8]) -> Listed {
     let verdicts = model::blocks(settings, input);
     let verdicts = verdicts.into_iter().filter_map(|block| block.verdict);
     verdicts
-        .map(|v| (v.offset, v.number, v.place, v.block_type, v.data))
+        .map(|v| (v.offset, v.number, v.forbidden_offset, v.block_type, v.data))
         .collect()
 }
 
@@ -62,7 +62,9 @@ fn stream_case(
 ) -> Outcome {
     let expected: Listed = expected
         .iter()
-        .map(|&(offset, number, place, kind, data)| (offset, number, place, kind, data.to_vec()))
+        .map(|&(offset, number, forbidden_offset, kind, data)| {
+            (offset, number, forbidden_offset, kind, data.to_vec())
+        })
         .collect();
     let differs = |who: &str, found: Listed| {
         let hex = library::hex(input);
@@ -84,7 +86,8 @@ fn stream_case(
     compare.stream_all_ways(settings, input)
 }
 
-/// A name, an input whose only SB stands at 0, and its one verdict: number, place, type, data.
+/// A name, an input whose only SB stands at 0, and its one verdict: number, offset of a
+/// forbidden byte, type, data.
 type Single = (&'static str, &'static [u8], u64, u64, u8, &'static [u8]);
 
 /// P1 to P8, with a data limit of 4,096.
@@ -102,7 +105,7 @@ const PROVED_CASES: &[Single] = &[
     ("P8", b"\x0BD\x0B", 8, 0, 0, b""),
 ];
 
-/// Data of D and D + 1 bytes, byte 7F, and the other places of a block; the limit is 3. The sum
+/// Data of D and D + 1 bytes, byte 7F, and the other parts of a block; the limit is 3. The sum
 /// of P1 is 067; ABC adds 40, ABCD adds 04, A and 7F add 3E.
 const DATA_CASES: &[Single] = &[
     ("D", b"\x0BD23\rABC00008003\x1C\r", 0, 0, b'D', b"ABC"),
@@ -133,7 +136,7 @@ const MINIMAL_CASES: &[Single] = &[
     ("long, no CR", b"\x0BA\rzz\x1Cx", 4, 0, 0, b""),
     ("no CR", b"\x0BA\x01\x1Cx", 5, 0, 0, b""),
     ("7F", b"\x0BA\x7F\x1C\r", 3, 1, 0, b""),
-    ("long, cut", b"\x0BABCDE\x0B", 8, 0, 0, b""),
+    ("long, interrupted", b"\x0BABCDE\x0B", 8, 0, 0, b""),
 ];
 
 pub fn cases_by_hand(compare: &mut Compare) -> Outcome {
@@ -143,8 +146,8 @@ pub fn cases_by_hand(compare: &mut Compare) -> Outcome {
         (Settings::minimal(3), MINIMAL_CASES),
     ];
     for (settings, table) in tables {
-        for &(name, input, number, place, kind, data) in table {
-            let expected = [(0, number, place, kind, data)];
+        for &(name, input, number, forbidden_offset, kind, data) in table {
+            let expected = [(0, number, forbidden_offset, kind, data)];
             stream_case(compare, name, &settings, input, &expected)?;
         }
         stream_case(compare, "empty input", &settings, b"", &[])?;
@@ -184,7 +187,7 @@ fn stream_cases(compare: &mut Compare) -> Outcome {
     case("R-4", &s, b"\x0B\x1C\r", &[(0, 5, 0, 0, b"")])?;
     case("R-4 SB SB", &s, b"\x0B\x0B", &[(0, 8, 0, 0, b"")])?;
     case("R-5 unfinished", &s, &long(b""), &[])?;
-    case("R-5 cut", &s, &long(b"\x0B"), &[(0, 8, 0, 0, b"")])?;
+    case("R-5 interrupted", &s, &long(b"\x0B"), &[(0, 8, 0, 0, b"")])?;
     case("R-6", &s, &P1[..14], &[])?;
     case("EB outside", &s, b"\x1C\r\x1C", &[])?;
     let noisy = [b"HELO\r\x1C", P1, b"\r\n", P3].concat();
@@ -201,8 +204,14 @@ fn stream_cases(compare: &mut Compare) -> Outcome {
 
 fn minimal_cases(compare: &mut Compare) -> Outcome {
     let s = Settings::minimal(3);
-    let cut = [(2, 8, 0, 0, &b""[..])];
-    stream_case(compare, "minimal cut", &s, b"xx\x0BA\x0B", &cut)?;
+    let interrupted = [(2, 8, 0, 0, &b""[..])];
+    stream_case(
+        compare,
+        "minimal interrupted",
+        &s,
+        b"xx\x0BA\x0B",
+        &interrupted,
+    )?;
     let twice = [(0, 5, 0, 0, &b""[..]), (3, 0, 0, b'D', b"B")];
     let input = b"\x0BA\x1C\x0BB\x1C\r";
     stream_case(compare, "minimal SB after EB", &s, input, &twice)
@@ -225,7 +234,7 @@ pub fn writes_by_hand(compare: &mut Compare) -> Outcome {
         b"\x0BA\rz\x1C\r",
     )?;
     write_case(compare, &Settings::minimal(3), 0, b"", b"\x0B\x1C\r")?;
-    // W-1, W-3 and W-4: limit, type, data, room, number, place.
+    // W-1, W-3 and W-4: limit, type, data, buffer size, and the number with the report.
     refused_case(compare, 3, b'D', b"ABCD", 18, (2, 77, 77))?;
     refused_case(compare, 3, b'D', b"ABCD", 19, (4, 0, 0))?;
     refused_case(compare, 1, b'N', b"CC", 17, (4, 0, 0))?;
@@ -266,24 +275,24 @@ fn refused_case(
     limit: u64,
     block_type: u8,
     data: &[u8],
-    room: usize,
+    size: usize,
     expected: (u64, u64, u64),
 ) -> Outcome {
     compare.inputs += 1;
-    let mut buffer = vec![0xEE; room];
+    let mut buffer = vec![0xEE; size];
     let mut report = [77; 2];
     let kind = u64::from(block_type);
     let number = library::write(&hybrid(limit), kind, data, &mut buffer, 0, &mut report);
-    if (number, report[0], report[1]) == expected && buffer == vec![0xEE; room] {
+    if (number, report[0], report[1]) == expected && buffer == vec![0xEE; size] {
         return Ok(());
     }
     let data = library::hex(data);
     Err(format!(
-        "data {data}, D {limit}, room {room}: answered {number}, report {report:?}"
+        "data {data}, D {limit}, size {size}: answered {number}, report {report:?}"
     ))
 }
 
-/// Number, place, type, data offset and data length of a check.
+/// Number, offset of a forbidden byte, type, data offset and data length of a check.
 const OTHERWISE: [u64; 5] = [5, 0, 0, 0, 0];
 
 /// The check of a whole block, C-1 to C-4.
@@ -359,9 +368,9 @@ fn check_case(
 ) -> Outcome {
     let mut verdict = [77; 9];
     let number = library::check(settings, bytes, &mut verdict);
-    let [wanted, place, kind, offset, length] = expected;
+    let [wanted, forbidden, kind, offset, length] = expected;
     let used = bytes.len() as u64;
-    if number != wanted || verdict != [1, 0, wanted, place, kind, offset, length, used, 77] {
+    if number != wanted || verdict != [1, 0, wanted, forbidden, kind, offset, length, used, 77] {
         let hex = library::hex(bytes);
         return Err(format!(
             "check answered {number}, words {verdict:?}; input {hex}"

@@ -2,7 +2,7 @@
 //! page that can't be touched, so that a byte read or written outside is a fault.
 
 use crate::compare::{Compare, Outcome};
-use crate::lent::same;
+use crate::guarded::same;
 use crate::library;
 use crate::make;
 use host::ffi::raw;
@@ -71,13 +71,13 @@ extern "C" {
 }
 
 /// Some pages of memory between two that can't be touched.
-struct Pages {
+pub struct Pages {
     base: *mut u8,
     inner: usize,
 }
 
 impl Pages {
-    fn new(pages: usize) -> Pages {
+    pub fn new(pages: usize) -> Pages {
         let inner = pages * PAGE;
         // SAFETY: asks for new private memory, and closes its first and last page.
         let base = unsafe { mmap(null_mut(), inner + 2 * PAGE, 3, 0x22, -1, 0) };
@@ -89,14 +89,14 @@ impl Pages {
     }
 
     /// So many bytes at the very end, or at the very start, of the memory.
-    fn bytes(&mut self, length: usize, at_end: bool) -> &mut [u8] {
+    pub fn bytes(&mut self, length: usize, at_end: bool) -> &mut [u8] {
         let skip = if at_end { self.inner - length } else { 0 };
         assert!(length <= self.inner);
-        // SAFETY: lies in the pages that may be touched, and self is lent exclusively.
+        // SAFETY: lies in the pages that may be touched, and self is borrowed exclusively.
         unsafe { std::slice::from_raw_parts_mut(self.base.add(PAGE + skip), length) }
     }
 
-    fn words(&mut self, length: usize, at_end: bool) -> &mut [u64] {
+    pub fn words(&mut self, length: usize, at_end: bool) -> &mut [u64] {
         let bytes = self.bytes(length * 8, at_end);
         // SAFETY: both ends of the pages are aligned for words.
         unsafe { std::slice::from_raw_parts_mut(bytes.as_mut_ptr().cast(), length) }
@@ -110,8 +110,8 @@ impl Drop for Pages {
     }
 }
 
-/// One set of pages for each kind of memory that is lent.
-struct Guarded {
+/// One set of pages for each kind of memory.
+struct GuardPages {
     state: Pages,
     part: Pages,
     buffer: Pages,
@@ -120,7 +120,7 @@ struct Guarded {
 
 /// Reads, checks and writes with all memory at the edge of what may be touched.
 pub fn guard_pages(compare: &mut Compare) -> Outcome {
-    let mut guarded = Guarded {
+    let mut guarded = GuardPages {
         state: Pages::new(1),
         part: Pages::new(2),
         buffer: Pages::new(2),
@@ -143,7 +143,7 @@ pub fn guard_pages(compare: &mut Compare) -> Outcome {
 /// Reads the input in random parts, each of them at the edge.
 fn guarded_read(
     compare: &mut Compare,
-    guarded: &mut Guarded,
+    guarded: &mut GuardPages,
     settings: &Settings,
     input: &[u8],
     at_end: bool,
@@ -178,7 +178,7 @@ fn guarded_read(
 
 fn guarded_check(
     compare: &mut Compare,
-    guarded: &mut Guarded,
+    guarded: &mut GuardPages,
     settings: &Settings,
     input: &[u8],
     at_end: bool,
@@ -200,7 +200,7 @@ fn guarded_check(
 
 fn guarded_write(
     compare: &mut Compare,
-    guarded: &mut Guarded,
+    guarded: &mut GuardPages,
     settings: &Settings,
     data: &[u8],
     at_end: bool,
@@ -208,14 +208,14 @@ fn guarded_write(
     compare.inputs += 1;
     let content = guarded.part.bytes(data.len(), at_end);
     content.copy_from_slice(data);
-    let place = compare.random.below(5);
-    let need = place + data.len() + settings.overhead();
+    let start = compare.random.below(5);
+    let need = start + data.len() + settings.overhead();
     let buffer = guarded.buffer.bytes(need, at_end);
     let report = guarded.verdict.words(2, at_end);
     let kind = u64::from(b'D');
-    let number = library::write(settings, kind, content, buffer, place, report);
+    let number = library::write(settings, kind, content, buffer, start, report);
     let block = model::written(settings, kind, data).unwrap_or_default();
-    if number != 0 || buffer[place..] != block[..] {
+    if number != 0 || buffer[start..] != block[..] {
         let hex = library::hex(data);
         return Err(format!("write answered {number}; data {hex}"));
     }

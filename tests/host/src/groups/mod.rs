@@ -3,7 +3,11 @@
 mod blocks;
 mod bytes;
 mod hand;
+mod headers;
 mod memory;
+mod message_hand;
+mod message_memory;
+mod message_writers;
 mod refusals;
 mod states;
 mod streams;
@@ -46,7 +50,30 @@ pub const ALL: &[(&str, Group)] = &[
     ("refusal_order", refusals::refusal_order),
     ("writer", writers::writer),
     ("writer_refusals", writers::writer_refusals),
-    ("writer_places", writers::writer_places),
+    ("writer_starts", writers::writer_starts),
     ("null_pointers", memory::null_pointers),
     ("guard_pages", memory::guard_pages),
+    ("messages_by_hand", message_hand::messages_by_hand),
+    ("numbers_by_hand", message_hand::numbers_by_hand),
+    ("written_by_hand", message_hand::written_by_hand),
+    ("real_headers", headers::real_headers),
+    ("real_fields", headers::real_fields),
+    ("damaged_messages", headers::damaged_messages),
+    ("control_id_lengths", headers::control_id_lengths),
+    ("field_numbers", headers::field_numbers),
+    ("every_byte_in_messages", headers::every_byte_in_messages),
+    ("every_short_message", headers::every_short_message),
+    ("random_messages", headers::random_messages),
+    ("long_messages", headers::long_messages),
+    ("answers_written", message_writers::answers_written),
+    ("answer_refusals", message_writers::answer_refusals),
+    ("message_starts", message_writers::message_starts),
+    ("control_messages", message_writers::control_messages),
+    ("control_refusals", message_writers::control_refusals),
+    ("message_words", message_writers::message_words),
+    (
+        "message_null_pointers",
+        message_memory::message_null_pointers,
+    ),
+    ("message_guard_pages", message_memory::message_guard_pages),
 ];

@@ -7,13 +7,13 @@ use host::model::{Layer, Settings};
 /// One call of each function with these settings, good or bad.
 fn every_function(compare: &mut Compare, settings: &Settings) -> Outcome {
     let block = make::block(settings, b'D', b"A");
-    let room = 140
+    let size = 140
         + if settings.limit < 100_000 {
             settings.limit as usize
         } else {
             0
         };
-    let buffer = compare.random.bytes(room);
+    let buffer = compare.random.bytes(size);
     compare.check(settings, &block)?;
     compare.read_call(&ReadCall {
         settings: *settings,
@@ -27,7 +27,7 @@ fn every_function(compare: &mut Compare, settings: &Settings) -> Outcome {
         block_type: u64::from(b'D'),
         content: b"A",
         buffer: &buffer,
-        place: 3,
+        start: 3,
         report_words: 3,
     })
 }
@@ -127,13 +127,13 @@ fn read_refusals(
     verdict_words: usize,
 ) -> Outcome {
     let block = make::block(settings, b'D', b"A");
-    for room in [0, 1, 4, 5, 6, 16, 17, 18, 40] {
+    for size in [0, 1, 4, 5, 6, 16, 17, 18, 40] {
         for phase in [0, 1, 2, 3, 256, u64::MAX] {
             for position in [0, u64::MAX - 3, u64::MAX] {
                 let mut state = vec![phase, 0, 0, position, 9, 9];
                 state.truncate(state_words);
                 for part in [&block[..], &block[..3], b""] {
-                    let buffer = compare.random.bytes(room);
+                    let buffer = compare.random.bytes(size);
                     compare.read_call(&ReadCall {
                         settings: *settings,
                         state: &state,
@@ -166,15 +166,15 @@ fn write_refusals(compare: &mut Compare, settings: &Settings) -> Outcome {
     for content in contents {
         for block_type in [b'D', b'N', b'X', 0] {
             for report_words in 0..=4 {
-                for room in 0..=content.len() + overhead + 3 {
-                    let buffer = compare.random.bytes(room);
-                    let place = compare.random.pick(&[0, 0, 1, 2, 3, room, room + 1]);
+                for size in 0..=content.len() + overhead + 3 {
+                    let buffer = compare.random.bytes(size);
+                    let start = compare.random.pick(&[0, 0, 1, 2, 3, size, size + 1]);
                     compare.write_call(&WriteCall {
                         settings: *settings,
                         block_type: block_type.into(),
                         content,
                         buffer: &buffer,
-                        place,
+                        start,
                         report_words,
                     })?;
                 }

@@ -1,7 +1,7 @@
 //! Reading calls that start from any words whatever.
 
 use crate::compare::{Compare, Outcome, ReadCall};
-use crate::lent::same;
+use crate::guarded::same;
 use crate::library;
 use crate::make;
 use host::model::{self, Settings};
@@ -238,7 +238,7 @@ pub fn position_limit(compare: &mut Compare) -> Outcome {
     Ok(())
 }
 
-/// The model's two definitions agree: a stream resumed at each verdict and at random places has
+/// The model's two definitions agree: a stream resumed at each verdict and at random offsets has
 /// the states and the buffer of the whole input. Calls nothing of the library.
 fn self_check(settings: &Settings, input: &[u8], compare: &mut Compare) -> Outcome {
     let blocks = model::blocks(settings, input);

@@ -19,15 +19,15 @@ fn every_sequence(
             .flat_map(|&index| pieces[index].clone())
             .collect();
         compare.check(settings, &input)?;
-        let place = compare.random.below(input.len() + 1);
-        compare.stream(settings, &input, &[place])?;
-        let mut place = 0;
-        while place < indices.len() && indices[place] + 1 == pieces.len() {
-            indices[place] = 0;
-            place += 1;
+        let part_end = compare.random.below(input.len() + 1);
+        compare.stream(settings, &input, &[part_end])?;
+        let mut position = 0;
+        while position < indices.len() && indices[position] + 1 == pieces.len() {
+            indices[position] = 0;
+            position += 1;
         }
-        if place < indices.len() {
-            indices[place] += 1;
+        if position < indices.len() {
+            indices[position] += 1;
         } else if indices.len() < most {
             indices.push(0);
         } else {
@@ -86,13 +86,13 @@ pub fn streams_of_many_blocks(compare: &mut Compare) -> Outcome {
         };
         let pieces = compare.random.between(20, 100);
         let input = make::stream(&mut compare.random, &settings, pieces);
-        let mut cuts = Vec::new();
-        let mut place = compare.random.below(1000);
-        while place < input.len() {
-            cuts.push(place);
-            place += compare.random.below(1000);
+        let mut part_ends = Vec::new();
+        let mut part_end = compare.random.below(1000);
+        while part_end < input.len() {
+            part_ends.push(part_end);
+            part_end += compare.random.below(1000);
         }
-        compare.stream(&settings, &input, &cuts)?;
+        compare.stream(&settings, &input, &part_ends)?;
     }
     Ok(())
 }
@@ -110,15 +110,15 @@ pub fn large_blocks(compare: &mut Compare) -> Outcome {
         let data = make::data(&mut compare.random, length);
         let mut block = make::block(&settings, b'D', &data);
         if compare.random.one_in(2) {
-            let place = compare.random.below(block.len());
-            block[place] = compare.random.byte();
+            let offset = compare.random.below(block.len());
+            block[offset] = compare.random.byte();
         }
         compare.check(&settings, &block)?;
         let mut stream = make::piece(&mut compare.random, &settings);
         stream.extend(block);
         stream.extend(make::good(&mut compare.random, &settings));
-        let cuts = compare.random_cuts(stream.len());
-        compare.stream(&settings, &stream, &cuts)?;
+        let part_ends = compare.random_part_ends(stream.len());
+        compare.stream(&settings, &stream, &part_ends)?;
     }
     Ok(())
 }
@@ -150,8 +150,8 @@ fn without_end(compare: &mut Compare, settings: &Settings, length: usize) -> Out
     ];
     for tail in tails {
         let input = [&open[..], tail].concat();
-        let cuts = compare.random_cuts(input.len());
-        compare.stream(settings, &input, &cuts)?;
+        let part_ends = compare.random_part_ends(input.len());
+        compare.stream(settings, &input, &part_ends)?;
         compare.check(settings, &input)?;
     }
     Ok(())

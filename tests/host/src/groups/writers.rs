@@ -1,4 +1,4 @@
-//! The writers: what they write, what they refuse in which order, and every place.
+//! The writers: what they write, what they refuse in which order, and every start.
 
 use crate::compare::{Compare, Outcome, WriteCall};
 use crate::make;
@@ -7,46 +7,46 @@ use host::model::{Layer, Settings};
 const DATA: u64 = b'D' as u64;
 const NAK: u64 = b'N' as u64;
 
-/// Good blocks of all settings at random places; what is written reads back.
+/// Good blocks of all settings at random starts; what is written reads back.
 pub fn writer(compare: &mut Compare) -> Outcome {
     for _ in 0..40_000 {
         let settings = make::settings(&mut compare.random);
         let length = make::length(&mut compare.random, &settings);
         let data = make::data(&mut compare.random, length);
-        at_random_place(compare, &settings, DATA, &data)?;
+        at_random_start(compare, &settings, DATA, &data)?;
         if settings.layer == Layer::Hybrid {
             let reason = [compare.random.pick(b"CXBG")];
-            at_random_place(compare, &settings, NAK, &reason)?;
+            at_random_start(compare, &settings, NAK, &reason)?;
         }
     }
     for limit in [99_993, 99_994] {
         for length in [9_994, 9_995, 99_992, 99_993, 99_994, 99_995] {
             let data = make::data(&mut compare.random, length);
             let hybrid = make::hybrid_settings(&mut compare.random, limit);
-            at_random_place(compare, &hybrid, DATA, &data)?;
-            at_random_place(compare, &Settings::minimal(limit), DATA, &data)?;
+            at_random_start(compare, &hybrid, DATA, &data)?;
+            at_random_start(compare, &Settings::minimal(limit), DATA, &data)?;
         }
     }
     Ok(())
 }
 
-fn at_random_place(
+fn at_random_start(
     compare: &mut Compare,
     settings: &Settings,
     block_type: u64,
     content: &[u8],
 ) -> Outcome {
-    let place = compare.random.below(20);
+    let start = compare.random.below(20);
     let behind = compare.random.below(20);
     let need = content.len() + settings.overhead();
-    let buffer = compare.random.bytes(place + need + behind);
+    let buffer = compare.random.bytes(start + need + behind);
     let report_words = 2 + compare.random.below(3);
     compare.write_call(&WriteCall {
         settings: *settings,
         block_type,
         content,
         buffer: &buffer,
-        place,
+        start,
         report_words,
     })
 }
@@ -55,16 +55,16 @@ fn at_random_place(
 pub fn writer_refusals(compare: &mut Compare) -> Outcome {
     for byte in 0..=255 {
         let settings = make::settings(&mut compare.random);
-        at_random_place(compare, &settings, NAK, &[byte])?;
-        at_random_place(compare, &settings, DATA, &[byte])?;
-        at_random_place(compare, &settings, byte.into(), b"C")?;
-        at_random_place(compare, &settings, u64::from(byte) << 8, b"C")?;
-        at_random_place(compare, &settings, (u64::from(byte) << 8) + DATA, b"A")?;
-        at_random_place(compare, &settings, (u64::from(byte) << 56) + NAK, b"C")?;
-        for place in 0..6 {
+        at_random_start(compare, &settings, NAK, &[byte])?;
+        at_random_start(compare, &settings, DATA, &[byte])?;
+        at_random_start(compare, &settings, byte.into(), b"C")?;
+        at_random_start(compare, &settings, u64::from(byte) << 8, b"C")?;
+        at_random_start(compare, &settings, (u64::from(byte) << 8) + DATA, b"A")?;
+        at_random_start(compare, &settings, (u64::from(byte) << 56) + NAK, b"C")?;
+        for offset in 0..6 {
             let mut data = b"ABCDEF".to_vec();
-            data[place] = byte;
-            at_random_place(compare, &settings, DATA, &data)?;
+            data[offset] = byte;
+            at_random_start(compare, &settings, DATA, &data)?;
         }
     }
     for _ in 0..60_000 {
@@ -77,27 +77,27 @@ pub fn writer_refusals(compare: &mut Compare) -> Outcome {
         let mut data = make::data(&mut compare.random, length);
         for _ in 0..compare.random.below(3) {
             if length > 0 {
-                let place = compare.random.below(length);
-                data[place] = make::delimiter(&mut compare.random);
+                let offset = compare.random.below(length);
+                data[offset] = make::delimiter(&mut compare.random);
             }
         }
         let any = compare.random.draw();
         let types = [DATA, DATA, NAK, 0, b'd'.into(), DATA + (1 << 32), any];
         let block_type = compare.random.pick(&types);
-        at_random_place(compare, &settings, block_type, &data)?;
+        at_random_start(compare, &settings, block_type, &data)?;
     }
     Ok(())
 }
 
-/// Every place from the start of the buffer to behind its end, and places near 2^64.
-pub fn writer_places(compare: &mut Compare) -> Outcome {
+/// Every start from 0 to behind the end of the buffer, and starts near 2^64.
+pub fn writer_starts(compare: &mut Compare) -> Outcome {
     let contents: [&[u8]; 5] = [b"", b"A", b"A\rzz", b"ABCDEF", b"A\x01"];
     for limit in [1, 4, 5] {
         for content in contents {
             let hybrid = make::hybrid_settings(&mut compare.random, limit);
             for settings in [hybrid, Settings::minimal(limit)] {
-                for room in 0..40 {
-                    every_place(compare, &settings, content, room)?;
+                for size in 0..40 {
+                    every_start(compare, &settings, content, size)?;
                 }
             }
         }
@@ -105,25 +105,25 @@ pub fn writer_places(compare: &mut Compare) -> Outcome {
     Ok(())
 }
 
-fn every_place(compare: &mut Compare, settings: &Settings, content: &[u8], room: usize) -> Outcome {
+fn every_start(compare: &mut Compare, settings: &Settings, content: &[u8], size: usize) -> Outcome {
     let need = content.len() + settings.overhead();
-    let mut places: Vec<usize> = (0..=room + 2).collect();
-    places.extend([
+    let mut starts: Vec<usize> = (0..=size + 2).collect();
+    starts.extend([
         usize::MAX,
         usize::MAX - need,
         usize::MAX - need + 1,
         1 << 63,
         1 << 32,
     ]);
-    places.extend((0..=20).map(|less| usize::MAX - less));
-    for place in places {
-        let buffer = compare.random.bytes(room);
+    starts.extend((0..=20).map(|less| usize::MAX - less));
+    for start in starts {
+        let buffer = compare.random.bytes(size);
         compare.write_call(&WriteCall {
             settings: *settings,
             block_type: DATA,
             content,
             buffer: &buffer,
-            place,
+            start,
             report_words: 2,
         })?;
     }

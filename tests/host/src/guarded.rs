@@ -1,24 +1,24 @@
-//! Memory that is lent to the library, with guard cells on both sides.
+//! Memory for the library, with guard cells on both sides.
 
 use std::fmt::Debug;
 
 const GUARD: usize = 8;
 
-pub struct Lent<T> {
+pub struct Guarded<T> {
     cells: Vec<T>,
     guard: T,
 }
 
-impl<T: Copy + PartialEq + Debug> Lent<T> {
-    pub fn new(content: &[T], guard: T) -> Lent<T> {
+impl<T: Copy + PartialEq + Debug> Guarded<T> {
+    pub fn new(content: &[T], guard: T) -> Guarded<T> {
         let mut cells = Vec::with_capacity(content.len() + 2 * GUARD);
         cells.resize(GUARD, guard);
         cells.extend_from_slice(content);
         cells.resize(content.len() + 2 * GUARD, guard);
-        Lent { cells, guard }
+        Guarded { cells, guard }
     }
 
-    pub fn lend(&mut self) -> &mut [T] {
+    pub fn content_mut(&mut self) -> &mut [T] {
         let end = self.cells.len() - GUARD;
         &mut self.cells[GUARD..end]
     }

@@ -1,0 +1,357 @@
+//! The two sides of the functions for messages: the library through its C interface, and plain
+//! Rust. Each makes the same calls some passes long and leaves its words or bytes for comparison.
+
+use crate::ffi::{self, names};
+use crate::inputs;
+use crate::plain_messages;
+use crate::prng::Random;
+use crate::timing::Work;
+use std::hint::black_box;
+
+/// So many messages in one pass, and so many passes in one turn.
+const MESSAGES: usize = 16;
+const PASSES: usize = 50;
+
+/// How many bytes the first segments have, and how many bytes of further segments follow them.
+pub const HEADERS: [usize; 3] = [31, 100, 400];
+pub const BEHIND: [usize; 4] = [0, 1_000, 10_000, 90_000];
+
+type Words = [u64; names::ANSWER_WORDS];
+
+/// A reading function of one side: leaves the words, and gives the number.
+type Read = fn(&[u8], &mut Words) -> u64;
+
+/// Both sides of a reading function, and the first bytes of its messages.
+pub struct Reader {
+    pub act: &'static str,
+    library: Read,
+    plain: Read,
+    heads: Vec<Vec<u8>>,
+}
+
+impl Reader {
+    pub fn header(length: usize) -> Reader {
+        let mut random = Random::new(length as u64);
+        let heads = (0..MESSAGES).map(|_| header(&mut random, length));
+        Reader {
+            act: "gmv_header_read",
+            library: |message, words| ffi::header_read(message, &mut words[..names::HEADER_WORDS]),
+            plain: |message, words| match plain_messages::header(black_box(message)) {
+                Ok(header) => {
+                    words[..names::HEADER_WORDS].copy_from_slice(&header);
+                    names::OK
+                }
+                Err(number) => number,
+            },
+            heads: heads.collect(),
+        }
+    }
+
+    pub fn answer() -> Reader {
+        let mut random = Random::new(44);
+        let heads = (0..MESSAGES).map(|_| answer(&mut random));
+        Reader {
+            act: "gmv_answer_read",
+            library: |message, words| ffi::answer_read(message, words),
+            plain: |message, words| match plain_messages::answer(black_box(message)) {
+                Ok(answer) => {
+                    *words = answer;
+                    names::OK
+                }
+                Err(number) => number,
+            },
+            heads: heads.collect(),
+        }
+    }
+
+    /// The bytes that have to be read of each message.
+    pub fn length(&self) -> usize {
+        self.heads[0].len()
+    }
+
+    /// The same heads with so many bytes behind each.
+    pub fn with_behind(&self, behind: usize) -> Reading {
+        let mut random = Random::new(behind as u64);
+        let message = |head: &Vec<u8>| [&head[..], &inputs::content(&mut random, behind)].concat();
+        Reading {
+            library: self.library,
+            plain: self.plain,
+            messages: self.heads.iter().map(message).collect(),
+            library_words: vec![[0; names::ANSWER_WORDS]; self.heads.len()],
+            plain_words: vec![[0; names::ANSWER_WORDS]; self.heads.len()],
+        }
+    }
+
+    /// Both sides say the same of a message, be it readable or not.
+    fn compare(&self, message: &[u8]) {
+        let (mut library, mut plain) = ([7; names::ANSWER_WORDS], [7; names::ANSWER_WORDS]);
+        let numbers = [
+            (self.library)(message, &mut library),
+            (self.plain)(message, &mut plain),
+        ];
+        let text = message.escape_ascii();
+        assert!(
+            numbers[0] == numbers[1],
+            "{}: {numbers:?}, {text}",
+            self.act
+        );
+        assert!(library == plain, "{}: other words, {text}", self.act);
+    }
+}
+
+/// A first segment of so many bytes, with numbers in MSH-10 and MSH-13. The shortest is a control
+/// message's; in a longer one the fields MSH-3 to MSH-8 are filled.
+fn header(random: &mut Random, length: usize) -> Vec<u8> {
+    if length == HEADERS[0] {
+        let (id, sequence) = (random.below(10), random.below(10));
+        return format!("MSH|^~\\&|||||||ADT|{id}|P|2.3.1|{sequence}\r").into_bytes();
+    }
+    let mut number = || random.between(100_000, 999_999);
+    let end = format!("|ADT^A01|{}|P|2.3.1|{}|||AL|NE\r", number(), number());
+    let mut bytes = b"MSH|^~\\&".to_vec();
+    let filling = length - bytes.len() - 6 - end.len();
+    for index in 0..6 {
+        bytes.push(b'|');
+        for _ in filling * index / 6..filling * (index + 1) / 6 {
+            bytes.push(random.between(b'A'.into(), b'Z'.into()) as u8);
+        }
+    }
+    bytes.extend_from_slice(end.as_bytes());
+    bytes
+}
+
+/// An answer of 44 bytes.
+fn answer(random: &mut Random) -> Vec<u8> {
+    let (id, number) = (random.between(10, 99), random.between(10, 99));
+    let code = random.pick(&["AA", "AE", "AR"]);
+    format!("MSH|^~\\&|||||||ACK|{id}|P|2.3.1\rMSA|{code}|{id}||{number}\r").into_bytes()
+}
+
+/// Messages that both sides read.
+pub struct Reading {
+    library: Read,
+    plain: Read,
+    messages: Vec<Vec<u8>>,
+    library_words: Vec<Words>,
+    plain_words: Vec<Words>,
+}
+
+fn read_all(read: Read, messages: &[Vec<u8>], words: &mut [Words]) {
+    for _ in 0..PASSES {
+        for (message, words) in messages.iter().zip(words.iter_mut()) {
+            assert_eq!(read(message, words), names::OK);
+        }
+    }
+}
+
+impl Work for Reading {
+    fn calls(&self) -> usize {
+        PASSES * self.messages.len()
+    }
+
+    fn library(&mut self) {
+        read_all(self.library, &self.messages, &mut self.library_words);
+    }
+
+    fn plain(&mut self) {
+        read_all(self.plain, &self.messages, &mut self.plain_words);
+    }
+
+    fn compare(&self) {
+        assert!(self.library_words == self.plain_words, "the words differ");
+    }
+}
+
+/// A call of a writer. The text is the control ID of an answer, or the type of a control message,
+/// which has no code.
+struct Call {
+    text: Vec<u8>,
+    code: u64,
+    number: u64,
+}
+
+/// A writing function of one side: writes from an offset of the buffer on, and gives the number
+/// with the two words of a report, which are 0 where none is written.
+type Write = fn(&Call, &mut [u8], usize) -> (u64, u64, u64);
+
+/// Calls that both sides make.
+pub struct Writing {
+    pub act: &'static str,
+    pub length: usize,
+    library: Write,
+    plain: Write,
+    calls: Vec<Call>,
+    library_bytes: Vec<u8>,
+    plain_bytes: Vec<u8>,
+}
+
+impl Writing {
+    fn new(act: &'static str, library: Write, plain: Write, calls: Vec<Call>) -> Writing {
+        let mut most = [0; 128];
+        let (_, length, _) = plain(&calls[0], &mut most, 0);
+        let bytes = vec![0; calls.len() * length as usize];
+        Writing {
+            act,
+            length: length as usize,
+            library,
+            plain,
+            calls,
+            library_bytes: bytes.clone(),
+            plain_bytes: bytes,
+        }
+    }
+
+    /// Answers to requests with control IDs of so many digits, and with numbers of so many.
+    pub fn answers(id_digits: u32, number_digits: u32) -> Writing {
+        let mut random = Random::new(u64::from(id_digits));
+        let calls = (0..MESSAGES).map(|_| Call {
+            text: digits(&mut random, id_digits),
+            code: random.between(1, 3) as u64,
+            number: with_digits(&mut random, number_digits),
+        });
+        let calls = calls.collect();
+        Writing::new("gmv_answer_write", library_answer, plain_answer, calls)
+    }
+
+    /// Control messages for 0 or -1, of random types.
+    pub fn controls(number: u64) -> Writing {
+        let mut random = Random::new(3);
+        let mut letter = || random.between(b'A'.into(), b'Z'.into()) as u8;
+        let calls = (0..MESSAGES).map(|_| Call {
+            text: vec![letter(), letter(), letter()],
+            code: 0,
+            number,
+        });
+        let calls = calls.collect();
+        Writing::new("gmv_control_write", library_control, plain_control, calls)
+    }
+}
+
+fn digits(random: &mut Random, count: u32) -> Vec<u8> {
+    (0..count)
+        .map(|_| random.between(b'0'.into(), b'9'.into()) as u8)
+        .collect()
+}
+
+/// A number with so many digits.
+fn with_digits(random: &mut Random, count: u32) -> u64 {
+    let least = 10_usize.pow(count - 1);
+    random.between(least, 10 * least - 1) as u64
+}
+
+fn library_answer(call: &Call, buffer: &mut [u8], start: usize) -> (u64, u64, u64) {
+    let mut report = [0; names::REPORT_WORDS];
+    let (code, number) = (call.code, call.number);
+    let answer = ffi::answer_write(&call.text, code, number, buffer, start, &mut report);
+    (answer, report[0], report[1])
+}
+
+fn plain_answer(call: &Call, buffer: &mut [u8], start: usize) -> (u64, u64, u64) {
+    let call = black_box(call);
+    match plain_messages::write_answer(&call.text, call.code, call.number, buffer, start) {
+        Ok(length) => (names::OK, length as u64, 0),
+        Err((number, forbidden_offset)) => (number, 0, forbidden_offset),
+    }
+}
+
+fn library_control(call: &Call, buffer: &mut [u8], start: usize) -> (u64, u64, u64) {
+    let mut report = [0; names::REPORT_WORDS];
+    let answer = ffi::control_write(&call.text, call.number, buffer, start, &mut report);
+    (answer, report[0], report[1])
+}
+
+fn plain_control(call: &Call, buffer: &mut [u8], start: usize) -> (u64, u64, u64) {
+    let call = black_box(call);
+    match plain_messages::write_control(&call.text, call.number, buffer, start) {
+        Ok(length) => (names::OK, length as u64, 0),
+        Err(number) => (number, 0, 0),
+    }
+}
+
+/// Writes all messages one behind the other.
+fn write_all(write: Write, calls: &[Call], buffer: &mut [u8]) {
+    for _ in 0..PASSES {
+        let mut start = 0;
+        for call in calls {
+            let (number, length, _) = write(call, buffer, start);
+            assert_eq!(number, names::OK);
+            start += length as usize;
+        }
+        assert_eq!(start, buffer.len());
+    }
+}
+
+impl Work for Writing {
+    fn calls(&self) -> usize {
+        PASSES * self.calls.len()
+    }
+
+    fn library(&mut self) {
+        write_all(self.library, &self.calls, &mut self.library_bytes);
+    }
+
+    fn plain(&mut self) {
+        write_all(self.plain, &self.calls, &mut self.plain_bytes);
+    }
+
+    fn compare(&self) {
+        assert!(self.library_bytes == self.plain_bytes, "the bytes differ");
+    }
+}
+
+/// Before anything is timed: the two sides give the same results, also where they refuse.
+pub fn compare_sides() {
+    let whole = b"MSH|^~\\&|||||||ACK|17|P|2.3.1|-1\rMSA|AE|17||999999999999999\rERR|";
+    for reader in [Reader::header(HEADERS[1]), Reader::answer()] {
+        for head in &reader.heads {
+            reader.compare(head);
+        }
+        for offset in 0..whole.len() {
+            reader.compare(&whole[..offset]);
+            for byte in *b"|\r0-A" {
+                let mut message = whole.to_vec();
+                message[offset] = byte;
+                reader.compare(&message);
+            }
+        }
+    }
+    let texts: [&[u8]; 9] = [
+        b"17",
+        b"",
+        b"ADT",
+        b"AdT",
+        b"1|7",
+        b"1\r7",
+        b"1|\x7F",
+        &[b'A'; 20],
+        &[b'A'; 21],
+    ];
+    let largest = 999_999_999_999_999;
+    for text in texts {
+        for code in 0..5 {
+            for number in [0, 17, largest, largest + 1, names::MINUS_ONE] {
+                let text = text.to_vec();
+                compare_writers(&Call { text, code, number });
+            }
+        }
+    }
+}
+
+/// Buffers of every length up to 100, with a start of 0 and of 3.
+fn compare_writers(call: &Call) {
+    let sides: [[Write; 2]; 2] = [
+        [library_answer, plain_answer],
+        [library_control, plain_control],
+    ];
+    for [library, plain] in sides {
+        for length in 0..100 {
+            for start in [0, 3] {
+                let (mut library_bytes, mut plain_bytes) = (vec![7; length], vec![7; length]);
+                let library_answer = library(call, &mut library_bytes, start);
+                let plain_answer = plain(call, &mut plain_bytes, start);
+                assert_eq!(library_answer, plain_answer, "the writers differ");
+                assert!(library_bytes == plain_bytes, "the bytes differ");
+            }
+        }
+    }
+}

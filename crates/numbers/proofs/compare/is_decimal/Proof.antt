@@ -1,0 +1,55 @@
+-- `numbers::compare::is_decimal` meets its contract.
+use borrow.Author.Needs.{needs}
+use Rattle.numbers.proofs.compare.is_decimal.Statement.{statement}
+use Rattle.numbers.proofs.compare.is_decimal.Tie as tie
+use mathlib.Core.Path.{_∙_, ap}
+use mathlib.Core.List.{List}
+use Prim.Native.Nat.{ℕ, _≤_}
+use lib.ListN.{length}
+use native.Mathlib.Omega.{arith}
+use Rattle.lists.specs.Bytes.{same}
+use Rattle.numbers.specs.Numbers.{decimal}
+use Rattle.numbers.proofs.Laws.{length-most}
+use Rattle.numbers.proofs.Texts.{text-fits, text-size, text-part}
+
+digit-count-requires : tie.Need-digit-count-requires
+digit-count-requires c κs = search needs
+
+write-digits-requires : tie.Need-write-digits-requires
+write-digits-requires c κs = let h = length-most (c .before .before .before .before .args .n) (omega arith) in omega (arith, h, c .before .before .before .before .pre)
+
+slice-reshare-prefix-are-same : tie.Need-slice-reshare-prefix-are-same
+slice-reshare-prefix-are-same c =
+    let h = length-most (c .before .before .before .before .before .before .before .args .n) (omega arith) in
+    let l : length (decimal (c .before .before .before .before .before .before .before .args .n)) ≤ length (c .before .before .before .before .before .before .before .args .text .now) = omega (arith, h, c .before .before .before .before .before .before .before .pre) in
+    text-fits (c .before .before .before .before .before .before .before .args .text .now) (decimal (c .before .before .before .before .before .before .before .args .n)) _ l (c .before .before .write-digits .ensures) (c .before .before .before .before .digit-count .result) (c .before .before .before .before .digit-count .ensures)
+
+slice-aggregate-are-same : tie.Need-slice-aggregate-are-same
+slice-aggregate-are-same c =
+    let h = length-most (c .before .before .before .before .before .before .before .before .args .n) (omega arith) in
+    let l : length (decimal (c .before .before .before .before .before .before .before .before .args .n)) ≤ length (c .before .before .before .before .before .before .before .before .args .text .now) = omega (arith, h, c .before .before .before .before .before .before .before .before .pre) in
+    text-size (c .before .before .before .before .before .before .before .before .args .text .now) (decimal (c .before .before .before .before .before .before .before .before .args .n)) _ l (c .before .before .before .write-digits .ensures) (c .before .before .before .before .before .digit-count .result) (c .before .before .before .before .before .digit-count .ensures)
+
+are-same-requires : tie.Need-are-same-requires
+are-same-requires c κs = search needs
+
+same-length : tie.Need-same-length
+same-length c = search needs
+
+returns : tie.Need-returns
+returns c =
+    let h = length-most (c .before .before .before .before .before .before .before .before .before .args .n) (omega arith) in
+    let l : length (decimal (c .before .before .before .before .before .before .before .before .before .args .n)) ≤ length (c .before .before .before .before .before .before .before .before .before .args .text .now) = omega (arith, h, c .before .before .before .before .before .before .before .before .before .pre) in
+    c .are-same .ensures ∙ ap (λ (z : List ℕ). same (c .before .before .before .before .before .before .before .before .before .args .field .now) z) (text-part (c .before .before .before .before .before .before .before .before .before .args .text .now) (decimal (c .before .before .before .before .before .before .before .before .before .args .n)) _ l (c .before .before .before .before .write-digits .ensures) (c .before .before .before .before .before .before .digit-count .result) (c .before .before .before .before .before .before .digit-count .ensures))
+
+pub is-decimal-spec : {M : Type 1} → statement M
+is-decimal-spec =
+    tie.close
+    (tie.spec
+    digit-count-requires
+    write-digits-requires
+    slice-reshare-prefix-are-same
+    slice-aggregate-are-same
+    are-same-requires
+    same-length
+    returns)

@@ -1,0 +1,19 @@
+-- `receiver::deciding::is_nak` meets its contract.
+use borrow.Author.Needs.{needs}
+use Rattle.receiver.proofs.deciding.is_nak.Statement.{statement}
+use Rattle.receiver.proofs.deciding.is_nak.Tie as tie
+
+enum-told : tie.Need-enum-told
+enum-told c = search needs
+
+enum-told-2 : tie.Need-enum-told-2
+enum-told-2 c = search needs
+
+returns : tie.Need-returns
+returns c = rw (c .enum-told .given .1)
+
+returns-2 : tie.Need-returns-2
+returns-2 c = search needs
+
+pub is-nak-spec : {M : Type 1} → statement M
+is-nak-spec = tie.close (tie.spec enum-told enum-told-2 returns returns-2)

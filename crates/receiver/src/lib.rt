@@ -1,0 +1,59 @@
+// The receiver of sequence numbers: what it decides on a block, what must be persisted, and the reply block.
+mod deciding;
+mod receiving;
+mod table;
+
+use fields::Field;
+use header::Code;
+use numbers::SequenceNumber;
+pub use receiving::receive;
+
+// The stored state: none (document 01: NONE), or the expected sequence number.
+pub enum Expected {
+    Unknown,
+    Next(u64),
+}
+
+// The application's verdict on a transaction that is due: AA or AE.
+pub enum Application {
+    Accepts,
+    Errs,
+}
+
+// A transaction that is to be persisted.
+pub enum Transaction {
+    NoTransaction,
+    Numbered(u64),
+}
+
+// What must be persisted, as one act, before the reply goes out.
+pub struct Persisted {
+    pub transaction: Transaction,
+    pub expected: Expected,
+}
+
+// A row of the table: MSA-1, MSA-4, and what is stored then.
+pub struct Row {
+    pub code: Code,
+    pub number: SequenceNumber,
+    pub persisted: Persisted,
+}
+
+// What is done with a block.
+pub enum Decision {
+    // Nothing, with its number.
+    Drops(u64),
+    // An N block, with the block's number and the reason.
+    Naks(u64, u8),
+    // An answer to the control ID in this field.
+    Answers(Field, Row),
+}
+
+// What the act answers.
+pub struct Received {
+    // 0, 1, 2 or 11 for the act, or the number 3 to 9 of a refused block.
+    pub number: u64,
+    pub persisted: Persisted,
+    // The reply block's length; 0 where there is none.
+    pub reply_length: usize,
+}
