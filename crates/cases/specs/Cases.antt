@@ -8,6 +8,17 @@ use Rattle.settings.specs.declared.Kind.the-variants.{Hybrid}
 use Rattle.settings.specs.declared.Settings.{Settings}
 use Rattle.verdict.specs.declared.Verdict.the-variants.{Accepted, Shape, Count, Check, Interrupted}
 use Rattle.stream.specs.Stream.{Said, verdicts}
+use Rattle.header.specs.declared.Code.the-variants.{AA, AR}
+use Rattle.numbers.specs.declared.SequenceNumber.the-variants.{Number}
+use Rattle.numbers.specs.declared.NumberField.the-variants.{Present}
+use Rattle.receiver.specs.Receiver.{row, rowOf}
+use Rattle.receiver.specs.declared.Application.the-variants.{Accepts}
+use Rattle.receiver.specs.declared.Expected.the-variants.{Unknown, Next}
+use Rattle.receiver.specs.declared.Transaction.the-variants.{NoTransaction, Numbered}
+use Rattle.sender.specs.Sender.{freshSender, openOf, timerOf}
+use Rattle.sender.specs.declared.Event.{Event}
+use Rattle.sender.specs.declared.Event.the-variants.{GaveUp}
+use Rattle.sender.specs.declared.Acted.{Acted}
 use Rattle.message_theorems.specs.Examples.{AnswerFor17, ControlFor0, ControlForMinusOne}
 use Rattle.whole_block.specs.Whole.{checkOf}
 use Rattle.whole_block.specs.declared.Checked.{Checked}
@@ -59,6 +70,17 @@ p2 = 11 ∷ 68 ∷ 50 ∷ 51 ∷ 13 ∷ 65 ∷ 13 ∷ 48 ∷ 48 ∷ 48 ∷ 48 �
 abbrev pub p3 : List ℕ
 p3 = 11 ∷ 78 ∷ 50 ∷ 51 ∷ 13 ∷ 88 ∷ 48 ∷ 48 ∷ 48 ∷ 48 ∷ 54 ∷ 48 ∷ 49 ∷ 55 ∷ 28 ∷ 13 ∷ []
 
+-- what a sender's act says of giving up: the event, and the sends made
+pub record Given : Type 0 where
+  pub event : Event
+  pub sends : ℕ
+
+abbrev pub given : Event → ℕ → Given
+given e n = record { event = e; sends = n }
+
+abbrev pub gaveUp : Acted → Given
+gaveUp a = given (a .event) (a .sends)
+
 -- every one of the equations holds
 pub data Each : List (Type 0) → Type 1 where
   none : Each []
@@ -105,6 +127,12 @@ cases =
     -- "For P1 followed by P3 it prints exactly `0 0 0` and `15 0 1`"
     ∷ (lines (p1 ++ p3) ≡ line 0 0 0 ∷ line 15 0 1 ∷ [])
     ∷ (check (p1 ++ p3) ≡ Judged Shape)
+    -- "P9 receiver NONE, 5: AA 5, then expects 6."
+    ∷ (rowOf Accepts Unknown (Present (Number 5)) ≡ row AA (Number 5) (Numbered 5) (Next 6))
+    -- "P10 expects 6, gets 5: AR 6."
+    ∷ (rowOf Accepts (Next 6) (Present (Number 5)) ≡ row AR (Number 6) NoTransaction (Next 6))
+    -- "P11 r = 0, one timer: gives up, count 1.": on a circuit that has just been opened
+    ∷ (gaveUp (timerOf 0 (openOf (freshSender 1) .sender)) ≡ given GaveUp 1)
     -- 'Header fields': the answer for request 17 and the control messages for 0 and -1, byte for byte
     ∷ AnswerFor17
     ∷ ControlFor0

@@ -27,7 +27,8 @@ ghost use Rattle.messages.specs.Messages.{answerMessage};
 ghost use Rattle.messages.specs.Write.{lengthOf as messageLength};
 ghost use Rattle.receiver.specs.Internal.{Linked, Replies, Answerable, Possible};
 
-fn is_link(settings: Settings) -> bool
+// Whether these are settings of a sender or receiver.
+pub fn is_link(settings: Settings) -> bool
     ensures { λ r. ⌜ r ≡ validLink settings ⌝ }
 {
     settings.is_valid() & (128 <= settings.data_limit)

@@ -1,0 +1,58 @@
+-- `receiver_calls::receive_words::finish` meets its contract.
+use borrow.Author.Needs.{needs}
+use Rattle.receiver_calls.proofs.receive_words.finish.Statement.{statement}
+use Rattle.receiver_calls.proofs.receive_words.finish.Tie as tie
+use mathlib.Core.Path.{refl, sym, ap, _∙_}
+use native.Mathlib.Omega.{arith}
+use lib.ListN.{length-set}
+use borrow.Author.Tests.{not-true, not-false, lt-ltb, le-ltb, eq-eqb, ne-eqb}
+use Rattle.receiver_calls.proofs.Laws.{finish-refused, finish-written}
+
+is-refusal-requires : tie.Need-is-refusal-requires
+is-refusal-requires c κs = search needs
+
+returns : tie.Need-returns
+returns c = finish-refused (c .before .before .before .before .args .state .now) (c .before .before .before .before .args .report .now) (c .before .before .before .before .args .received) (sym (c .before .is-refusal .ensures) ∙ c .if1 .taken)
+
+expected-word-requires : tie.Need-expected-word-requires
+expected-word-requires c κs = search needs
+
+slice-write-state : tie.Need-slice-write-state
+slice-write-state c = search needs
+
+transaction-word-requires : tie.Need-transaction-word-requires
+transaction-word-requires c κs = search needs
+
+slice-write-report : tie.Need-slice-write-report
+slice-write-report c = search needs
+
+slice-write-report-2 : tie.Need-slice-write-report-2
+slice-write-report-2 c = simp length-set (omega arith)
+
+slice-write-report-3 : tie.Need-slice-write-report-3
+slice-write-report-3 c = simp length-set (omega arith)
+
+same-length : tie.Need-same-length
+same-length c = search needs
+
+same-length-2 : tie.Need-same-length-2
+same-length-2 c = search needs
+
+returns-2 : tie.Need-returns-2
+returns-2 c = rw (c .before .expected-word .ensures, c .transaction-word .ensures) (finish-written (c .before .before .before .before .before .before .before .args .state .now) (c .before .before .before .before .before .before .before .args .report .now) (c .before .before .before .before .before .before .before .args .received) (sym (c .before .before .before .before .is-refusal .ensures) ∙ c .before .before .before .if1 .left) (c .before .before .before .before .before .before .before .pre .0) (c .before .before .before .before .before .before .before .pre .1))
+
+pub finish-spec : {M : Type 1} → statement M
+finish-spec =
+    tie.close
+    (tie.spec
+    is-refusal-requires
+    returns
+    expected-word-requires
+    slice-write-state
+    transaction-word-requires
+    slice-write-report
+    slice-write-report-2
+    slice-write-report-3
+    same-length
+    same-length-2
+    returns-2)

@@ -1,0 +1,31 @@
+-- `sender::answers::known_number` meets its contract.
+use borrow.Author.Needs.{needs}
+use Rattle.sender.proofs.answers.known_number.Statement.{statement}
+use Rattle.sender.proofs.answers.known_number.Tie as tie
+use mathlib.Core.Path.{refl, sym, ap, _∙_}
+use native.Mathlib.Omega.{arith}
+use borrow.Author.Tests.{not-true, not-false, lt-ltb, le-ltb, eq-eqb, ne-eqb}
+use Rattle.sender.proofs.Laws.{known-next, known-other}
+use Rattle.sender.proofs.Laws.{after-delivery}
+
+add-next : tie.Need-add-next
+add-next c = search needs
+
+deliver-requires : tie.Need-deliver-requires
+deliver-requires c κs = search needs
+
+go-on-requires : tie.Need-go-on-requires
+go-on-requires c κs = rw (c .deliver .ensures) (after-delivery (c .before .before .before .before .args .sender) (c .before .before .before .before .pre))
+
+returns : tie.Need-returns
+returns c = c .go-on .ensures ∙ rw (c .before .deliver .ensures) (known-next (c .before .before .before .before .before .args .sender) (c .before .before .before .before .before .args .e) (c .before .before .before .before .before .args .code) (c .before .before .if1 .taken))
+
+freeze-requires : tie.Need-freeze-requires
+freeze-requires c κs = search needs
+
+returns-2 : tie.Need-returns-2
+returns-2 c = c .freeze .ensures ∙ known-other (c .before .before .before .before .args .sender) (c .before .before .before .before .args .e) (c .before .before .before .before .args .code) (c .before .if1 .left)
+
+pub known-number-spec : {M : Type 1} → statement M
+known-number-spec =
+    tie.close (tie.spec add-next deliver-requires go-on-requires returns freeze-requires returns-2)

@@ -1,0 +1,22 @@
+-- `sender::state::begin` meets its contract.
+use borrow.Author.Needs.{needs}
+use Rattle.sender.proofs.state.begin.Statement.{statement}
+use Rattle.sender.proofs.state.begin.Tie as tie
+use mathlib.Core.Path.{sym, ap, _∙_}
+use native.Mathlib.Omega.{arith}
+use borrow.Author.Tests.{not-true, not-false, lt-ltb, le-ltb, eq-eqb, ne-eqb}
+
+first-sends-requires : tie.Need-first-sends-requires
+first-sends-requires c κs = search needs
+
+named-message-requires : tie.Need-named-message-requires
+named-message-requires c κs = search needs
+
+act-requires : tie.Need-act-requires
+act-requires c κs = search needs
+
+returns : tie.Need-returns
+returns c = c .act .ensures ∙ rw (c .before .before .first-sends .ensures, c .before .named-message .ensures)
+
+pub begin-spec : {M : Type 1} → statement M
+begin-spec = tie.close (tie.spec first-sends-requires named-message-requires act-requires returns)

@@ -1,0 +1,64 @@
+-- `sender::state::is_waiting_state` meets its contract.
+use borrow.Author.Needs.{needs}
+use Rattle.sender.proofs.state.is_waiting_state.Statement.{statement}
+use Rattle.sender.proofs.state.is_waiting_state.Tie as tie
+use mathlib.Core.Path.{sym, ap, _∙_}
+use native.Mathlib.Omega.{arith}
+use borrow.Author.Tests.{not-true, not-false, lt-ltb, le-ltb, eq-eqb, ne-eqb}
+
+enum-told : tie.Need-enum-told
+enum-told c = search needs
+
+enum-told-2 : tie.Need-enum-told-2
+enum-told-2 c = search needs
+
+enum-told-3 : tie.Need-enum-told-3
+enum-told-3 c = search needs
+
+are-sends-requires : tie.Need-are-sends-requires
+are-sends-requires c κs = search needs
+
+enum-told-4 : tie.Need-enum-told-4
+enum-told-4 c = search needs
+
+are-sends-requires-2 : tie.Need-are-sends-requires-2
+are-sends-requires-2 c κs = search needs
+
+enum-told-5 : tie.Need-enum-told-5
+enum-told-5 c = search needs
+
+are-sends-requires-3 : tie.Need-are-sends-requires-3
+are-sends-requires-3 c κs = search needs
+
+returns : tie.Need-returns
+returns c = rw (c .enum-told .given .1)
+
+returns-2 : tie.Need-returns-2
+returns-2 c = rw (c .before .enum-told2 .given .1)
+
+returns-3 : tie.Need-returns-3
+returns-3 c = rw (c .before .before .before .enum-told3 .given .1, c .are-sends .ensures)
+
+returns-4 : tie.Need-returns-4
+returns-4 c = rw (c .before .enum-told4 .given .1, c .are-sends2 .ensures)
+
+returns-5 : tie.Need-returns-5
+returns-5 c = rw (c .before .before .enum-told5 .given .1, c .are-sends3 .ensures)
+
+pub is-waiting-state-spec : {M : Type 1} → statement M
+is-waiting-state-spec =
+    tie.close
+    (tie.spec
+    enum-told
+    enum-told-2
+    enum-told-3
+    are-sends-requires
+    enum-told-4
+    are-sends-requires-2
+    enum-told-5
+    are-sends-requires-3
+    returns
+    returns-2
+    returns-3
+    returns-4
+    returns-5)

@@ -1,0 +1,141 @@
+-- What a valid state of the sender is, in numbers.
+use mathlib.Core.Path.{_≡_, refl}
+use mathlib.Core.Bool.{Bool, true, false, not, _&&_}
+use Prim.Native.Nat.{ℕ, _+_, _≤_, _<_}
+use native.Mathlib.Omega.{arith}
+use lib.Dec.{leb, ltb, eqb}
+use borrow.Author.Tests.{le-leb, leb-true, lt-ltb, ltb-true, eq-eqb, eqb-true, not-true}
+use Rattle.lists.proofs.Tests.{and-left, and-right}
+use Rattle.numbers.specs.Numbers.{greatestSent}
+use Rattle.sender.specs.Sender.{validPersisted, validSends, validWaiting, validSender}
+use Rattle.sender.specs.declared.Persisted.{Persisted}
+use Rattle.sender.specs.declared.Waiting.{Waiting}
+use Rattle.sender.specs.declared.Waiting.the-variants.{Closed, Idle, Resynchronizing, Querying, Sending}
+use Rattle.sender.specs.declared.Sender.{Sender}
+
+pub record Stored (p : Persisted) : Type 0 where
+  pub first-least : 1 ≤ p .first
+  pub first-most : p .first ≤ 999999999999998
+  pub mark-least : p .first ≤ p .delivered + 1
+  pub mark-most : p .delivered ≤ p .last
+  pub last-most : p .last ≤ 999999999999998
+
+-- an open circuit, resynchronized or not
+pub record OnCircuit (p : Persisted) (b : Bool) : Type 0 where
+  pub thawed : p .frozen ≡ false
+  pub synchronized : p .resynchronized ≡ b
+
+pub record Sent (n : ℕ) : Type 0 where
+  pub some : 1 ≤ n
+  pub few : n ≤ 100
+
+pub record Rests (p : Persisted) (n : ℕ) : Type 0 where
+  pub all : p .delivered ≡ p .last
+  pub none : n ≡ 0
+
+pub record Sends (p : Persisted) (n : ℕ) : Type 0 where
+  pub more : p .delivered < p .last
+  pub sent : Sent n
+
+abbrev pub WaitsRight : Persisted → Waiting → ℕ → Type 0
+WaitsRight p Closed n = n ≡ 0
+WaitsRight p Idle n = OnCircuit p true × Rests p n
+WaitsRight p Resynchronizing n = OnCircuit p false × Sent n
+WaitsRight p Querying n = OnCircuit p true × Sent n
+WaitsRight p Sending n = OnCircuit p true × Sends p n
+
+pub record Right (p : Persisted) (w : Waiting) (n : ℕ) : Type 0 where
+  pub stored : Stored p
+  pub waits : WaitsRight p w n
+
+both : (a b : Bool) → a ≡ true → b ≡ true → (a && b) ≡ true
+both a b e f = rw (e, f)
+
+-- ---- from the tests
+stored-from : (p : Persisted) → validPersisted p ≡ true → Stored p
+stored-from p v =
+    let a = and-left (leb 1 (p .first) && leb (p .first) greatestSent) (leb (p .first) (p .delivered + 1) && (leb (p .delivered) (p .last) && leb (p .last) greatestSent)) v in
+    let u = and-right (leb 1 (p .first) && leb (p .first) greatestSent) (leb (p .first) (p .delivered + 1) && (leb (p .delivered) (p .last) && leb (p .last) greatestSent)) v in
+    let t = and-right (leb (p .first) (p .delivered + 1)) (leb (p .delivered) (p .last) && leb (p .last) greatestSent) u in
+    record {
+      first-least = leb-true 1 (p .first) (and-left (leb 1 (p .first)) (leb (p .first) greatestSent) a);
+      first-most = leb-true (p .first) greatestSent (and-right (leb 1 (p .first)) (leb (p .first) greatestSent) a);
+      mark-least = leb-true (p .first) (p .delivered + 1) (and-left (leb (p .first) (p .delivered + 1)) (leb (p .delivered) (p .last) && leb (p .last) greatestSent) u);
+      mark-most = leb-true (p .delivered) (p .last) (and-left (leb (p .delivered) (p .last)) (leb (p .last) greatestSent) t);
+      last-most = leb-true (p .last) greatestSent (and-right (leb (p .delivered) (p .last)) (leb (p .last) greatestSent) t);
+    }
+
+sent-from : (n : ℕ) → validSends n ≡ true → Sent n
+sent-from n h =
+    record { some = leb-true 1 n (and-left (leb 1 n) (leb n 100) h); few = leb-true n 100 (and-right (leb 1 n) (leb n 100) h) }
+
+circuit-from : (p : Persisted) → (not (p .frozen) && p .resynchronized) ≡ true → OnCircuit p true
+circuit-from p h =
+    record { thawed = not-true (p .frozen) (and-left (not (p .frozen)) (p .resynchronized) h); synchronized = and-right (not (p .frozen)) (p .resynchronized) h }
+
+new-circuit-from : (p : Persisted) → (not (p .frozen) && not (p .resynchronized)) ≡ true → OnCircuit p false
+new-circuit-from p h =
+    record { thawed = not-true (p .frozen) (and-left (not (p .frozen)) (not (p .resynchronized)) h); synchronized = not-true (p .resynchronized) (and-right (not (p .frozen)) (not (p .resynchronized)) h) }
+
+waits-from : (p : Persisted) (w : Waiting) (n : ℕ) → validWaiting p w n ≡ true → WaitsRight p w n
+waits-from p Closed n h = eqb-true n 0 h
+waits-from p Idle n h =
+    let r = and-right (not (p .frozen) && p .resynchronized) (eqb (p .delivered) (p .last) && eqb n 0) h in
+    (circuit-from p (and-left (not (p .frozen) && p .resynchronized) (eqb (p .delivered) (p .last) && eqb n 0) h), record { all = eqb-true (p .delivered) (p .last) (and-left (eqb (p .delivered) (p .last)) (eqb n 0) r); none = eqb-true n 0 (and-right (eqb (p .delivered) (p .last)) (eqb n 0) r) })
+waits-from p Resynchronizing n h =
+    (new-circuit-from p (and-left (not (p .frozen) && not (p .resynchronized)) (validSends n) h), sent-from n (and-right (not (p .frozen) && not (p .resynchronized)) (validSends n) h))
+waits-from p Querying n h =
+    (circuit-from p (and-left (not (p .frozen) && p .resynchronized) (validSends n) h), sent-from n (and-right (not (p .frozen) && p .resynchronized) (validSends n) h))
+waits-from p Sending n h =
+    let r = and-right (not (p .frozen) && p .resynchronized) (ltb (p .delivered) (p .last) && validSends n) h in
+    (circuit-from p (and-left (not (p .frozen) && p .resynchronized) (ltb (p .delivered) (p .last) && validSends n) h), record { more = ltb-true (p .delivered) (p .last) (and-left (ltb (p .delivered) (p .last)) (validSends n) r); sent = sent-from n (and-right (ltb (p .delivered) (p .last)) (validSends n) r) })
+
+pub right-from : (s : Sender) → validSender s ≡ true → Right (s .persisted) (s .waiting) (s .sends)
+unfolding validSender
+right-from s h =
+    record {
+      stored = stored-from (s .persisted) (and-left (validPersisted (s .persisted)) (validWaiting (s .persisted) (s .waiting) (s .sends)) h);
+      waits = waits-from (s .persisted) (s .waiting) (s .sends) (and-right (validPersisted (s .persisted)) (validWaiting (s .persisted) (s .waiting) (s .sends)) h);
+    }
+
+-- ---- and back
+stored-valid : (p : Persisted) → Stored p → validPersisted p ≡ true
+stored-valid p i =
+    rw (le-leb 1 (p .first) (i .first-least), le-leb (p .first) greatestSent (i .first-most), le-leb (p .first) (p .delivered + 1) (i .mark-least), le-leb (p .delivered) (p .last) (i .mark-most), le-leb (p .last) greatestSent (i .last-most))
+
+sent-valid : (n : ℕ) → Sent n → validSends n ≡ true
+sent-valid n i = rw (le-leb 1 n (i .some), le-leb n 100 (i .few))
+
+circuit-valid : (p : Persisted) → OnCircuit p true → (not (p .frozen) && p .resynchronized) ≡ true
+circuit-valid p i = rw (i .thawed, i .synchronized)
+
+new-circuit-valid : (p : Persisted) → OnCircuit p false → (not (p .frozen) && not (p .resynchronized)) ≡ true
+new-circuit-valid p i = rw (i .thawed, i .synchronized)
+
+waits-valid : (p : Persisted) (w : Waiting) (n : ℕ) → WaitsRight p w n → validWaiting p w n ≡ true
+waits-valid p Closed n i = eq-eqb n 0 i
+waits-valid p Idle n i =
+    both (not (p .frozen) && p .resynchronized) (eqb (p .delivered) (p .last) && eqb n 0) (circuit-valid p (i .0))
+    (both (eqb (p .delivered) (p .last)) (eqb n 0) (eq-eqb (p .delivered) (p .last) (i .1 .all)) (eq-eqb n 0 (i .1 .none)))
+waits-valid p Resynchronizing n i = both (not (p .frozen) && not (p .resynchronized)) (validSends n) (new-circuit-valid p (i .0)) (sent-valid n (i .1))
+waits-valid p Querying n i = both (not (p .frozen) && p .resynchronized) (validSends n) (circuit-valid p (i .0)) (sent-valid n (i .1))
+waits-valid p Sending n i =
+    both (not (p .frozen) && p .resynchronized) (ltb (p .delivered) (p .last) && validSends n) (circuit-valid p (i .0))
+    (both (ltb (p .delivered) (p .last)) (validSends n) (lt-ltb (p .delivered) (p .last) (i .1 .more)) (sent-valid n (i .1 .sent)))
+
+pub right-valid : (s : Sender) → Right (s .persisted) (s .waiting) (s .sends) → validSender s ≡ true
+unfolding validSender
+right-valid s i =
+    both (validPersisted (s .persisted)) (validWaiting (s .persisted) (s .waiting) (s .sends)) (stored-valid (s .persisted) (i .stored))
+    (waits-valid (s .persisted) (s .waiting) (s .sends) (i .waits))
+
+-- ---- something waits only on an open circuit, and none is open while frozen
+frozen-none : (p : Persisted) (w : Waiting) (n : ℕ) → WaitsRight p w n → p .frozen ≡ true → w ≡ Closed
+frozen-none p Closed n i e = refl
+frozen-none p Idle n i e = let t = i .0 .thawed in let z : _≡_ {A = ℕ} 0 1 = cc in absurd (omega arith)
+frozen-none p Resynchronizing n i e = let t = i .0 .thawed in let z : _≡_ {A = ℕ} 0 1 = cc in absurd (omega arith)
+frozen-none p Querying n i e = let t = i .0 .thawed in let z : _≡_ {A = ℕ} 0 1 = cc in absurd (omega arith)
+frozen-none p Sending n i e = let t = i .0 .thawed in let z : _≡_ {A = ℕ} 0 1 = cc in absurd (omega arith)
+
+pub frozen-closed : (s : Sender) → validSender s ≡ true → s .persisted .frozen ≡ true → s .waiting ≡ Closed
+frozen-closed s v e = frozen-none (s .persisted) (s .waiting) (s .sends) (right-from s v .waits) e

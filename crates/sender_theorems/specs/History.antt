@@ -1,0 +1,73 @@
+-- Document 01, 'Sender': "The sends made of the waiting message are a number in each answer, equal to the sends in the history since it began to wait on this circuit."
+use mathlib.Core.List.{List, [], _∷_}
+use mathlib.Core.Bool.{Bool, true, false, cond}
+use Prim.Native.Nat.{ℕ, _+_}
+use lib.Dec.{eqb}
+use Rattle.numbers.specs.declared.SequenceNumber.{SequenceNumber}
+use Rattle.numbers.specs.declared.SequenceNumber.the-variants.{MinusOne, Number}
+use Rattle.sender.specs.Sender.{waitingNumber}
+use Rattle.sender.specs.declared.Sender.{Sender}
+use Rattle.sender.specs.declared.WaitingNumber.{WaitingNumber}
+use Rattle.sender.specs.declared.WaitingNumber.the-variants.{Nothing, Waits}
+use Rattle.sender.specs.declared.Send.{Send}
+use Rattle.sender.specs.declared.Send.the-variants.{NoSend, SendResynchronize, SendQuery, SendTransaction}
+use Rattle.sender.specs.declared.Event.{Event}
+use Rattle.sender.specs.declared.Event.the-variants.{NoEvent, Delivered, DeliveredUnknown, GaveUp, Froze, Dropped}
+use Rattle.sender.specs.declared.Acted.{Acted}
+use Rattle.sender_theorems.specs.Acts.{actOf, Doing, does, crashes, afterOf}
+
+-- what happened: an act's answer, or a crash
+pub data Entry : Type 0 where
+  told : Acted → Entry
+  crashed : Entry
+
+abbrev pub entryOf : Doing → Sender → Entry
+entryOf (does a) s = told (actOf a s)
+entryOf crashes s = crashed
+
+-- the history of a run, the newest first
+abbrev pub historyOf : Sender → List Doing → List Entry
+historyOf s [] = []
+historyOf s (x ∷ xs) = entryOf x (afterOf s xs) ∷ historyOf s xs
+
+-- the message that waits in a state, by its number (-1, 0 or a transaction's)
+abbrev pub waitsOf : Sender → WaitingNumber
+waitsOf s = waitingNumber (s .persisted) (s .waiting)
+
+-- the message that an answer names
+abbrev pub sentOf : Send → WaitingNumber
+sentOf NoSend = Nothing
+sentOf SendResynchronize = Waits MinusOne
+sentOf SendQuery = Waits (Number 0)
+sentOf (SendTransaction n) = Waits (Number n)
+
+abbrev pub is : SequenceNumber → WaitingNumber → Bool
+is m Nothing = false
+is MinusOne (Waits MinusOne) = true
+is MinusOne (Waits (Number k)) = false
+is (Number n) (Waits MinusOne) = false
+is (Number n) (Waits (Number k)) = eqb n k
+
+-- "the sends in the history since it began to wait on this circuit": those of m among the newest answers, as far back as m waited after each.
+-- When a circuit ended, and after a crash, nothing waited.
+abbrev pub counted : SequenceNumber → List Entry → ℕ
+counted m [] = 0
+counted m (crashed ∷ h) = 0
+counted m (told b ∷ h) = cond (is m (waitsOf (b .sender))) (cond (is m (sentOf (b .send))) 1 0 + counted m h) 0
+
+abbrev pub countedOf : WaitingNumber → List Entry → ℕ
+countedOf Nothing h = 0
+countedOf (Waits m) h = counted m h
+
+abbrev pub givesUp : Event → Bool
+givesUp NoEvent = false
+givesUp (Delivered n c) = false
+givesUp (DeliveredUnknown n) = false
+givesUp GaveUp = true
+givesUp Froze = false
+givesUp Dropped = false
+
+-- "That is the message waiting after the act, or the one just given up; with neither, 0.": the sends to be told in the answer b,
+-- given in the state s with the history h
+abbrev pub sendsToTell : Sender → List Entry → Acted → ℕ
+sendsToTell s h b = cond (givesUp (b .event)) (countedOf (waitsOf s) h) (countedOf (waitsOf (b .sender)) (told b ∷ h))
