@@ -1,7 +1,6 @@
 -- `reader_buffer::block_content` meets its contract.
-use mathlib.Core.Path.{_∙_}
-use Rattle.reader_buffer.specs.Content.{contentOf}
 use borrow.Author.Needs.{needs}
+use Rattle.reader_buffer.proofs.Laws.{content-part}
 use Rattle.reader_buffer.proofs.block_content.Statement.{statement}
 use Rattle.reader_buffer.proofs.block_content.Tie as tie
 
@@ -15,8 +14,9 @@ part-of-requires : tie.Need-part-of-requires
 part-of-requires c κs = search needs
 
 returns : tie.Need-returns
-unfolding contentOf
-returns c = c .part-of .ensures ∙ rw (c .before .before .data-offset .ensures, c .before .data-length .ensures)
+returns c =
+    let a = c .before .before .before .before .args in
+    content-part (a .settings) (a .verdict) (a .buffer .now) _ (c .before .before .data-offset .result) (c .before .data-length .result) (c .before .before .data-offset .ensures) (c .before .data-length .ensures) (c .part-of .ensures)
 
 pub block-content-spec : {M : Type 1} → statement M
 block-content-spec =
