@@ -1,10 +1,20 @@
-/* giamuvich.h: HL7 lower layer blocks, and the header fields of their messages, for a C line driver.
+/* giamuvich.h: HL7 lower layer blocks, the header fields of their messages, and the two ends of a
+ * link with sequence numbers, for a C line driver.
  *
- * Hybrid blocks (HL7 implementation guide, appendix C.2.2) and minimal blocks (C.4.2) are read
- * from a line in parts of any length, checked whole, and written. Of the messages in them the header
- * fields are read that sequence numbers need, and answers and control messages are written. Every
- * function is proved to return the one answer that its definition gives, for every input, and to change no memory but
- * what is said here. Nothing is allocated, nothing is kept between calls, and nothing blocks.
+ * The parts, each built on those before it:
+ *   - Blocks. Hybrid blocks (HL7 implementation guide, appendix C.2.2) and minimal blocks (C.4.2)
+ *     are read from a line in parts of any length, checked whole, and written.
+ *   - Messages. Of the messages in the blocks the header fields are read that sequence numbers need,
+ *     and answers and control messages are written.
+ *   - The receiver of sequence numbers. It says what to persist of each block, and writes the reply
+ *     block.
+ *   - The sender of sequence numbers. It says what to send now, counts the sends, and says which
+ *     transactions are delivered. The messages stay in the host's log.
+ *
+ * Every function is proved to return the one answer that its definition gives, for every input, and
+ * to change no memory but what is said here. Nothing is allocated, nothing is kept between calls, and
+ * nothing blocks. Lines, timers and storage are the caller's: an end of a link is told what happened,
+ * and its report says what to do.
  *
  * What the caller answers for, and nothing else:
  *   - each pointer has memory of the length that is passed with it (a length of 0 may come with
@@ -15,15 +25,20 @@
  *   start_block, end_block  the bytes SB and EB of a hybrid link. They differ, each is at most
  *                           255, and neither is CR (0D) or lies in 20 to 7E. Minimal links have
  *                           0B and 1C, fixed.
- *   data_limit              the most data bytes that a block may have, 1 to 99994.
+ *   data_limit              the most data bytes that a block may have, 1 to 99994; for a receiver or
+ *                           a sender 128 to 99994. Both ends of a link have the same.
+ *   resends                 how often a sender sends a message again, 0 to 99; GMV_RESENDS_DEFAULT
+ *                           where nothing else is agreed.
  *
  * Every function returns a number of the table below; 0 says that the call was done. A check returns
  * the number of the block that it was given. A read returns 0 also where the block that it found is
- * refused: that block's number is verdict[GMV_VERDICT_NUMBER].
+ * refused: that block's number is verdict[GMV_VERDICT_NUMBER]. So do a receiver and a sender that
+ * are told of a refused block, or find data without a header (9): its number is in their report.
  *
  * Refusals come in the order 1, 2, 11, and then those of the block: reading 8, 4, 5, 3, 6, 7;
  * writing 4, 5, 3. Minimal reading has 8, 4, 5, 3 only, and 5 there means only EB without CR. For
- * messages: reading 2, 9; writing 1, 2, 3, 9, 10.
+ * messages: reading 2, 9; writing 1, 2, 3, 9, 10. A receiver has 1, 2, 11 only, and so has a sender
+ * but for gmv_sender_submit: 1, 2, 11, 4, 3, 9, 10.
  */
 #ifndef GIAMUVICH_H
 #define GIAMUVICH_H
@@ -53,8 +68,12 @@ enum {
     GMV_INTERRUPTED = 8, /* SB came inside the block */
     GMV_HEAD = 9,        /* no readable header, control ID or, in an answer, MSA segment; at a writer of
                             answers: a control ID that cannot stand in a field */
-    GMV_NUMBER = 10,     /* at a writer of answers: a number over 999999999999999 */
-    GMV_STATE = 11       /* a reader's words encode no state, or the stream's offsets are used up */
+    GMV_NUMBER = 10,     /* at a writer of answers: a number over 999999999999999; at
+                            gmv_sender_submit: not the next sequence number, a control ID that is not
+                            this number, or no number is left */
+    GMV_STATE = 11       /* a reader's words encode no state, or the stream's offsets are used up; a
+                            receiver's or a sender's words encode no state; a sender's act does not
+                            apply now (no circuit is open, or one is, or frozen, or not frozen) */
 };
 
 /* Block types: the byte after SB of a hybrid block. A minimal block counts as a data block. */
@@ -250,12 +269,217 @@ uint64_t gmv_answer_write(const uint8_t *control_id, size_t control_id_length,
  *     MSH|^~\&|||||||TYPE|0|P|2.3.1|0<CR>      (31 bytes; for -1 both fields read -1, 33 bytes)
  * type is three capital letters A to Z.
  *
- * Returns 0 with the report written; or, in this order and with nothing changed, 1 (type is not three capital letters,
- * or number is neither 0 nor GMV_MINUS_ONE) or 2 (the report has under GMV_REPORT_WORDS words, or the
- * buffer from start on is too short). */
+ * Returns 0 with the report written; or, in this order and with nothing changed, 1 (type is not three
+ * capital letters, or number is neither 0 nor GMV_MINUS_ONE) or 2 (the report has under
+ * GMV_REPORT_WORDS words, or the buffer from start on is too short). */
 uint64_t gmv_control_write(const uint8_t *type, size_t type_length, uint64_t number,
                            uint8_t *buffer, size_t buffer_length, size_t start,
                            uint64_t *report, size_t report_words);
+
+/* ---- The receiver of sequence numbers ---- */
+
+/* The words of a receiver's state. All of it must be persisted, together with the transaction that
+ * the report names, as one act, before the reply goes out. */
+enum {
+    GMV_RECEIVER_EXPECTED = 0, /* 0: none; else the expected sequence number, 1 to 999999999999999 */
+    GMV_RECEIVER_WORDS = 1
+};
+
+/* The words of a receiver's report. */
+enum {
+    GMV_RECEIVED_TRANSACTION = 0,  /* the number of the transaction to persist with the state; 0:
+                                      none */
+    GMV_RECEIVED_REPLY_LENGTH = 1, /* the bytes of the reply block; 0: no reply */
+    GMV_RECEIVED_BLOCK = 2,        /* the block's number: 0, or 3 to 9 */
+    GMV_RECEIVED_WORDS = 3
+};
+
+/* The state before anything was received: no number expected.
+ * Returns 0, or 2 (state_words below GMV_RECEIVER_WORDS) with nothing changed. Words from
+ * GMV_RECEIVER_WORDS on are not changed. */
+uint64_t gmv_receiver_fresh(uint64_t *state, size_t state_words);
+
+/* The receiver's act on a block that its reader gave.
+ *
+ * block_number is the verdict's number (0 accepted, or 3 to 8), block_type its type, and data the
+ * data of an accepted block. application is the application's verdict on a transaction that is due,
+ * GMV_CODE_AA or GMV_CODE_AE (it is looked at only for such a one, but must be one of the two).
+ * data_limit is at least 128.
+ *
+ * The reply block is written into the buffer from offset start on, of which only the reply's bytes
+ * change; the buffer from start on has at least data_limit + 15 bytes (minimal: + 3), whatever the
+ * reply. An answer is that of gmv_answer_write in a data block. By MSH-13 and the expected number E,
+ * its code and number and what is persisted with it are:
+ *     -1             any state           AA, -1          none expected
+ *     0              none expected       AA, -1          none expected
+ *     0              E expected          AA, E           E expected
+ *     n              none, or n expected application, n  transaction n, and n + 1 expected
+ *     n              E, not n, expected  AR, E           E expected
+ *     no number      any state           AR, E or -1     as before
+ *
+ * Hybrid: an accepted N block (block_type GMV_NAK_BLOCK) is dropped; every other type counts as a
+ * data block. A refused block is answered by an N block: C for 6, X for 7, B for 4, G for 3, 5 and 8.
+ * A data block without a readable header or control ID (9; as gmv_header_read, and a control ID with
+ * a byte that data may not have is not readable either) is answered by an N block with G. Minimal:
+ * refused blocks, also by 9, are dropped without a reply, and block_type is not looked at.
+ * Of the data nothing but these fields is looked at, nor is its length compared with data_limit.
+ *
+ * Returns 0 with state, report and buffer written; or, in this order and with nothing changed:
+ *   1  a setting is outside its range, data_limit is below 128, application is neither code,
+ *      block_number is none of 0, 3 to 8
+ *   2  state_words below GMV_RECEIVER_WORDS, report_words below GMV_RECEIVED_WORDS, or the buffer is
+ *      too short
+ *   11 state[GMV_RECEIVER_EXPECTED] is over 999999999999999 */
+uint64_t gmv_hybrid_receive(uint64_t start_block, uint64_t end_block, uint64_t data_limit,
+                            uint64_t application, uint64_t *state, size_t state_words,
+                            uint64_t block_number, uint64_t block_type,
+                            const uint8_t *data, size_t data_length,
+                            uint8_t *buffer, size_t buffer_length, size_t start,
+                            uint64_t *report, size_t report_words);
+uint64_t gmv_minimal_receive(uint64_t data_limit,
+                             uint64_t application, uint64_t *state, size_t state_words,
+                             uint64_t block_number, uint64_t block_type,
+                             const uint8_t *data, size_t data_length,
+                             uint8_t *buffer, size_t buffer_length, size_t start,
+                             uint64_t *report, size_t report_words);
+
+/* ---- The sender of sequence numbers ---- */
+
+/* How often a message is sent again, where nothing else is agreed. */
+enum { GMV_RESENDS_DEFAULT = 3 };
+
+/* The words of a sender's state. The first GMV_SENDER_PERSISTED_WORDS must be persisted, as one act,
+ * before the next block goes out; after a crash they are restored and the others set to 0 (no circuit
+ * is open). */
+enum {
+    GMV_SENDER_FIRST = 0,          /* the first sequence number, 1 to 999999999999998 */
+    GMV_SENDER_DELIVERED = 1,      /* the last number known to be delivered; first - 1: none yet */
+    GMV_SENDER_LAST = 2,           /* the last number submitted; first - 1: none yet */
+    GMV_SENDER_RESYNCHRONIZED = 3, /* 0 or 1 */
+    GMV_SENDER_FROZEN = 4,         /* 0 or 1 */
+    GMV_SENDER_PERSISTED_WORDS = 5,
+    GMV_SENDER_WAITING = 5,        /* 0 no circuit, 1 open and nothing waits, 2 -1 waits, 3 0 waits,
+                                      4 the transaction after GMV_SENDER_DELIVERED waits */
+    GMV_SENDER_SENDS = 6,          /* the sends made of what waits, on this circuit; 0 where nothing
+                                      does */
+    GMV_SENDER_WORDS = 7
+};
+
+/* What happened. */
+enum {
+    GMV_EVENT_NONE = 0,      /* nothing but what the other words say */
+    GMV_EVENT_DELIVERED = 1, /* a transaction is known to be delivered */
+    GMV_EVENT_GAVE_UP = 2,   /* a send fell due with all sends spent: the circuit ended */
+    GMV_EVENT_FROZE = 3,     /* an answer that cannot be: frozen until an operator resets; the circuit
+                                ended */
+    GMV_EVENT_DROPPED = 4    /* an answer to something else was dropped */
+};
+
+/* The words of an act's report. */
+enum {
+    GMV_ACT_SEND = 0,             /* what to send now: 0 nothing, 1 the control message for -1, 2 that
+                                     for 0, 3 a transaction */
+    GMV_ACT_SEND_NUMBER = 1,      /* the transaction's number; else 0 */
+    GMV_ACT_SENDS = 2,            /* the sends made of the message waiting after the act, or of the one
+                                     just given up; with neither 0 */
+    GMV_ACT_EVENT = 3,            /* GMV_EVENT_.. */
+    GMV_ACT_DELIVERED = 4,        /* with GMV_EVENT_DELIVERED its number, else 0 */
+    GMV_ACT_CODE = 5,             /* with GMV_EVENT_DELIVERED GMV_CODE_AA, GMV_CODE_AE, or 0 where the
+                                     application's verdict is unknown; else 0 */
+    GMV_ACT_BLOCK = 6,            /* at gmv_sender_block the number of a refused block, 3 to 9; else
+                                     0 */
+    GMV_ACT_FORBIDDEN_OFFSET = 7, /* at gmv_sender_submit with 3 the offset of the first forbidden
+                                     byte, else 0 */
+    GMV_ACT_WORDS = 8
+};
+
+/* The sender's acts are the six functions after gmv_sender_fresh. Each returns 0 with state and
+ * report written; or a refusal: 1 and 2 with nothing changed; 11, and 4, 3, 9, 10 of
+ * gmv_sender_submit, with the state equal and the report written (nothing to send, the sends of what
+ * still waits, event 0; with 3 the offset). Words from GMV_SENDER_WORDS and GMV_ACT_WORDS on are not
+ * changed.
+ *
+ * 2: state_words below GMV_SENDER_WORDS or report_words below GMV_ACT_WORDS.
+ * 11: the act does not apply now, or the words encode no state (then GMV_ACT_SENDS is 0). Words encode
+ * a state exactly if 1 <= first <= 999999999999998,
+ * first - 1 <= delivered <= last <= 999999999999998, resynchronized and frozen are 0 or 1, and
+ *   waiting 0: sends 0;
+ *   waiting 1: resynchronized, not frozen, delivered = last, sends 0;
+ *   waiting 2: not resynchronized, not frozen, sends 1 to 100;
+ *   waiting 3: resynchronized, not frozen, sends 1 to 100;
+ *   waiting 4: resynchronized, not frozen, delivered < last, sends 1 to 100.
+ * Waiting is never over 4. */
+
+/* A new sender: nothing submitted, first number `first`. Returns 0; or, in this order and with nothing
+ * changed, 1 (first is not 1 to 999999999999998) or 2 (state_words below GMV_SENDER_WORDS). */
+uint64_t gmv_sender_fresh(uint64_t first, uint64_t *state, size_t state_words);
+
+/* A transaction is submitted: the message with the next number, last + 1. It stays in the host's log.
+ * On an open circuit with nothing waiting it is sent at once; without a circuit, or while something
+ * waits, it is sent when it is due.
+ *
+ * 1: data_limit is not 128 to 99994. 11: frozen. Then 4: message_length over data_limit. 3: a byte
+ * that data may not have. 9: no readable header or control ID (as gmv_header_read). 10: MSH-13 is not
+ * last + 1 (leading zeros allowed), MSH-10 is not its plain decimal, or none is left. */
+uint64_t gmv_sender_submit(uint64_t data_limit, const uint8_t *message, size_t message_length,
+                           uint64_t *state, size_t state_words,
+                           uint64_t *report, size_t report_words);
+
+/* A circuit was opened: the control message for -1 (not yet resynchronized) or for 0 is sent and
+ * waits. 11: one is open, or frozen. */
+uint64_t gmv_sender_open(uint64_t *state, size_t state_words,
+                         uint64_t *report, size_t report_words);
+
+/* The circuit ended. 11: none is open. */
+uint64_t gmv_sender_ended(uint64_t *state, size_t state_words,
+                          uint64_t *report, size_t report_words);
+
+/* An operator resets a frozen sender: it waits for a new circuit. 11: not frozen. */
+uint64_t gmv_sender_reset(uint64_t *state, size_t state_words,
+                          uint64_t *report, size_t report_words);
+
+/* The timer ran out: what waits is sent again while it was sent fewer than resends + 1 times, and
+ * given up otherwise. With nothing waiting nothing is done. 1: resends is over 99. 11: no circuit is
+ * open. */
+uint64_t gmv_sender_timer(uint64_t resends, uint64_t *state, size_t state_words,
+                          uint64_t *report, size_t report_words);
+
+/* A block was read on the circuit: block_number, block_type and data as for the receiver.
+ *
+ * An N block (block_type GMV_NAK_BLOCK) and a refused block, also by 9 (data that gmv_answer_read
+ * refuses), do what the timer does. An answer whose MSA-2 is not the control ID of what waits is
+ * dropped. Any other goes by its code and number (MSA-1 and MSA-4), where n is the number that waits:
+ *     -1 waits  AA, -1         resynchronized
+ *     0 waits   AA, -1         goes on if delivered is first - 1
+ *               AA, e          goes on if e is delivered + 1; if e is delivered + 2 and delivered + 1
+ *                              was submitted, that one is delivered, its verdict unknown
+ *     n waits   AA, n or AE, n n is delivered
+ *               AR, n + 1      n is delivered, its verdict unknown
+ * After each of these the next transaction is sent and waits, if it was submitted. Every other code or
+ * number freezes the sender. With nothing waiting nothing is done (GMV_ACT_BLOCK is still said).
+ *
+ * 1: resends is over 99, or block_number is none of 0, 3 to 8. 11: no circuit is open. */
+uint64_t gmv_sender_block(uint64_t resends, uint64_t block_number, uint64_t block_type,
+                          const uint8_t *data, size_t data_length,
+                          uint64_t *state, size_t state_words,
+                          uint64_t *report, size_t report_words);
+
+/* Writes the sender's control message for 0 or GMV_MINUS_ONE (as gmv_control_write) as a block into
+ * the buffer from offset start on: 46 and 48 bytes (minimal: 34 and 36). Nothing else of the buffer
+ * changes. A transaction is written from the host's log by gmv_hybrid_write or gmv_minimal_write.
+ *
+ * Returns 0 with the report written (GMV_REPORT_WORDS words: the block's length, 0); or, in this order
+ * and with nothing changed, 1 (a setting is outside its range, data_limit is below 128, type is not
+ * three capital letters, or number is neither 0 nor GMV_MINUS_ONE) or 2 (the report has under
+ * GMV_REPORT_WORDS words, or the buffer from start on is shorter than the block). */
+uint64_t gmv_hybrid_control_block(uint64_t start_block, uint64_t end_block, uint64_t data_limit,
+                                  const uint8_t *type, size_t type_length, uint64_t number,
+                                  uint8_t *buffer, size_t buffer_length, size_t start,
+                                  uint64_t *report, size_t report_words);
+uint64_t gmv_minimal_control_block(uint64_t data_limit,
+                                   const uint8_t *type, size_t type_length, uint64_t number,
+                                   uint8_t *buffer, size_t buffer_length, size_t start,
+                                   uint64_t *report, size_t report_words);
 
 #ifdef __cplusplus
 }

@@ -1,23 +1,47 @@
 //! Times the library against plain Rust on the same inputs, side by side, and prints tables in
-//! Markdown: blocks read, written and checked, then messages read and written. Both sides are
-//! release builds; verdicts, words and bytes are compared in every round.
+//! Markdown: blocks read, written and checked, messages read and written, and the acts of both ends.
+//! Both sides are release builds; verdicts, words and bytes are compared in every round.
+//!
+//! `bench [PART]`: without a part all three, otherwise `blocks`, `messages` or `acts` alone.
 
+mod act_checks;
+mod act_inputs;
+mod act_tables;
+mod acts;
+#[allow(dead_code)]
+#[path = "../../tests/host/src/ends_ffi.rs"]
+mod ends_ffi;
 #[allow(dead_code)]
 #[path = "../../tests/host/src/ffi.rs"]
 mod ffi;
 mod inputs;
+#[allow(dead_code)]
+#[path = "../../tests/host/src/message_model.rs"]
+mod message_model;
 mod messages;
+#[allow(dead_code)]
+#[path = "../../tests/host/src/model.rs"]
+mod model;
 mod plain;
+mod plain_ends;
 mod plain_messages;
+mod plain_sender;
 #[allow(dead_code)]
 #[path = "../../tests/host/src/prng.rs"]
 mod prng;
+#[allow(dead_code)]
+#[path = "../../tests/host/src/receiver_model.rs"]
+mod receiver_model;
+#[allow(dead_code)]
+#[path = "../../tests/host/src/sender_model.rs"]
+mod sender_model;
 mod sides;
 mod timing;
 
 use ffi::names::MINUS_ONE;
 use inputs::Input;
 use messages::{Reader, Writing, BEHIND, HEADERS};
+use std::process::ExitCode;
 use timing::{Row, Spread, Work};
 
 const SIZES: [usize; 4] = [16, 200, 4_000, 60_000];
@@ -174,15 +198,42 @@ fn writer_table() {
     }
 }
 
-fn main() {
-    println!(
-        "Processor: {}. {ROUNDS} rounds after a warm-up, the two sides in turn.",
-        processor()
-    );
-    block_table();
-    println!();
+fn message_tables() {
     messages::compare_sides();
     reader_table();
     println!();
     writer_table();
+}
+
+fn end_tables() {
+    act_checks::compare_sides();
+    act_tables::print(ROUNDS);
+}
+
+/// The parts, in the order in which they run.
+const PARTS: [(&str, fn()); 3] = [
+    ("blocks", block_table),
+    ("messages", message_tables),
+    ("acts", end_tables),
+];
+
+fn main() -> ExitCode {
+    let only = std::env::args().nth(1);
+    let wanted = |name: &str| only.as_deref().is_none_or(|only| only == name);
+    if !PARTS.iter().any(|(name, _)| wanted(name)) {
+        eprintln!("usage: bench [blocks|messages|acts]");
+        return ExitCode::from(2);
+    }
+    println!(
+        "Processor: {}. {ROUNDS} rounds after a warm-up, the two sides in turn.",
+        processor()
+    );
+    let parts = PARTS.into_iter().filter(|(name, _)| wanted(name));
+    for (index, (_, print)) in parts.enumerate() {
+        if index > 0 {
+            println!();
+        }
+        print();
+    }
+    ExitCode::SUCCESS
 }

@@ -108,13 +108,13 @@ pub fn answer(message: &[u8]) -> Result<[u64; ANSWER_WORDS], u64> {
 }
 
 /// The text of a number: its digits, or -1.
-struct Decimal {
+pub struct Decimal {
     bytes: [u8; 20],
     start: usize,
 }
 
 impl Decimal {
-    fn new(number: u64) -> Decimal {
+    pub fn new(number: u64) -> Decimal {
         let mut decimal = Decimal {
             bytes: [0; 20],
             start: 20,
@@ -135,7 +135,7 @@ impl Decimal {
         }
     }
 
-    fn text(&self) -> &[u8] {
+    pub fn text(&self) -> &[u8] {
         &self.bytes[self.start..]
     }
 }

@@ -17,6 +17,9 @@ static void run_all(enum memory_kind kind)
     test_settings();
     test_random();
     test_messages();
+    test_receiver();
+    test_sender();
+    test_link();
 }
 
 int main(void)

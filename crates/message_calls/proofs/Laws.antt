@@ -3,11 +3,9 @@ use mathlib.Core.Path.{_≡_, refl, sym, ap, _∙_}
 use mathlib.Core.List.{List, [], _∷_}
 use mathlib.Core.Bool.{true, false}
 use Prim.Native.Nat.{ℕ, _≤_, _<_}
-use lib.ListN.{length, set}
-use lib.Seq.{sets-eq}
+use lib.ListN.{length}
 use borrow.Author.Tests.{lt-ltb, le-ltb}
 use Rattle.lists.specs.Bytes.{over}
-use Rattle.lists.proofs.Over.{enough}
 use Rattle.fields.specs.Fields.{bytesOf}
 use Rattle.fields.specs.declared.Field.{Field}
 use Rattle.numbers.specs.Numbers.{numberField, greatestSent, greatestExpected}
@@ -30,20 +28,6 @@ use Rattle.message_calls.specs.declared.CodeMade.{CodeMade}
 use Rattle.message_calls.specs.declared.CodeMade.the-variants.{NoCode, ACode}
 use Rattle.message_calls.specs.declared.ControlMade.{ControlMade}
 use Rattle.message_calls.specs.declared.ControlMade.the-variants.{NoControl, AControl}
-
--- words written one by one
-pub two : (l : List ℕ) (a b : ℕ) → 2 ≤ length l → set (set l 0 a) 1 b ≡ over l (a ∷ b ∷ [])
-two l a b h = sets-eq (a ∷ b ∷ []) l 0 h ∙ enough l (a ∷ b ∷ []) h
-
-pub six : (l : List ℕ) (a b c d e f : ℕ) → 6 ≤ length l
-    → set (set (set (set (set (set l 0 a) 1 b) 2 c) 3 d) 4 e) 5 f ≡ over l (a ∷ b ∷ c ∷ d ∷ e ∷ f ∷ [])
-six l a b c d e f h = sets-eq (a ∷ b ∷ c ∷ d ∷ e ∷ f ∷ []) l 0 h ∙ enough l (a ∷ b ∷ c ∷ d ∷ e ∷ f ∷ []) h
-
-pub nine : (l : List ℕ) (a b c d e f g i j : ℕ) → 9 ≤ length l
-    → set (set (set (set (set (set (set (set (set l 0 a) 1 b) 2 c) 3 d) 4 e) 5 f) 6 g) 7 i) 8 j
-    ≡ over l (a ∷ b ∷ c ∷ d ∷ e ∷ f ∷ g ∷ i ∷ j ∷ [])
-nine l a b c d e f g i j h =
-    sets-eq (a ∷ b ∷ c ∷ d ∷ e ∷ f ∷ g ∷ i ∷ j ∷ []) l 0 h ∙ enough l (a ∷ b ∷ c ∷ d ∷ e ∷ f ∷ g ∷ i ∷ j ∷ []) h
 
 -- reading
 pub header-few : (m ws : List ℕ) → length ws < 6 → called 2 ws ≡ headerCall m ws

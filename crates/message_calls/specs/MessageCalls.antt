@@ -27,6 +27,7 @@ use Rattle.messages.specs.declared.MessageType.{MessageType}
 use Rattle.messages.specs.declared.MessageWritten.{MessageWritten}
 use Rattle.messages.specs.declared.MessageWritten.the-variants.{Setting, TooShort, Byte, Header as NoHeader, TooLarge, Message}
 use Rattle.lists.specs.Bytes.{over}
+use Rattle.words.specs.Words.{reportWords}
 use Rattle.message_calls.specs.declared.CodeMade.{CodeMade}
 use Rattle.message_calls.specs.declared.CodeMade.the-variants.{NoCode, ACode}
 use Rattle.message_calls.specs.declared.ControlMade.{ControlMade}
@@ -103,9 +104,8 @@ pub record Wrote : Type 0 where
 abbrev pub wrote : ℕ → List ℕ → List ℕ → Wrote
 wrote n b p = record { number = n; buffer = b; report = p }
 
--- GMV_REPORT_MESSAGE_LENGTH, GMV_REPORT_FORBIDDEN_OFFSET
 abbrev pub reported : List ℕ → List ℕ → MessageWritten → Wrote
-reported c p w = wrote (numberOf w) c (over p (lengthOf w ∷ forbiddenOffsetOf w ∷ []))
+reported c p w = wrote (numberOf w) c (over p (reportWords (lengthOf w) (forbiddenOffsetOf w)))
 
 -- 1 and 2 change nothing
 abbrev pub writeFinished : List ℕ → List ℕ → MessageWritten → Wrote

@@ -8,6 +8,7 @@ use header::Code;
 use messages::Control;
 pub use read::read_answer_words;
 pub use read::read_header_words;
+pub use write::control_of;
 pub use write::write_answer_words;
 pub use write::write_control_words;
 

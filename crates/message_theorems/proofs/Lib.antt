@@ -5,3 +5,4 @@ pub mod Answer
 pub mod Control
 pub mod HandedOut
 pub mod InBlock
+pub mod Made

@@ -18,6 +18,7 @@ fn is_capital(x: u8) -> bool
     (65 <= x) & (x <= 90)
 }
 
+// Whether it is three capital letters.
 pub fn is_type(name: MessageType) -> bool
     ensures { λ r. ⌜ r ≡ validType name ⌝ }
 {

@@ -5,7 +5,9 @@ mod pieces;
 
 ghost use mathlib.Core.Path.{_≡_};
 ghost use Rattle.messages.specs.Messages.{typeOf};
+ghost use Rattle.messages.specs.Write.{lengthOf};
 pub use answer_message::write_answer;
+pub use control_message::is_type;
 pub use control_message::write_control;
 
 // The sender's control messages.
@@ -60,4 +62,20 @@ pub enum MessageWritten {
     TooLarge,
     // The length of the message.
     Message(usize),
+}
+
+impl MessageWritten {
+    // The length of the message, 0 where it was refused.
+    pub fn message_length(self) -> usize
+        ensures { λ r. ⌜ r ≡ lengthOf self ⌝ }
+    {
+        match self {
+            MessageWritten::Setting => 0,
+            MessageWritten::TooShort => 0,
+            MessageWritten::Byte(_) => 0,
+            MessageWritten::Header => 0,
+            MessageWritten::TooLarge => 0,
+            MessageWritten::Message(size) => size,
+        }
+    }
 }

@@ -33,7 +33,7 @@ use Rattle.messages.specs.Messages.{validExpected as answerable}
 use Rattle.message_theorems.proofs.HandedOut.{handed-out-read}
 use Rattle.verdict.specs.declared.Verdict.{Verdict}
 use Rattle.verdict.specs.declared.Verdict.the-variants.{Accepted, Byte, Long, Shape, Count, Check, Interrupted}
-use Rattle.receiver.specs.Receiver.{validLink, replySpace, validExpected, expectedNumber, row, stores, unknownRow, nextRow, rowOf, refusedBy, headerDecision, isNak, decisionOf}
+use Rattle.receiver.specs.Receiver.{replySpace, validExpected, expectedNumber, row, stores, unknownRow, nextRow, rowOf, refusedBy, headerDecision, isNak, decisionOf}
 use Rattle.receiver.specs.declared.Application.{Application}
 use Rattle.receiver.specs.declared.Expected.{Expected}
 use Rattle.receiver.specs.declared.Expected.the-variants.{Unknown, Next}

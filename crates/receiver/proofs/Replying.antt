@@ -4,14 +4,11 @@ use mathlib.Core.List.{List, [], _∷_, _++_}
 use mathlib.Core.Bool.{Bool, true, false, cond, _&&_, _||_}
 use Prim.Native.Nat.{ℕ, _+_, _-_, _≤_, _<_}
 use native.Mathlib.Omega.{arith}
-use lib.ListN.{length, take, drop}
-use lib.Seq.{take-append-seam, length-take-le}
+use lib.ListN.{length, take}
 use lib.Dec.{leb, eqb}
 use borrow.Author.Tests.{le-leb, leb-true, eqb-true, eq-eqb}
-use Rattle.lists.specs.Bytes.{put}
 use Rattle.lists.proofs.Tests.{and-left, and-right}
-use Rattle.lists.proofs.Put.{length-put}
-use Rattle.settings.specs.Settings.{allowed, byKind, valid}
+use Rattle.settings.specs.Settings.{byKind, valid, validLink}
 use Rattle.settings.specs.declared.Kind.{Kind}
 use Rattle.settings.specs.declared.Kind.the-variants.{Hybrid, Minimal}
 use Rattle.settings.specs.declared.Settings.{Settings}
@@ -25,11 +22,12 @@ use Rattle.writer.specs.declared.Written.{Written}
 use Rattle.header.specs.declared.Code.{Code}
 use Rattle.numbers.specs.declared.SequenceNumber.{SequenceNumber}
 use Rattle.messages.specs.Messages.{answerMessage, validControlId, validExpected as answerable}
-use Rattle.messages.specs.Write.{Outcome as MessageOutcome, outcome as messageOutcome, wrote as messageWrote, writeAnswerOf, lengthOf as messageLength}
+use Rattle.messages.specs.Write.{outcome as messageOutcome, wrote as messageWrote, writeAnswerOf, lengthOf as messageLength}
 use Rattle.messages.specs.declared.MessageWritten.{MessageWritten}
 use Rattle.message_theorems.proofs.Answer.{answer-length}
 use Rattle.message_theorems.proofs.InBlock.{answer-in-block}
-use Rattle.receiver.specs.Receiver.{validLink, validExpected, replySpace, unchanged, Outcome, outcome, repliedOf, decisionOf, receiveOf}
+use Rattle.message_theorems.proofs.Made.{size-fits as made-fits, part-size as made-size, made-part as made-bytes}
+use Rattle.receiver.specs.Receiver.{validExpected, replySpace, unchanged, Outcome, outcome, repliedOf, decisionOf, receiveOf}
 use Rattle.receiver.specs.Internal.{Linked, Replies, Answerable, Possible}
 use Rattle.receiver.specs.declared.Application.{Application}
 use Rattle.receiver.specs.declared.Expected.{Expected}
@@ -102,28 +100,18 @@ module _ (id : List ℕ) (code : Code) (n : SequenceNumber) (a : Answerable id n
       let m = answer-length id code n (a .control) (a .number) in
       rw (le-leb (0 + length (answerMessage id code n)) (length l) (omega arith), a .allowed, a .control, a .number)
 
-  module _ (w : MessageWritten) (m : List ℕ) (e : messageOutcome w m ≡ writeAnswerOf id code n 0 l) where
-    made-size : messageLength w ≡ length (answerMessage id code n)
-    made-size = ap (λ (z : MessageOutcome). messageLength (z .answer)) (e ∙ answer-made)
+  answer-fits : length (answerMessage id code n) ≤ length l
+  answer-fits = let m = answer-length id code n (a .control) (a .number) in omega arith
 
-    made-content : m ≡ put l 0 (answerMessage id code n)
-    made-content = ap (λ (z : MessageOutcome). z .buffer) (e ∙ answer-made)
+  module _ (w : MessageWritten) (m : List ℕ) (e : messageOutcome w m ≡ writeAnswerOf id code n 0 l) (s : ℕ) (q : s ≡ messageLength w) where
+    pub size-fits : s ≤ length m
+    size-fits = made-fits l (answerMessage id code n) answer-fits w m (e ∙ answer-made) s q
 
-    pub size-most : (s : ℕ) → s ≡ messageLength w → s ≤ 93
-    size-most s q = let k = answer-length id code n (a .control) (a .number) in omega (arith, q, made-size)
+    pub part-size : s ≡ length (take s m)
+    part-size = made-size l (answerMessage id code n) answer-fits w m (e ∙ answer-made) s q
 
-    pub size-fits : (s : ℕ) → s ≡ messageLength w → s ≤ length m
-    size-fits s q =
-        let k = answer-length id code n (a .control) (a .number) in
-        let z : length m ≡ length l = ap length made-content ∙ length-put l (answerMessage id code n) 0 (omega arith) in
-        omega (arith, z, size-most s q)
-
-    pub part-size : (s : ℕ) → s ≡ messageLength w → s ≡ length (take s m)
-    part-size s q = sym (length-take-le s m (size-fits s q))
-
-    pub made-part : (s : ℕ) → s ≡ messageLength w → take s m ≡ answerMessage id code n
-    unfolding put
-    made-part s q = rw (q, made-size, made-content) (ap (λ (z : List ℕ). take (length (answerMessage id code n)) z) refl ∙ take-append-seam (answerMessage id code n) (drop (0 + length (answerMessage id code n)) l))
+    pub made-part : take s m ≡ answerMessage id code n
+    made-part = made-bytes l (answerMessage id code n) answer-fits w m (e ∙ answer-made) s q
 
 -- the act's returns
 module _ (g : Settings) (s : Expected) (d : List ℕ) (start : ℕ) (b : List ℕ) where

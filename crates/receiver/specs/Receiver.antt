@@ -4,11 +4,10 @@ use mathlib.Core.Bool.{Bool, true, false, cond, _&&_}
 use Prim.Native.Nat.{ℕ, _+_}
 use lib.ListN.{length}
 use lib.Dec.{leb, eqb}
-use Rattle.settings.specs.Settings.{byKind, valid}
+use Rattle.settings.specs.Settings.{byKind, validLink}
 use Rattle.settings.specs.declared.Kind.{Kind}
 use Rattle.settings.specs.declared.Settings.{Settings}
 use Rattle.data_bytes.specs.DataBytes.{allAllowed}
-use Rattle.verdict.specs.Verdict.{numberOf}
 use Rattle.verdict.specs.declared.Verdict.{Verdict}
 use Rattle.verdict.specs.declared.Verdict.the-variants.{Accepted, Byte, Long, Shape, Count, Check, Interrupted}
 use Rattle.block.specs.Format.{blockOf}
@@ -133,10 +132,6 @@ repliedOf g s d start b (Naks n reason) =
 repliedOf g s d start b (Answers id r) =
     outcome (record { number = 0; persisted = r .persisted; «reply_length» = length (blockOf g 68 (answerMessage (bytesOf id d) (r .code) (r .number))) })
     (put b start (blockOf g 68 (answerMessage (bytesOf id d) (r .code) (r .number))))
-
--- "for a sender or receiver at least 128"
-unfoldable pub validLink : Settings → Bool
-validLink g = valid g && leb 128 (g .«data_limit»)
 
 -- "Room needed .. for a receiver's reply D + 15 (minimal D + 3)"
 abbrev pub replySpace : Settings → ℕ

@@ -6,7 +6,6 @@ mod table;
 use fields::Field;
 use header::Code;
 use numbers::SequenceNumber;
-pub use receiving::is_link;
 pub use receiving::receive;
 
 // The stored state: none (document 01: NONE), or the expected sequence number.

@@ -8,7 +8,6 @@ use crate::Row;
 use crate::Transaction;
 use crate::deciding::decide;
 use fields::field_content;
-use messages::MessageWritten;
 use settings::Kind;
 use settings::Settings;
 use verdict::Verdict;
@@ -19,20 +18,12 @@ ghost use mathlib.Core.Bool.{true};
 ghost use Prim.Native.Nat.{_+_, _≤_};
 ghost use lib.Dec.{leb};
 ghost use lib.ListN.{length};
-ghost use Rattle.receiver.specs.Receiver.{validExpected, unchanged, outcome, repliedOf, validLink, replySpace, receiveOf};
+ghost use Rattle.receiver.specs.Receiver.{validExpected, unchanged, outcome, repliedOf, replySpace, receiveOf};
 ghost use Rattle.block.specs.Format.{blockOf};
 ghost use Rattle.block.specs.Judge.{isReason};
 ghost use Rattle.writer.specs.Write.{lengthOf as blockLength};
 ghost use Rattle.messages.specs.Messages.{answerMessage};
-ghost use Rattle.messages.specs.Write.{lengthOf as messageLength};
 ghost use Rattle.receiver.specs.Internal.{Linked, Replies, Answerable, Possible};
-
-// Whether these are settings of a sender or receiver.
-pub fn is_link(settings: Settings) -> bool
-    ensures { λ r. ⌜ r ≡ validLink settings ⌝ }
-{
-    settings.is_valid() & (128 <= settings.data_limit)
-}
 
 fn is_expected(expected: Expected) -> bool
     ensures { λ r. ⌜ r ≡ validExpected expected ⌝ }
@@ -85,19 +76,6 @@ fn block_length(written: Written) -> usize
     }
 }
 
-fn message_length(written: MessageWritten) -> usize
-    ensures { λ r. ⌜ r ≡ messageLength written ⌝ }
-{
-    match written {
-        MessageWritten::Setting => 0,
-        MessageWritten::TooShort => 0,
-        MessageWritten::Byte(_) => 0,
-        MessageWritten::Header => 0,
-        MessageWritten::TooLarge => 0,
-        MessageWritten::Message(size) => size,
-    }
-}
-
 fn write_nak(settings: Settings, reason: u8, buffer: &mut [u8], start: usize) -> usize
     requires { ⌜ Linked settings start (length (now buffer)) ⌝ }
     requires { ⌜ isReason (reason ∷ []) ≡ true ⌝ }
@@ -123,7 +101,7 @@ fn frame_answer(
 {
     let code = row.code;
     let number = row.number;
-    let size = message_length(messages::write_answer(control_id, code, number, message, 0));
+    let size = messages::write_answer(control_id, code, number, message, 0).message_length();
     block_length(writer::write(settings, 68, &message[..size], buffer, start))
 }
 
@@ -193,7 +171,7 @@ pub fn receive(
 ) -> Received
     ensures { λ r. ⌜ outcome r (now (buffer .exit)) ≡ receiveOf settings application expected verdict (now (content .entry)) start (now (buffer .entry)) ⌝ }
 {
-    if !is_link(settings) {
+    if !settings.is_link() {
         return nothing_new(1, expected, 0);
     }
     if !is_long_enough(settings, buffer.len(), start) {

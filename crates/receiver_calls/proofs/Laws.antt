@@ -4,31 +4,26 @@ use mathlib.Core.List.{List, [], _∷_}
 use mathlib.Core.Bool.{Bool, true, false, cond}
 use Prim.Native.Nat.{ℕ, _≤_, _<_}
 use lib.ListN.{length, getD, set}
-use lib.Seq.{sets-eq}
 use lib.Dec.{ltb}
 use borrow.Author.Tests.{lt-ltb, le-ltb}
 use Rattle.lists.specs.Bytes.{over}
-use Rattle.lists.proofs.Over.{enough}
+use Rattle.lists.proofs.Over.{written-over}
+use Rattle.settings.specs.Settings.{validLink}
 use Rattle.settings.specs.declared.Made.{Made}
 use Rattle.settings.specs.declared.Made.the-variants.{Valid, Refused}
 use Rattle.settings.specs.declared.Settings.{Settings}
 use Rattle.verdict.specs.declared.Verdict.{Verdict}
-use Rattle.receiver.specs.Receiver.{validLink, Outcome, outcome, receiveOf}
+use Rattle.receiver.specs.Receiver.{Outcome, outcome, receiveOf}
 use Rattle.receiver.specs.declared.Application.{Application}
 use Rattle.receiver.specs.declared.Expected.{Expected}
 use Rattle.receiver.specs.declared.Expected.the-variants.{Unknown}
 use Rattle.receiver.specs.declared.Received.{Received}
-use Rattle.receiver_calls.specs.ReceiverCalls.{expectedWord, expectedOf, transactionWord, applicationOf, verdictOf, Fresh, fresh, freshCall, Called, called, isRefusal, finished, outcomeFinished, receiveWith, receiveCall}
+use Rattle.receiver_calls.specs.ReceiverCalls.{expectedWord, expectedOf, transactionWord, applicationOf, Fresh, fresh, freshCall, Called, called, isRefusal, finished, outcomeFinished, receiveWith, receiveCall}
 use Rattle.receiver_calls.specs.declared.ApplicationMade.{ApplicationMade}
 use Rattle.receiver_calls.specs.declared.ApplicationMade.the-variants.{NoApplication, AnApplication}
-use Rattle.receiver_calls.specs.declared.VerdictMade.{VerdictMade}
-use Rattle.receiver_calls.specs.declared.VerdictMade.the-variants.{NoVerdict, AVerdict}
-
-pub one : (l : List ℕ) (a : ℕ) → 1 ≤ length l → set l 0 a ≡ over l (a ∷ [])
-one l a h = sets-eq (a ∷ []) l 0 h ∙ enough l (a ∷ []) h
-
-pub three : (l : List ℕ) (a b c : ℕ) → 3 ≤ length l → set (set (set l 0 a) 1 b) 2 c ≡ over l (a ∷ b ∷ c ∷ [])
-three l a b c h = sets-eq (a ∷ b ∷ c ∷ []) l 0 h ∙ enough l (a ∷ b ∷ c ∷ []) h
+use Rattle.words.specs.Words.{verdictOf}
+use Rattle.words.specs.declared.VerdictMade.{VerdictMade}
+use Rattle.words.specs.declared.VerdictMade.the-variants.{NoVerdict, AVerdict}
 
 pub fresh-few : (st : List ℕ) → length st < 1 → fresh 2 st ≡ freshCall st
 unfolding freshCall
@@ -36,7 +31,7 @@ fresh-few st h = sym (rw (lt-ltb (length st) 1 h))
 
 pub fresh-done : (st : List ℕ) → 1 ≤ length st → fresh 0 (set st 0 0) ≡ freshCall st
 unfolding freshCall
-fresh-done st h = rw (one st 0 h, le-ltb (length st) 1 h)
+fresh-done st h = rw (written-over st (0 ∷ []) h, le-ltb (length st) 1 h)
 
 -- a finished act: refused, or written
 module _ (st p : List ℕ) (r : Received) where
@@ -49,8 +44,8 @@ module _ (st p : List ℕ) (r : Received) where
       → called 0 (set st 0 (expectedWord (r .persisted .expected))) []
       (set (set (set p 0 (transactionWord (r .persisted .transaction))) 1 (r .«reply_length»)) 2 (r .number)) ≡ finished st p r []
   finish-written h l m =
-      ap (λ (z : List ℕ). called 0 z [] (set (set (set p 0 (transactionWord (r .persisted .transaction))) 1 (r .«reply_length»)) 2 (r .number))) (one st (expectedWord (r .persisted .expected)) l)
-      ∙ ap (λ (z : List ℕ). called 0 (over st (expectedWord (r .persisted .expected) ∷ [])) [] z) (three p (transactionWord (r .persisted .transaction)) (r .«reply_length») (r .number) m)
+      ap (λ (z : List ℕ). called 0 z [] (set (set (set p 0 (transactionWord (r .persisted .transaction))) 1 (r .«reply_length»)) 2 (r .number))) (written-over st (expectedWord (r .persisted .expected) ∷ []) l)
+      ∙ ap (λ (z : List ℕ). called 0 (over st (expectedWord (r .persisted .expected) ∷ [])) [] z) (written-over p (transactionWord (r .persisted .transaction) ∷ r .«reply_length» ∷ r .number ∷ []) m)
       ∙ sym (ap (λ (z : Bool). cond z (called (r .number) st [] p)
       (called 0 (over st (expectedWord (r .persisted .expected) ∷ [])) [] (over p (transactionWord (r .persisted .transaction) ∷ r .«reply_length» ∷ r .number ∷ [])))) h)
 

@@ -1,15 +1,17 @@
--- What gmv_receiver_fresh, gmv_hybrid_receive and gmv_minimal_receive return and leave in what was passed, for every input (include/giamuvich.h).
+-- What the C functions of the receiver return and leave in what was passed, for every input (include/giamuvich.h).
 use mathlib.Core.List.{List, [], _∷_}
 use mathlib.Core.Bool.{Bool, cond, _||_}
 use Prim.Native.Nat.{ℕ}
 use lib.ListN.{length, getD}
 use lib.Dec.{ltb, eqb}
 use Rattle.lists.specs.Bytes.{over}
+use Rattle.settings.specs.Settings.{validLink}
 use Rattle.settings.specs.declared.Made.{Made}
 use Rattle.settings.specs.declared.Made.the-variants.{Valid, Refused}
-use Rattle.verdict.specs.declared.Verdict.{Verdict}
-use Rattle.verdict.specs.declared.Verdict.the-variants.{Accepted, Byte, Long, Shape, Count, Check, Interrupted}
-use Rattle.receiver.specs.Receiver.{validLink, Outcome, receiveOf}
+use Rattle.words.specs.Words.{verdictOf}
+use Rattle.words.specs.declared.VerdictMade.{VerdictMade}
+use Rattle.words.specs.declared.VerdictMade.the-variants.{NoVerdict, AVerdict}
+use Rattle.receiver.specs.Receiver.{Outcome, receiveOf}
 use Rattle.receiver.specs.declared.Application.{Application}
 use Rattle.receiver.specs.declared.Application.the-variants.{Accepts, Errs}
 use Rattle.receiver.specs.declared.Expected.{Expected}
@@ -19,8 +21,6 @@ use Rattle.receiver.specs.declared.Transaction.the-variants.{NoTransaction, Num
 use Rattle.receiver.specs.declared.Received.{Received}
 use Rattle.receiver_calls.specs.declared.ApplicationMade.{ApplicationMade}
 use Rattle.receiver_calls.specs.declared.ApplicationMade.the-variants.{NoApplication, AnApplication}
-use Rattle.receiver_calls.specs.declared.VerdictMade.{VerdictMade}
-use Rattle.receiver_calls.specs.declared.VerdictMade.the-variants.{NoVerdict, AVerdict}
 
 -- GMV_RECEIVER_EXPECTED: 0 is none
 abbrev pub expectedWord : Expected → ℕ
@@ -33,18 +33,6 @@ expectedOf w = cond (eqb w 0) Unknown (Next w)
 -- GMV_CODE_AA, GMV_CODE_AE
 abbrev pub applicationOf : ℕ → ApplicationMade
 applicationOf n = cond (eqb n 1) (AnApplication Accepts) (cond (eqb n 2) (AnApplication Errs) NoApplication)
-
--- the verdict that a reader gave, by its number and type; a type over 255 is no type
-abbrev pub typeByte : ℕ → ℕ
-typeByte t = cond (ltb 255 t) 0 t
-
-abbrev pub verdictOf : ℕ → ℕ → VerdictMade
-verdictOf n t =
-    cond (eqb n 0) (AVerdict (Accepted (typeByte t) 0))
-    (cond (eqb n 3) (AVerdict (Byte 0))
-    (cond (eqb n 4) (AVerdict Long)
-    (cond (eqb n 5) (AVerdict Shape)
-    (cond (eqb n 6) (AVerdict Count) (cond (eqb n 7) (AVerdict Check) (cond (eqb n 8) (AVerdict Interrupted) NoVerdict))))))
 
 -- GMV_RECEIVED_TRANSACTION
 abbrev pub transactionWord : Transaction → ℕ

@@ -6,15 +6,9 @@ mod receive_words;
 pub use receive_words::fresh_receiver_words;
 pub use receive_words::received_words;
 use receiver::Application;
-use verdict::Verdict;
 
 // What numbers from C stand for.
 pub enum ApplicationMade {
     NoApplication,
     AnApplication(Application),
-}
-
-pub enum VerdictMade {
-    NoVerdict,
-    AVerdict(Verdict),
 }

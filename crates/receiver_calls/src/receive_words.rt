@@ -1,14 +1,13 @@
 // The receiver's acts on words.
 use crate::ApplicationMade;
-use crate::VerdictMade;
 use crate::inputs::application_of;
 use crate::inputs::expected_of;
 use crate::inputs::expected_word;
 use crate::inputs::is_refusal;
 use crate::inputs::transaction_word;
-use crate::inputs::verdict_of;
 use receiver::Received;
 use settings::Made;
+use words::VerdictMade;
 ghost use mathlib.Core.Path.{_≡_};
 ghost use mathlib.Core.List.{[]};
 ghost use Prim.Native.Nat.{_≤_};
@@ -66,10 +65,10 @@ pub fn received_words(
     let ApplicationMade::AnApplication(verdict_of_application) = application_of(application) else {
         return 1;
     };
-    let VerdictMade::AVerdict(verdict) = verdict_of(number, t) else {
+    let VerdictMade::AVerdict(verdict) = words::verdict_of(number, t) else {
         return 1;
     };
-    if !receiver::is_link(settings) {
+    if !settings.is_link() {
         return 1;
     }
     if state.len() < 1 {

@@ -29,13 +29,13 @@ use Rattle.header.specs.declared.CodeField.{CodeField}
 use Rattle.header.specs.declared.CodeField.the-variants.{Other, Known}
 use Rattle.verdict.specs.declared.Verdict.{Verdict}
 use Rattle.verdict.specs.declared.Verdict.the-variants.{Accepted, Byte, Long, Shape, Count, Check, Interrupted}
-use Rattle.sender.specs.Sender.{validPersisted, validSends, validWaiting, validSender, freshSender, senderOf, named, firstSends, acted, begins, stays, refused, noState, closes, openedOf, openIn, openOf, isOpen, endedOf, thawed, resetOf, againOf, dueIn, validResends, checked, timerOf, nextOf, goesOn, freezes, resynchronizedOf, deliveredOf, queryNone, queryNumber, knownNumber, rejectNumber, hearResynchronizing, hearQuerying, hearSending, hearWith, heardOf, waitingNumber, answeredBy, withBlock, dataBlock, blockIn, blockReadOf, takesNumber, submitted, takenIn, submittedHeader, byteRefused, validLimit, submitOf}
+use Rattle.sender.specs.Sender.{validPersisted, validSends, validWaiting, validSender, freshSender, senderOf, firstSends, acted, begins, stays, refused, noState, closes, openedOf, openIn, openOf, isOpen, endedOf, thawed, resetOf, againOf, dueIn, validResends, checked, timerOf, nextOf, goesOn, freezes, resynchronizedOf, deliveredOf, queryNone, queryNumber, knownNumber, rejectNumber, hearResynchronizing, hearQuerying, hearSending, hearWith, heardOf, waitingMessage, answeredBy, withBlock, dataBlock, blockIn, blockReadOf, takesNumber, submitted, takenIn, submittedHeader, byteRefused, validLimit, submitOf}
 use Rattle.sender.specs.Internal.{Bounded}
 use Rattle.sender.specs.declared.Persisted.{Persisted}
 use Rattle.sender.specs.declared.Waiting.{Waiting}
 use Rattle.sender.specs.declared.Waiting.the-variants.{Closed, Idle, Resynchronizing, Querying, Sending}
-use Rattle.sender.specs.declared.WaitingNumber.{WaitingNumber}
-use Rattle.sender.specs.declared.WaitingNumber.the-variants.{Nothing, Waits}
+use Rattle.sender.specs.declared.NumberedMessage.{NumberedMessage}
+use Rattle.sender.specs.declared.NumberedMessage.the-variants.{Nothing, Numbered}
 use Rattle.sender.specs.declared.Sender.{Sender}
 use Rattle.sender.specs.declared.SenderMade.the-variants.{Refused, Made}
 use Rattle.sender.specs.declared.Event.{Event}
@@ -152,7 +152,7 @@ module _ (s : Sender) where
 -- a send that falls due
 module _ (r : ℕ) (s : Sender) where
   pub again-sends : s .sends < r + 1
-      → acted (record { persisted = s .persisted; waiting = s .waiting; sends = s .sends + 1 }) (named (s .persisted) (s .waiting)) (s .sends + 1) NoEvent ≡ againOf r s
+      → acted (record { persisted = s .persisted; waiting = s .waiting; sends = s .sends + 1 }) (waitingMessage (s .persisted) (s .waiting)) (s .sends + 1) NoEvent ≡ againOf r s
   again-sends h = sym (rw (lt-ltb (s .sends) (r + 1) h))
 
   pub again-none : r + 1 ≤ s .sends → closes (s .persisted) (s .sends) GaveUp ≡ againOf r s
@@ -284,19 +284,16 @@ module _ (r : ℕ) (s : Sender) (d : List ℕ) where
   data-as a b e = ap (λ (z : Acknowledgment). dataBlock r s d z) (sym e)
 
 module _ (s : Sender) (id : List ℕ) (c : CodeField) (n : NumberField) where
-  pub answered-as : (v w : WaitingNumber) → v ≡ w → answeredBy s id c n w ≡ answeredBy s id c n v
-  answered-as v w e = ap (λ (z : WaitingNumber). answeredBy s id c n z) (sym e)
+  pub answered-as : (v w : NumberedMessage) → v ≡ w → answeredBy s id c n w ≡ answeredBy s id c n v
+  answered-as v w e = ap (λ (z : NumberedMessage). answeredBy s id c n z) (sym e)
 
-  pub answered-other : (v : SequenceNumber) → same id (textOf v) ≡ false → stays s Dropped ≡ answeredBy s id c n (Waits v)
+  pub answered-other : (v : SequenceNumber) → same id (textOf v) ≡ false → stays s Dropped ≡ answeredBy s id c n (Numbered v)
   answered-other v h = sym (ap (λ (b : Bool). cond b (heardOf s c n) (stays s Dropped)) h)
 
-  pub answered-same : (v : SequenceNumber) → same id (textOf v) ≡ true → heardOf s c n ≡ answeredBy s id c n (Waits v)
+  pub answered-same : (v : SequenceNumber) → same id (textOf v) ≡ true → heardOf s c n ≡ answeredBy s id c n (Numbered v)
   answered-same v h = sym (ap (λ (b : Bool). cond b (heardOf s c n) (stays s Dropped)) h)
 
 -- a transaction that is submitted
-pub taken-at : (f : Waiting → Acted) (v w : Waiting) → v ≡ w → f w ≡ f v
-taken-at f v w e = ap f (sym e)
-
 module _ (s : Sender) (d : List ℕ) where
   pub header-as : (a b : Header) → a ≡ b → submittedHeader s d b ≡ submittedHeader s d a
   header-as a b e = ap (λ (z : Header). submittedHeader s d z) (sym e)
@@ -381,10 +378,10 @@ module _ (limit : ℕ) (s : Sender) (d : List ℕ) where
 
 -- an answer that was read
 module _ (r : ℕ) (s : Sender) (d : List ℕ) (cf idf ef : Field) (v : SequenceNumber) (e : acknowledgmentOf d ≡ AnAnswer cf idf ef)
-    (w : waitingNumber (s .persisted) (s .waiting) ≡ Waits v) where
-  read-by : answeredBy s (bytesOf idf d) (codeField (bytesOf cf d)) (numberField greatestExpected (bytesOf ef d)) (Waits v) ≡ dataBlock r s d (acknowledgmentOf d)
+    (w : waitingMessage (s .persisted) (s .waiting) ≡ Numbered v) where
+  read-by : answeredBy s (bytesOf idf d) (codeField (bytesOf cf d)) (numberField greatestExpected (bytesOf ef d)) (Numbered v) ≡ dataBlock r s d (acknowledgmentOf d)
   read-by =
-      answered-as s (bytesOf idf d) (codeField (bytesOf cf d)) (numberField greatestExpected (bytesOf ef d)) (waitingNumber (s .persisted) (s .waiting)) (Waits v) w
+      answered-as s (bytesOf idf d) (codeField (bytesOf cf d)) (numberField greatestExpected (bytesOf ef d)) (waitingMessage (s .persisted) (s .waiting)) (Numbered v) w
       ∙ data-as r s d (acknowledgmentOf d) (AnAnswer cf idf ef) e
 
   pub data-dropped : same (bytesOf idf d) (textOf v) ≡ false → stays s Dropped ≡ dataBlock r s d (acknowledgmentOf d)

@@ -1,12 +1,11 @@
 -- Document 01, 'Sender': what it has stored, what a crash loses, and its acts.
 use mathlib.Core.List.{List, [], _∷_}
-use mathlib.Core.Bool.{Bool, true, false, cond, not, _&&_, _||_}
+use mathlib.Core.Bool.{Bool, true, false, cond, not, _&&_}
 use Prim.Native.Nat.{ℕ, _+_, _-_}
 use lib.ListN.{length}
 use lib.Dec.{leb, ltb, eqb}
 use Rattle.data_bytes.specs.DataBytes.{allAllowed, firstForbidden}
 use Rattle.lists.specs.Bytes.{same}
-use Rattle.verdict.specs.Verdict.{numberOf}
 use Rattle.verdict.specs.declared.Verdict.{Verdict}
 use Rattle.verdict.specs.declared.Verdict.the-variants.{Accepted, Byte, Long, Shape, Count, Check, Interrupted}
 use Rattle.fields.specs.Fields.{bytesOf}
@@ -30,10 +29,8 @@ use Rattle.sender.specs.declared.Waiting.the-variants.{Closed, Idle, Res
 use Rattle.sender.specs.declared.Sender.{Sender}
 use Rattle.sender.specs.declared.SenderMade.{SenderMade}
 use Rattle.sender.specs.declared.SenderMade.the-variants.{Refused, Made}
-use Rattle.sender.specs.declared.WaitingNumber.{WaitingNumber}
-use Rattle.sender.specs.declared.WaitingNumber.the-variants.{Nothing, Waits}
-use Rattle.sender.specs.declared.Send.{Send}
-use Rattle.sender.specs.declared.Send.the-variants.{NoSend, SendResynchronize, SendQuery, SendTransaction}
+use Rattle.sender.specs.declared.NumberedMessage.{NumberedMessage}
+use Rattle.sender.specs.declared.NumberedMessage.the-variants.{Nothing, Numbered}
 use Rattle.sender.specs.declared.Event.{Event}
 use Rattle.sender.specs.declared.Event.the-variants.{NoEvent, Delivered, DeliveredUnknown, GaveUp, Froze, Dropped}
 use Rattle.sender.specs.declared.Acted.{Acted}
@@ -56,7 +53,7 @@ validWaiting p Resynchronizing n = (not (p .frozen) && not (p .resynchronized)) 
 validWaiting p Querying n = (not (p .frozen) && p .resynchronized) && validSends n
 validWaiting p Sending n = (not (p .frozen) && p .resynchronized) && (ltb (p .delivered) (p .last) && validSends n)
 
--- a state that some run of acts can reach
+-- every state that a run of acts can reach is such a one (sender_theorems), and no act on such a one can overflow or leave them
 unfoldable pub validSender : Sender → Bool
 validSender s = validPersisted (s .persisted) && validWaiting (s .persisted) (s .waiting) (s .sends)
 
@@ -68,13 +65,13 @@ freshSender f =
 unfoldable pub senderOf : ℕ → SenderMade
 senderOf f = cond (leb 1 f && leb f greatestSent) (Made (freshSender f)) Refused
 
--- "An act's answer names the message to send now, if any (-1, 0 or a number)"
-abbrev pub named : Persisted → Waiting → Send
-named p Closed = NoSend
-named p Idle = NoSend
-named p Resynchronizing = SendResynchronize
-named p Querying = SendQuery
-named p Sending = SendTransaction (p .delivered + 1)
+-- the message that waits for its answer, by its number ("-1, 0 or a number"), which is also its control ID
+abbrev pub waitingMessage : Persisted → Waiting → NumberedMessage
+waitingMessage p Closed = Nothing
+waitingMessage p Idle = Nothing
+waitingMessage p Resynchronizing = Numbered MinusOne
+waitingMessage p Querying = Numbered (Number 0)
+waitingMessage p Sending = Numbered (Number (p .delivered + 1))
 
 -- "A message is sent once as it begins to wait."
 abbrev pub firstSends : Waiting → ℕ
@@ -84,28 +81,29 @@ firstSends Resynchronizing = 1
 firstSends Querying = 1
 firstSends Sending = 1
 
-abbrev pub acted : Sender → Send → ℕ → Event → Acted
+-- "An act's answer names the message to send now, if any"
+abbrev pub acted : Sender → NumberedMessage → ℕ → Event → Acted
 acted s m n e = record { number = 0; sender = s; send = m; sends = n; event = e; block = 0; «forbidden_offset» = 0 }
 
 -- what begins to wait with these things stored
 abbrev pub begins : Persisted → Waiting → Event → Acted
-begins p w e = acted (record { persisted = p; waiting = w; sends = firstSends w }) (named p w) (firstSends w) e
+begins p w e = acted (record { persisted = p; waiting = w; sends = firstSends w }) (waitingMessage p w) (firstSends w) e
 
 -- nothing is sent; "The sends made of the waiting message are a number in each answer"
 abbrev pub stays : Sender → Event → Acted
-stays s e = acted s NoSend (s .sends) e
+stays s e = acted s Nothing (s .sends) e
 
 -- "A refused act leaves the state equal"
 abbrev pub refused : ℕ → Sender → Acted
-refused n s = record { number = n; sender = s; send = NoSend; sends = s .sends; event = NoEvent; block = 0; «forbidden_offset» = 0 }
+refused n s = record { number = n; sender = s; send = Nothing; sends = s .sends; event = NoEvent; block = 0; «forbidden_offset» = 0 }
 
 -- words that are no state have no sends either
 abbrev pub noState : Sender → Acted
-noState s = record { number = 11; sender = s; send = NoSend; sends = 0; event = NoEvent; block = 0; «forbidden_offset» = 0 }
+noState s = record { number = 11; sender = s; send = Nothing; sends = 0; event = NoEvent; block = 0; «forbidden_offset» = 0 }
 
 -- a circuit that ends: the sends of a message that is just given up are n, else 0
 abbrev pub closes : Persisted → ℕ → Event → Acted
-closes p n e = acted (record { persisted = p; waiting = Closed; sends = 0 }) NoSend n e
+closes p n e = acted (record { persisted = p; waiting = Closed; sends = 0 }) Nothing n e
 
 -- "Each new circuit opens with -1 if not yet resynchronised, otherwise with 0."
 abbrev pub openedOf : Persisted → Acted
@@ -143,7 +141,7 @@ resetOf s = cond (validSender s) (cond (s .persisted .frozen) (closes (thawed (s
 abbrev pub againOf : ℕ → Sender → Acted
 againOf r s =
     cond (ltb (s .sends) (r + 1))
-    (acted (record { persisted = s .persisted; waiting = s .waiting; sends = s .sends + 1 }) (named (s .persisted) (s .waiting)) (s .sends + 1) NoEvent)
+    (acted (record { persisted = s .persisted; waiting = s .waiting; sends = s .sends + 1 }) (waitingMessage (s .persisted) (s .waiting)) (s .sends + 1) NoEvent)
     (closes (s .persisted) (s .sends) GaveUp)
 
 abbrev pub dueIn : ℕ → Sender → Waiting → Acted
@@ -227,14 +225,7 @@ hearSending s AE (Number e) = knownNumber s AE e
 hearSending s AR (Number e) = rejectNumber s e
 hearSending s c MinusOne = freezes s
 
--- the control ID of what waits, as a number; "with nothing waiting does nothing"
-abbrev pub waitingNumber : Persisted → Waiting → WaitingNumber
-waitingNumber p Closed = Nothing
-waitingNumber p Idle = Nothing
-waitingNumber p Resynchronizing = Waits MinusOne
-waitingNumber p Querying = Waits (Number 0)
-waitingNumber p Sending = Waits (Number (p .delivered + 1))
-
+-- "with nothing waiting does nothing"
 abbrev pub hearWith : Sender → Waiting → Code → SequenceNumber → Acted
 hearWith s Closed c v = stays s NoEvent
 hearWith s Idle c v = stays s NoEvent
@@ -250,9 +241,9 @@ heardOf s (Known c) NotNumber = freezes s
 heardOf s Other f = freezes s
 
 -- "An answer whose MSA-2 isn't the waiting control ID is dropped and counts for nothing."
-abbrev pub answeredBy : Sender → List ℕ → CodeField → NumberField → WaitingNumber → Acted
+abbrev pub answeredBy : Sender → List ℕ → CodeField → NumberField → NumberedMessage → Acted
 answeredBy s id c n Nothing = stays s NoEvent
-answeredBy s id c n (Waits v) = cond (same id (textOf v)) (heardOf s c n) (stays s Dropped)
+answeredBy s id c n (Numbered v) = cond (same id (textOf v)) (heardOf s c n) (stays s Dropped)
 
 -- a refused block, 9 included: its number is said
 abbrev pub withBlock : ℕ → Acted → Acted
@@ -262,7 +253,7 @@ withBlock n a =
 abbrev pub dataBlock : ℕ → Sender → List ℕ → Acknowledgment → Acted
 dataBlock r s d NoAnswer = withBlock 9 (dueIn r s (s .waiting))
 dataBlock r s d (AnAnswer c i e) =
-    answeredBy s (bytesOf i d) (codeField (bytesOf c d)) (numberField greatestExpected (bytesOf e d)) (waitingNumber (s .persisted) (s .waiting))
+    answeredBy s (bytesOf i d) (codeField (bytesOf c d)) (numberField greatestExpected (bytesOf e d)) (waitingMessage (s .persisted) (s .waiting))
 
 -- "A timer event, an N block or a refused block resends"
 abbrev pub blockIn : ℕ → Sender → Verdict → List ℕ → Acted
@@ -302,7 +293,7 @@ submittedHeader s d (Readable id seq) =
 
 abbrev pub byteRefused : ℕ → Sender → Acted
 byteRefused i s =
-    record { number = 3; sender = s; send = NoSend; sends = s .sends; event = NoEvent; block = 0; «forbidden_offset» = i }
+    record { number = 3; sender = s; send = Nothing; sends = s .sends; event = NoEvent; block = 0; «forbidden_offset» = i }
 
 -- "for a sender .. at least 128"
 abbrev pub validLimit : ℕ → Bool

@@ -1,10 +1,8 @@
 // A block that was read on the circuit.
 use crate::Acted;
 use crate::Event;
-use crate::Persisted;
+use crate::NumberedMessage;
 use crate::Sender;
-use crate::Waiting;
-use crate::WaitingNumber;
 use crate::answers::hear;
 use crate::circuit::fall_due;
 use crate::state::is_open;
@@ -12,6 +10,7 @@ use crate::state::is_state;
 use crate::state::refuse;
 use crate::state::refuse_state;
 use crate::state::stay;
+use crate::state::waiting_message;
 use fields::field_content;
 use header::Acknowledgment;
 use numbers::SequenceNumber;
@@ -20,22 +19,8 @@ use verdict::Verdict;
 ghost use mathlib.Core.Path.{_≡_};
 ghost use Prim.Native.Nat.{_≤_};
 ghost use Rattle.header.specs.Header.{acknowledgmentOf};
-ghost use Rattle.sender.specs.Sender.{waitingNumber, withBlock, dataBlock, blockIn, blockReadOf};
+ghost use Rattle.sender.specs.Sender.{withBlock, dataBlock, blockIn, blockReadOf};
 ghost use Rattle.sender.specs.Internal.{Bounded};
-
-// The control ID of what waits, as a number.
-fn waiting_number(p: Persisted, waiting: Waiting) -> WaitingNumber
-    requires { ⌜ p .delivered ≤ 999999999999998 ⌝ }
-    ensures { λ r. ⌜ r ≡ waitingNumber p waiting ⌝ }
-{
-    match waiting {
-        Waiting::Closed => WaitingNumber::Nothing,
-        Waiting::Idle => WaitingNumber::Nothing,
-        Waiting::Resynchronizing => WaitingNumber::Waits(SequenceNumber::MinusOne),
-        Waiting::Querying => WaitingNumber::Waits(SequenceNumber::Number(0)),
-        Waiting::Sending => WaitingNumber::Waits(SequenceNumber::Number(p.delivered + 1)),
-    }
-}
 
 // The act with the number of the block that brought it.
 fn with_block(number: u64, acted: Acted) -> Acted
@@ -67,7 +52,7 @@ fn read_data(resends: u64, sender: Sender, content: &[u8]) -> Acted
     };
     let persisted = sender.persisted;
     let waiting = sender.waiting;
-    let WaitingNumber::Waits(number) = waiting_number(persisted, waiting) else {
+    let NumberedMessage::Numbered(number) = waiting_message(persisted, waiting) else {
         return stay(sender, Event::NoEvent);
     };
     if !numbers::is_text(field_content(content, control_id), number) {

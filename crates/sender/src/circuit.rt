@@ -9,10 +9,10 @@ use crate::state::begin;
 use crate::state::close;
 use crate::state::is_open;
 use crate::state::is_state;
-use crate::state::named_message;
 use crate::state::refuse;
 use crate::state::refuse_state;
 use crate::state::stay;
+use crate::state::waiting_message;
 ghost use mathlib.Core.Path.{_≡_};
 ghost use mathlib.Core.Bool.{true};
 ghost use Prim.Native.Nat.{_≤_};
@@ -118,7 +118,7 @@ fn again(resends: u64, sender: Sender) -> Acted
         };
         return act(
             next,
-            named_message(persisted, waiting),
+            waiting_message(persisted, waiting),
             sends,
             Event::NoEvent,
         );

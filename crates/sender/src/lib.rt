@@ -53,18 +53,10 @@ pub enum SenderMade {
     Made(Sender),
 }
 
-// The control ID of what waits, as a number.
-pub enum WaitingNumber {
+// A message by its number, which is also its control ID.
+pub enum NumberedMessage {
     Nothing,
-    Waits(SequenceNumber),
-}
-
-// The message to send now.
-pub enum Send {
-    NoSend,
-    SendResynchronize,
-    SendQuery,
-    SendTransaction(u64),
+    Numbered(SequenceNumber),
 }
 
 // What happened.
@@ -83,7 +75,8 @@ pub struct Acted {
     // 0, or why it was refused.
     pub number: u64,
     pub sender: Sender,
-    pub send: Send,
+    // The message to send now.
+    pub send: NumberedMessage,
     // The sends made of the message waiting after the act, or of the one just given up.
     pub sends: u64,
     pub event: Event,

@@ -1,14 +1,15 @@
 // Which states there are, and what an act makes of them.
 use crate::Acted;
 use crate::Event;
+use crate::NumberedMessage;
 use crate::Persisted;
-use crate::Send;
 use crate::Sender;
 use crate::SenderMade;
 use crate::Waiting;
+use numbers::SequenceNumber;
 ghost use mathlib.Core.Path.{_≡_};
 ghost use Prim.Native.Nat.{_≤_};
-ghost use Rattle.sender.specs.Sender.{validPersisted, validSends, validWaiting, validSender, senderOf, named, firstSends, acted, begins, stays, refused, noState, closes, isOpen};
+ghost use Rattle.sender.specs.Sender.{validPersisted, validSends, validWaiting, validSender, senderOf, waitingMessage, firstSends, acted, begins, stays, refused, noState, closes, isOpen};
 
 fn is_persisted(p: Persisted) -> bool
     ensures { λ r. ⌜ r ≡ validPersisted p ⌝ }
@@ -41,7 +42,7 @@ fn is_waiting_state(p: Persisted, waiting: Waiting, n: u64) -> bool
     }
 }
 
-// Whether a run of acts can reach this state.
+// Every state that a run of acts can reach is one.
 pub fn is_state(sender: Sender) -> bool
     ensures { λ r. ⌜ r ≡ validSender sender ⌝ }
 {
@@ -73,17 +74,17 @@ pub fn new_sender(first: u64) -> SenderMade
     })
 }
 
-// The message that waits.
-pub fn named_message(p: Persisted, waiting: Waiting) -> Send
+// The message that waits for its answer.
+pub fn waiting_message(p: Persisted, waiting: Waiting) -> NumberedMessage
     requires { ⌜ p .delivered ≤ 999999999999999 ⌝ }
-    ensures { λ r. ⌜ r ≡ named p waiting ⌝ }
+    ensures { λ r. ⌜ r ≡ waitingMessage p waiting ⌝ }
 {
     match waiting {
-        Waiting::Closed => Send::NoSend,
-        Waiting::Idle => Send::NoSend,
-        Waiting::Resynchronizing => Send::SendResynchronize,
-        Waiting::Querying => Send::SendQuery,
-        Waiting::Sending => Send::SendTransaction(p.delivered + 1),
+        Waiting::Closed => NumberedMessage::Nothing,
+        Waiting::Idle => NumberedMessage::Nothing,
+        Waiting::Resynchronizing => NumberedMessage::Numbered(SequenceNumber::MinusOne),
+        Waiting::Querying => NumberedMessage::Numbered(SequenceNumber::Number(0)),
+        Waiting::Sending => NumberedMessage::Numbered(SequenceNumber::Number(p.delivered + 1)),
     }
 }
 
@@ -111,7 +112,7 @@ pub fn is_open(waiting: Waiting) -> bool
     }
 }
 
-pub fn act(sender: Sender, send: Send, sends: u64, event: Event) -> Acted
+pub fn act(sender: Sender, send: NumberedMessage, sends: u64, event: Event) -> Acted
     ensures { λ r. ⌜ r ≡ acted sender send sends event ⌝ }
 {
     Acted {
@@ -136,14 +137,14 @@ pub fn begin(p: Persisted, waiting: Waiting, event: Event) -> Acted
         waiting,
         sends,
     };
-    act(next, named_message(p, waiting), sends, event)
+    act(next, waiting_message(p, waiting), sends, event)
 }
 
 // Nothing is sent.
 pub fn stay(sender: Sender, event: Event) -> Acted
     ensures { λ r. ⌜ r ≡ stays sender event ⌝ }
 {
-    act(sender, Send::NoSend, sender.sends, event)
+    act(sender, NumberedMessage::Nothing, sender.sends, event)
 }
 
 pub fn refuse(number: u64, sender: Sender) -> Acted
@@ -152,7 +153,7 @@ pub fn refuse(number: u64, sender: Sender) -> Acted
     Acted {
         number,
         sender,
-        send: Send::NoSend,
+        send: NumberedMessage::Nothing,
         sends: sender.sends,
         event: Event::NoEvent,
         block: 0,
@@ -167,7 +168,7 @@ pub fn refuse_state(sender: Sender) -> Acted
     Acted {
         number: 11,
         sender,
-        send: Send::NoSend,
+        send: NumberedMessage::Nothing,
         sends: 0,
         event: Event::NoEvent,
         block: 0,
@@ -184,5 +185,5 @@ pub fn close(p: Persisted, sends: u64, event: Event) -> Acted
         waiting: Waiting::Closed,
         sends: 0,
     };
-    act(next, Send::NoSend, sends, event)
+    act(next, NumberedMessage::Nothing, sends, event)
 }

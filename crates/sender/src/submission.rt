@@ -1,8 +1,8 @@
 // Submitting a transaction.
 use crate::Acted;
 use crate::Event;
+use crate::NumberedMessage;
 use crate::Persisted;
-use crate::Send;
 use crate::Sender;
 use crate::Waiting;
 use crate::state::begin;
@@ -103,7 +103,7 @@ fn refuse_byte(offset: usize, sender: Sender) -> Acted
     Acted {
         number: 3,
         sender,
-        send: Send::NoSend,
+        send: NumberedMessage::Nothing,
         sends: sender.sends,
         event: Event::NoEvent,
         block: 0,

@@ -10,17 +10,16 @@ use Rattle.lists.proofs.Tests.{and-left, and-right}
 use Rattle.numbers.specs.Numbers.{greatestSent}
 use Rattle.numbers.specs.declared.SequenceNumber.{SequenceNumber}
 use Rattle.numbers.specs.declared.SequenceNumber.the-variants.{MinusOne, Number}
-use Rattle.sender.specs.Sender.{validSender, freshSender, firstSends, named, waitingNumber}
+use Rattle.sender.specs.Sender.{validSender, freshSender, firstSends, waitingMessage}
 use Rattle.sender.specs.declared.Persisted.{Persisted}
 use Rattle.sender.specs.declared.Waiting.{Waiting}
 use Rattle.sender.specs.declared.Waiting.the-variants.{Closed, Idle, Resynchronizing, Querying, Sending}
-use Rattle.sender.specs.declared.WaitingNumber.{WaitingNumber}
+use Rattle.sender.specs.declared.NumberedMessage.{NumberedMessage}
 use Rattle.sender.specs.declared.Sender.{Sender}
-use Rattle.sender.specs.declared.Send.{Send}
 use Rattle.sender.specs.declared.Event.{Event}
 use Rattle.sender.specs.declared.Acted.{Acted}
 use Rattle.sender_theorems.specs.Acts.{Act, actOf, resendsOf, Doing, does, crashes, afterOf, within}
-use Rattle.sender_theorems.specs.History.{Entry, told, historyOf, waitsOf, sentOf, is, counted, countedOf, givesUp, sendsToTell}
+use Rattle.sender_theorems.specs.History.{Entry, told, historyOf, waitsOf, is, counted, countedOf, givesUp, sendsToTell}
 use Rattle.sender_theorems.proofs.Valid.{WaitsRight, Right, right-from}
 use Rattle.sender_theorems.proofs.Steps.{Step, StepOf, refuses, keeps, starts, resends, gives-up, shuts, steps}
 use Rattle.sender_theorems.proofs.Invariant.{step-right, reachable-valid}
@@ -37,7 +36,7 @@ record Few (r n k : ℕ) : Type 0 where
   after : n ≤ r + 1
   said : k ≤ r + 1
 
-few-step : {q n k : ℕ} {s t : Sender} {m : Send} {e : Event} (r : ℕ) → q ≤ r → s .sends ≤ r + 1 → Step q s n t m k e → Few r (t .sends) k
+few-step : {q n k : ℕ} {s t : Sender} {m : NumberedMessage} {e : Event} (r : ℕ) → q ≤ r → s .sends ≤ r + 1 → Step q s n t m k e → Few r (t .sends) k
 few-step r l b (refuses h) = record { after = b; said = b }
 few-step r l b (keeps w g j u) = record { after = b; said = b }
 few-step r l b (starts {w = w} g j f) = let o = first-few w in record { after = omega arith; said = omega arith }
@@ -58,7 +57,7 @@ module _ (f : ℕ) (least : 1 ≤ f) (most : f ≤ greatestSent) (r : ℕ) where
   few-sends xs h a l = few-step r l (few-after xs h) (steps (afterOf (freshSender f) xs) (reachable-valid f least most xs) a) .said
 
 -- "while fewer than r + 1 sends were made of it, and otherwise gives up"
-up-step : {r n k : ℕ} {s t : Sender} {m : Send} {e : Event} → Step r s n t m k e → givesUp e ≡ true → r + 1 ≤ k
+up-step : {r n k : ℕ} {s t : Sender} {m : NumberedMessage} {e : Event} → Step r s n t m k e → givesUp e ≡ true → r + 1 ≤ k
 up-step (refuses h) u = let z : _≡_ {A = ℕ} 0 1 = cc in absurd (omega arith)
 up-step (keeps w g j v) u = let z : _≡_ {A = ℕ} 0 1 = cc in absurd (omega arith)
 up-step (starts g j f) u = let z : _≡_ {A = ℕ} 0 1 = cc in absurd (omega arith)
@@ -79,41 +78,32 @@ same-count true true x y e h = omega arith
 same-count true false x y e h = let z : _≡_ {A = ℕ} 0 1 = cc in absurd (omega arith)
 same-count false c x y e h = refl
 
-first-count : (a b c : Bool) (x y n : ℕ) → a ≡ b → (b ≡ true → c ≡ false) → (b ≡ true → n ≡ 1) → x ≡ cond c y 0 → cond b (cond a 1 0 + x) 0 ≡ cond b n 0
-first-count a false c x y n i f g h = refl
-first-count a true false x y n i f g h = let o = g refl in rw i (omega arith)
-first-count a true true x y n i f g h = let d = f refl in let z : _≡_ {A = ℕ} 0 1 = cc in absurd (omega arith)
+first-count : (b c : Bool) (x y n : ℕ) → (b ≡ true → c ≡ false) → (b ≡ true → n ≡ 1) → x ≡ cond c y 0 → cond b (cond b 1 0 + x) 0 ≡ cond b n 0
+first-count false c x y n f g h = refl
+first-count true false x y n f g h = let o = g refl in omega arith
+first-count true true x y n f g h = let d = f refl in let z : _≡_ {A = ℕ} 0 1 = cc in absurd (omega arith)
 
-more-count : (a b : Bool) (x y : ℕ) → a ≡ b → x ≡ cond b y 0 → cond b (cond a 1 0 + x) 0 ≡ cond b (y + 1) 0
-more-count a false x y i h = refl
-more-count a true x y i h = rw i (omega arith)
+more-count : (b : Bool) (x y : ℕ) → x ≡ cond b y 0 → cond b (cond b 1 0 + x) 0 ≡ cond b (y + 1) 0
+more-count false x y h = refl
+more-count true x y h = omega arith
 
-sent-named : (p : Persisted) (w : Waiting) → sentOf (named p w) ≡ waitingNumber p w
-sent-named p Closed = refl
-sent-named p Idle = refl
-sent-named p Resynchronizing = refl
-sent-named p Querying = refl
-sent-named p Sending = refl
-
-first-one : (p : Persisted) (w : Waiting) (m : SequenceNumber) → is m (waitingNumber p w) ≡ true → firstSends w ≡ 1
+first-one : (p : Persisted) (w : Waiting) (m : SequenceNumber) → is m (waitingMessage p w) ≡ true → firstSends w ≡ 1
 first-one p Closed m e = let z : _≡_ {A = ℕ} 0 1 = cc in absurd (omega arith)
 first-one p Idle m e = let z : _≡_ {A = ℕ} 0 1 = cc in absurd (omega arith)
 first-one p Resynchronizing m e = refl
 first-one p Querying m e = refl
 first-one p Sending m e = refl
 
-counts-step : {r n k : ℕ} {s t : Sender} {c : Send} {e : Event} (h : List Entry) → Counts s h → Step r s n t c k e → (m : SequenceNumber)
-    → cond (is m (waitsOf t)) (cond (is m (sentOf c)) 1 0 + counted m h) 0 ≡ cond (is m (waitsOf t)) (t .sends) 0
+counts-step : {r n k : ℕ} {s t : Sender} {c : NumberedMessage} {e : Event} (h : List Entry) → Counts s h → Step r s n t c k e → (m : SequenceNumber)
+    → cond (is m (waitsOf t)) (cond (is m c) 1 0 + counted m h) 0 ≡ cond (is m (waitsOf t)) (t .sends) 0
 counts-step {s = s} h i (refuses l) m = same-count (is m (waitsOf s)) (is m (waitsOf s)) (counted m h) (s .sends) refl (i m)
 counts-step {s = s} h i (keeps {p = p} {w = w} e g j u) m =
-    same-count (is m (waitingNumber p w)) (is m (waitsOf s)) (counted m h) (s .sends)
-    (ap (λ (z : WaitingNumber). is m z) u ∙ sym (ap (λ (z : Waiting). is m (waitingNumber (s .persisted) z)) e)) (i m)
+    same-count (is m (waitingMessage p w)) (is m (waitsOf s)) (counted m h) (s .sends)
+    (ap (λ (z : NumberedMessage). is m z) u ∙ sym (ap (λ (z : Waiting). is m (waitingMessage (s .persisted) z)) e)) (i m)
 counts-step {s = s} h i (starts {p = p} {w = w} g j f) m =
-    first-count (is m (sentOf (named p w))) (is m (waitingNumber p w)) (is m (waitsOf s)) (counted m h) (s .sends) (firstSends w)
-    (ap (λ (z : WaitingNumber). is m z) (sent-named p w)) (f m) (first-one p w m) (i m)
+    first-count (is m (waitingMessage p w)) (is m (waitsOf s)) (counted m h) (s .sends) (firstSends w) (f m) (first-one p w m) (i m)
 counts-step {s = s} h i (resends l j) m =
-    more-count (is m (sentOf (named (s .persisted) (s .waiting)))) (is m (waitsOf s)) (counted m h) (s .sends)
-    (ap (λ (z : WaitingNumber). is m z) (sent-named (s .persisted) (s .waiting))) (i m)
+    more-count (is m (waitsOf s)) (counted m h) (s .sends) (i m)
 counts-step h i (gives-up j l w) m = refl
 counts-step h i (shuts g j) m = refl
 
@@ -122,7 +112,7 @@ data Tells (n m k : ℕ) (e : Event) : Type 0 where
   tells-after : givesUp e ≡ false → k ≡ m → Tells n m k e
   tells-before : givesUp e ≡ true → k ≡ n → Tells n m k e
 
-tells : {r n k : ℕ} {s t : Sender} {c : Send} {e : Event} → Step r s n t c k e → Tells (s .sends) (t .sends) k e
+tells : {r n k : ℕ} {s t : Sender} {c : NumberedMessage} {e : Event} → Step r s n t c k e → Tells (s .sends) (t .sends) k e
 tells (refuses l) = tells-after refl refl
 tells (keeps w g j u) = tells-after g refl
 tells (starts g j f) = tells-after g refl
@@ -131,8 +121,8 @@ tells (gives-up j l w) = tells-before refl refl
 tells (shuts g j) = tells-after g refl
 
 -- the state's number is the history's count of what waits
-count-is : (p : Persisted) (w : Waiting) (n : ℕ) (h : List Entry) → WaitsRight p w n → ((m : SequenceNumber) → counted m h ≡ cond (is m (waitingNumber p w)) n 0)
-    → n ≡ countedOf (waitingNumber p w) h
+count-is : (p : Persisted) (w : Waiting) (n : ℕ) (h : List Entry) → WaitsRight p w n → ((m : SequenceNumber) → counted m h ≡ cond (is m (waitingMessage p w)) n 0)
+    → n ≡ countedOf (waitingMessage p w) h
 count-is p Closed n h i c = i
 count-is p Idle n h i c = i .1 .none
 count-is p Resynchronizing n h i c = sym (c MinusOne)

@@ -12,13 +12,13 @@ use Rattle.sender.specs.Sender.{validSender, freshSender, senderOf}
 use Rattle.sender.specs.declared.Sender.{Sender}
 use Rattle.sender.specs.declared.SenderMade.{SenderMade}
 use Rattle.sender.specs.declared.SenderMade.the-variants.{Refused, Made}
-use Rattle.sender.specs.declared.Send.{Send}
+use Rattle.sender.specs.declared.NumberedMessage.{NumberedMessage}
 use Rattle.sender.specs.declared.Event.{Event}
 use Rattle.sender_theorems.specs.Acts.{Act, actOf, crashOf, Doing, does, crashes, doneOf, afterOf}
 use Rattle.sender_theorems.proofs.Valid.{Right, right-from, right-valid}
 use Rattle.sender_theorems.proofs.Steps.{Step, refuses, keeps, starts, resends, gives-up, shuts, steps}
 
-pub step-right : {r n k : ℕ} {s t : Sender} {m : Send} {e : Event} → Right (s .persisted) (s .waiting) (s .sends) → Step r s n t m k e
+pub step-right : {r n k : ℕ} {s t : Sender} {m : NumberedMessage} {e : Event} → Right (s .persisted) (s .waiting) (s .sends) → Step r s n t m k e
     → Right (t .persisted) (t .waiting) (t .sends)
 step-right i (refuses l) = i
 step-right i (keeps w g j u) = j

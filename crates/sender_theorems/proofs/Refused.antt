@@ -8,13 +8,13 @@ use borrow.Author.Tests.{leb-true}
 use Rattle.lists.proofs.Tests.{cond-ind}
 use Rattle.sender.specs.Sender.{validSender, noState, openOf, endedOf, resetOf, validResends, checked, timerOf, blockReadOf, validLimit, submitOf}
 use Rattle.sender.specs.declared.Sender.{Sender}
-use Rattle.sender.specs.declared.Send.{Send}
+use Rattle.sender.specs.declared.NumberedMessage.{NumberedMessage}
 use Rattle.sender.specs.declared.Event.{Event}
 use Rattle.sender.specs.declared.Acted.{Acted}
 use Rattle.sender_theorems.specs.Acts.{Act, opened, ended, reset, timer, block, submit, actOf}
 use Rattle.sender_theorems.proofs.Steps.{Step, refuses, keeps, starts, resends, gives-up, shuts, steps}
 
-step-same : {r n k : ℕ} {s t : Sender} {m : Send} {e : Event} → Step r s n t m k e → 1 ≤ n → t ≡ s
+step-same : {r n k : ℕ} {s t : Sender} {m : NumberedMessage} {e : Event} → Step r s n t m k e → 1 ≤ n → t ≡ s
 step-same (refuses h) l = refl
 step-same (keeps w g j u) l = absurd (omega arith)
 step-same (starts g j f) l = absurd (omega arith)

@@ -28,15 +28,13 @@ use Rattle.header.specs.declared.Code.{Code}
 use Rattle.header.specs.declared.Code.the-variants.{AA, AE, AR}
 use Rattle.header.specs.declared.CodeField.{CodeField}
 use Rattle.header.specs.declared.CodeField.the-variants.{Other, Known}
-use Rattle.sender.specs.Sender.{validSender, named, firstSends, begins, stays, refused, openedOf, openIn, openOf, isOpen, endedOf, thawed, resetOf, againOf, dueIn, validResends, checked, timerOf, goesOn, frozenOf, freezes, resynchronizedOf, deliveredOf, knownNumber, rejectNumber, hearResynchronizing, hearQuerying, hearSending, hearWith, heardOf, waitingNumber, answeredBy, dataBlock, blockIn, blockReadOf, takesNumber, submitted, takenIn, submittedHeader, validLimit, submitOf}
+use Rattle.sender.specs.Sender.{validSender, firstSends, begins, stays, refused, openedOf, openIn, openOf, isOpen, endedOf, thawed, resetOf, againOf, dueIn, validResends, checked, timerOf, goesOn, frozenOf, freezes, resynchronizedOf, deliveredOf, knownNumber, rejectNumber, hearResynchronizing, hearQuerying, hearSending, hearWith, heardOf, waitingMessage, answeredBy, dataBlock, blockIn, blockReadOf, takesNumber, submitted, takenIn, submittedHeader, validLimit, submitOf}
 use Rattle.sender.specs.declared.Persisted.{Persisted}
 use Rattle.sender.specs.declared.Waiting.{Waiting}
 use Rattle.sender.specs.declared.Waiting.the-variants.{Closed, Idle, Resynchronizing, Querying, Sending}
-use Rattle.sender.specs.declared.WaitingNumber.{WaitingNumber}
-use Rattle.sender.specs.declared.WaitingNumber.the-variants.{Nothing, Waits}
+use Rattle.sender.specs.declared.NumberedMessage.{NumberedMessage}
+use Rattle.sender.specs.declared.NumberedMessage.the-variants.{Nothing, Numbered}
 use Rattle.sender.specs.declared.Sender.{Sender}
-use Rattle.sender.specs.declared.Send.{Send}
-use Rattle.sender.specs.declared.Send.the-variants.{NoSend}
 use Rattle.sender.specs.declared.Event.{Event}
 use Rattle.sender.specs.declared.Event.the-variants.{NoEvent, GaveUp, Dropped}
 use Rattle.sender.specs.declared.Acted.{Acted}
@@ -45,37 +43,37 @@ use Rattle.sender_theorems.specs.History.{is, givesUp}
 use Rattle.sender_theorems.proofs.Valid.{Stored, OnCircuit, Sent, WaitsRight, Right, right-from}
 
 -- what begins to wait did not wait before
-abbrev pub Fresh : WaitingNumber → WaitingNumber → Type 0
+abbrev pub Fresh : NumberedMessage → NumberedMessage → Type 0
 Fresh before after = (m : SequenceNumber) → is m after ≡ true → is m before ≡ false
 
-pub data Step (r : ℕ) (s : Sender) : ℕ → Sender → Send → ℕ → Event → Type 0 where
-  refuses : {n : ℕ} → 1 ≤ n → Step r s n s NoSend (s .sends) NoEvent
+pub data Step (r : ℕ) (s : Sender) : ℕ → Sender → NumberedMessage → ℕ → Event → Type 0 where
+  refuses : {n : ℕ} → 1 ≤ n → Step r s n s Nothing (s .sends) NoEvent
   -- what waits goes on waiting, and nothing is sent
-  keeps : {p : Persisted} {w : Waiting} {e : Event} → s .waiting ≡ w → givesUp e ≡ false → Right p w (s .sends) → waitingNumber p w ≡ waitingNumber (s .persisted) w
-      → Step r s 0 (record { persisted = p; waiting = w; sends = s .sends }) NoSend (s .sends) e
-  starts : {p : Persisted} {w : Waiting} {e : Event} → givesUp e ≡ false → Right p w (firstSends w) → Fresh (waitingNumber (s .persisted) (s .waiting)) (waitingNumber p w)
-      → Step r s 0 (record { persisted = p; waiting = w; sends = firstSends w }) (named p w) (firstSends w) e
+  keeps : {p : Persisted} {w : Waiting} {e : Event} → s .waiting ≡ w → givesUp e ≡ false → Right p w (s .sends) → waitingMessage p w ≡ waitingMessage (s .persisted) w
+      → Step r s 0 (record { persisted = p; waiting = w; sends = s .sends }) Nothing (s .sends) e
+  starts : {p : Persisted} {w : Waiting} {e : Event} → givesUp e ≡ false → Right p w (firstSends w) → Fresh (waitingMessage (s .persisted) (s .waiting)) (waitingMessage p w)
+      → Step r s 0 (record { persisted = p; waiting = w; sends = firstSends w }) (waitingMessage p w) (firstSends w) e
   resends : s .sends < r + 1 → Right (s .persisted) (s .waiting) (s .sends + 1)
-      → Step r s 0 (record { persisted = s .persisted; waiting = s .waiting; sends = s .sends + 1 }) (named (s .persisted) (s .waiting)) (s .sends + 1) NoEvent
-  gives-up : {v : SequenceNumber} → Stored (s .persisted) → r + 1 ≤ s .sends → waitingNumber (s .persisted) (s .waiting) ≡ Waits v
-      → Step r s 0 (record { persisted = s .persisted; waiting = Closed; sends = 0 }) NoSend (s .sends) GaveUp
-  shuts : {p : Persisted} {e : Event} → givesUp e ≡ false → Stored p → Step r s 0 (record { persisted = p; waiting = Closed; sends = 0 }) NoSend 0 e
+      → Step r s 0 (record { persisted = s .persisted; waiting = s .waiting; sends = s .sends + 1 }) (waitingMessage (s .persisted) (s .waiting)) (s .sends + 1) NoEvent
+  gives-up : {v : SequenceNumber} → Stored (s .persisted) → r + 1 ≤ s .sends → waitingMessage (s .persisted) (s .waiting) ≡ Numbered v
+      → Step r s 0 (record { persisted = s .persisted; waiting = Closed; sends = 0 }) Nothing (s .sends) GaveUp
+  shuts : {p : Persisted} {e : Event} → givesUp e ≡ false → Stored p → Step r s 0 (record { persisted = p; waiting = Closed; sends = 0 }) Nothing 0 e
 
 abbrev pub StepOf : ℕ → Sender → Acted → Type 0
 StepOf r s a = Step r s (a .number) (a .sender) (a .send) (a .sends) (a .event)
 
-none-fresh : (v : WaitingNumber) → Fresh Nothing v
+none-fresh : (v : NumberedMessage) → Fresh Nothing v
 none-fresh v m e = refl
 
-fresh-none : (v : WaitingNumber) → Fresh v Nothing
+fresh-none : (v : NumberedMessage) → Fresh v Nothing
 fresh-none v m e = let z : _≡_ {A = ℕ} 0 1 = cc in absurd (omega arith)
 
 -- -1, then a transaction; 0, then a transaction; a transaction, then a later one
-after-minus-one : (k : ℕ) → Fresh (Waits MinusOne) (Waits (Number k))
+after-minus-one : (k : ℕ) → Fresh (Numbered MinusOne) (Numbered (Number k))
 after-minus-one k MinusOne e = let z : _≡_ {A = ℕ} 0 1 = cc in absurd (omega arith)
 after-minus-one k (Number n) e = refl
 
-after-number : (j k : ℕ) → j < k → Fresh (Waits (Number j)) (Waits (Number k))
+after-number : (j k : ℕ) → j < k → Fresh (Numbered (Number j)) (Numbered (Number k))
 after-number j k l MinusOne e = let z : _≡_ {A = ℕ} 0 1 = cc in absurd (omega arith)
 after-number j k l (Number n) e = let f = eqb-true n k e in ne-eqb n j (λ (g : n ≡ j). omega arith)
 
@@ -105,12 +103,12 @@ module _ (r : ℕ) (s : Sender) (i : Stored (s .persisted)) where
 
   -- going on with p: the transaction after the mark, or nothing
   steps-on : (p : Persisted) (e : Event) → givesUp e ≡ false → Stored p → OnCircuit p true
-      → Fresh (waitingNumber (s .persisted) (s .waiting)) (Waits (Number (p .delivered + 1))) → StepOf r s (goesOn p e)
+      → Fresh (waitingMessage (s .persisted) (s .waiting)) (Numbered (Number (p .delivered + 1))) → StepOf r s (goesOn p e)
   steps-on p e g j o f =
       cond-ind (λ (w : Waiting). StepOf r s (begins p w e)) (ltb (p .delivered) (p .last)) _ _
       (λ l. starts g (record { stored = j; waits = (o, record { more = ltb-true (p .delivered) (p .last) l; sent = one-sent }) }) f)
       (λ l. let m = ltb-false (p .delivered) (p .last) l in
-      starts g (record { stored = j; waits = (o, record { all = omega arith; none = refl }) }) (fresh-none (waitingNumber (s .persisted) (s .waiting))))
+      starts g (record { stored = j; waits = (o, record { all = omega arith; none = refl }) }) (fresh-none (waitingMessage (s .persisted) (s .waiting))))
 
 -- ---- circuits
 module _ (s : Sender) (v : validSender s ≡ true) where
@@ -121,8 +119,8 @@ module _ (s : Sender) (v : validSender s ≡ true) where
   at : (w : Waiting) → s .waiting ≡ w → WaitsRight (s .persisted) w (s .sends)
   at w e = rw e at (now .waits)
 
-  fresh-at : (w : Waiting) (n : WaitingNumber) → s .waiting ≡ w → Fresh (waitingNumber (s .persisted) w) n → Fresh (waitingNumber (s .persisted) (s .waiting)) n
-  fresh-at w n e f m g = ap (λ (z : Waiting). is m (waitingNumber (s .persisted) z)) e ∙ f m g
+  fresh-at : (w : Waiting) (n : NumberedMessage) → s .waiting ≡ w → Fresh (waitingMessage (s .persisted) w) n → Fresh (waitingMessage (s .persisted) (s .waiting)) n
+  fresh-at w n e f m g = ap (λ (z : Waiting). is m (waitingMessage (s .persisted) z)) e ∙ f m g
 
   valid-test : {A : Type 0} (P : A → Type 0) (x y : A) → P x → P (cond (validSender s) x y)
   valid-test P x y h = cond-ind P (validSender s) x y (λ e. h) (λ e. let z : _≡_ {A = ℕ} 0 1 = cc in absurd (omega arith))
@@ -130,8 +128,8 @@ module _ (s : Sender) (v : validSender s ≡ true) where
   steps-opened : (r : ℕ) → s .waiting ≡ Closed → s .persisted .frozen ≡ false → StepOf r s (openedOf (s .persisted))
   steps-opened r e f =
       cond-ind (λ (w : Waiting). StepOf r s (begins (s .persisted) w NoEvent)) (s .persisted .resynchronized) _ _
-      (λ y. starts refl (record { stored = now .stored; waits = (record { thawed = f; synchronized = y }, one-sent) }) (fresh-at Closed (Waits (Number 0)) e (none-fresh (Waits (Number 0)))))
-      (λ y. starts refl (record { stored = now .stored; waits = (record { thawed = f; synchronized = y }, one-sent) }) (fresh-at Closed (Waits MinusOne) e (none-fresh (Waits MinusOne))))
+      (λ y. starts refl (record { stored = now .stored; waits = (record { thawed = f; synchronized = y }, one-sent) }) (fresh-at Closed (Numbered (Number 0)) e (none-fresh (Numbered (Number 0)))))
+      (λ y. starts refl (record { stored = now .stored; waits = (record { thawed = f; synchronized = y }, one-sent) }) (fresh-at Closed (Numbered MinusOne) e (none-fresh (Numbered MinusOne))))
 
   refusal : (r n : ℕ) → 1 ≤ n → StepOf r s (refused n s)
   refusal r n h = refuses h
@@ -158,7 +156,7 @@ module _ (s : Sender) (v : validSender s ≡ true) where
       valid-test (StepOf r s) _ _ (cond-ind (StepOf r s) (s .persisted .frozen) _ _ (λ e. shuts refl (thawed-stored (s .persisted) (now .stored))) (λ e. refusal r 11 (omega arith)))
 
   -- ---- a timer, an N block, a refused block
-  again : (r : ℕ) → validResends r ≡ true → (u : SequenceNumber) → waitingNumber (s .persisted) (s .waiting) ≡ Waits u
+  again : (r : ℕ) → validResends r ≡ true → (u : SequenceNumber) → waitingMessage (s .persisted) (s .waiting) ≡ Numbered u
       → ((n : ℕ) → Sent n → WaitsRight (s .persisted) (s .waiting) n) → StepOf r s (againOf r s)
   again r v u e f =
       let m = leb-true r 99 v in
@@ -169,8 +167,8 @@ module _ (s : Sender) (v : validSender s ≡ true) where
   steps-due : (r : ℕ) → validResends r ≡ true → StepOf r s (dueIn r s (s .waiting))
   steps-due r v = go (s .waiting) refl
     where
-      waits-at : (w : Waiting) → s .waiting ≡ w → waitingNumber (s .persisted) (s .waiting) ≡ waitingNumber (s .persisted) w
-      waits-at w e = ap (λ (z : Waiting). waitingNumber (s .persisted) z) e
+      waits-at : (w : Waiting) → s .waiting ≡ w → waitingMessage (s .persisted) (s .waiting) ≡ waitingMessage (s .persisted) w
+      waits-at w e = ap (λ (z : Waiting). waitingMessage (s .persisted) z) e
 
       right-at : (w : Waiting) (n : ℕ) → s .waiting ≡ w → WaitsRight (s .persisted) w n → WaitsRight (s .persisted) (s .waiting) n
       right-at w n e h = rw e h
@@ -200,14 +198,14 @@ module _ (s : Sender) (v : validSender s ≡ true) where
   steps-freezes r = steps-freeze r s (now .stored)
 
   goes-on : (r : ℕ) (p : Persisted) (e : Event) → givesUp e ≡ false → Stored p → OnCircuit p true
-      → Fresh (waitingNumber (s .persisted) (s .waiting)) (Waits (Number (p .delivered + 1))) → StepOf r s (goesOn p e)
+      → Fresh (waitingMessage (s .persisted) (s .waiting)) (Numbered (Number (p .delivered + 1))) → StepOf r s (goesOn p e)
   goes-on r = steps-on r s (now .stored)
 
   steps-resynchronizing : (r : ℕ) → s .waiting ≡ Resynchronizing → (c : Code) (n : SequenceNumber) → StepOf r s (hearResynchronizing s c n)
   steps-resynchronizing r e AA MinusOne =
       goes-on r (resynchronizedOf (s .persisted)) NoEvent refl (resynchronized-stored (s .persisted) (now .stored))
       (record { thawed = at Resynchronizing e .0 .thawed; synchronized = refl })
-      (fresh-at Resynchronizing (Waits (Number (s .persisted .delivered + 1))) e (after-minus-one (s .persisted .delivered + 1)))
+      (fresh-at Resynchronizing (Numbered (Number (s .persisted .delivered + 1))) e (after-minus-one (s .persisted .delivered + 1)))
   steps-resynchronizing r e AA (Number n) = steps-freezes r
   steps-resynchronizing r e AE n = steps-freezes r
   steps-resynchronizing r e AR n = steps-freezes r
@@ -215,14 +213,14 @@ module _ (s : Sender) (v : validSender s ≡ true) where
   -- on with the mark as it is, or moved by one
   on-same : (r : ℕ) → s .waiting ≡ Querying → StepOf r s (goesOn (s .persisted) NoEvent)
   on-same r e =
-      goes-on r (s .persisted) NoEvent refl (now .stored) (at Querying e .0) (fresh-at Querying (Waits (Number (s .persisted .delivered + 1))) e (after-number 0 (s .persisted .delivered + 1) (omega arith)))
+      goes-on r (s .persisted) NoEvent refl (now .stored) (at Querying e .0) (fresh-at Querying (Numbered (Number (s .persisted .delivered + 1))) e (after-number 0 (s .persisted .delivered + 1) (omega arith)))
 
-  on-moved : (r : ℕ) (w : Waiting) (k : ℕ) (e : Event) → givesUp e ≡ false → s .waiting ≡ w → waitingNumber (s .persisted) w ≡ Waits (Number k) → k < s .persisted .delivered + 1 + 1
+  on-moved : (r : ℕ) (w : Waiting) (k : ℕ) (e : Event) → givesUp e ≡ false → s .waiting ≡ w → waitingMessage (s .persisted) w ≡ Numbered (Number k) → k < s .persisted .delivered + 1 + 1
       → OnCircuit (s .persisted) true → s .persisted .delivered < s .persisted .last → StepOf r s (goesOn (deliveredOf (s .persisted)) e)
   on-moved r w k e g a b l o m =
       goes-on r (deliveredOf (s .persisted)) e g (delivered-stored (s .persisted) (now .stored) m) (record { thawed = o .thawed; synchronized = o .synchronized })
-      (fresh-at w (Waits (Number (s .persisted .delivered + 1 + 1))) a (λ (n : SequenceNumber) (h : is n (Waits (Number (s .persisted .delivered + 1 + 1))) ≡ true).
-      ap (λ (z : WaitingNumber). is n z) b ∙ after-number k (s .persisted .delivered + 1 + 1) l n h))
+      (fresh-at w (Numbered (Number (s .persisted .delivered + 1 + 1))) a (λ (n : SequenceNumber) (h : is n (Numbered (Number (s .persisted .delivered + 1 + 1))) ≡ true).
+      ap (λ (z : NumberedMessage). is n z) b ∙ after-number k (s .persisted .delivered + 1 + 1) l n h))
 
   steps-querying : (r : ℕ) → s .waiting ≡ Querying → (c : Code) (n : SequenceNumber) → StepOf r s (hearQuerying s c n)
   steps-querying r e AA MinusOne =
@@ -270,14 +268,14 @@ module _ (s : Sender) (v : validSender s ≡ true) where
   steps-heard r (Known c) NotNumber = steps-freezes r
   steps-heard r Other f = steps-freezes r
 
-  steps-answered : (r : ℕ) (id : List ℕ) (c : CodeField) (f : NumberField) (n : WaitingNumber) → StepOf r s (answeredBy s id c f n)
+  steps-answered : (r : ℕ) (id : List ℕ) (c : CodeField) (f : NumberField) (n : NumberedMessage) → StepOf r s (answeredBy s id c f n)
   steps-answered r id c f Nothing = steps-stays r NoEvent refl
-  steps-answered r id c f (Waits n) = cond-ind (StepOf r s) (same id (textOf n)) _ _ (λ h. steps-heard r c f) (λ h. steps-stays r Dropped refl)
+  steps-answered r id c f (Numbered n) = cond-ind (StepOf r s) (same id (textOf n)) _ _ (λ h. steps-heard r c f) (λ h. steps-stays r Dropped refl)
 
   -- ---- blocks
   steps-data : (r : ℕ) → validResends r ≡ true → (d : List ℕ) (a : Acknowledgment) → StepOf r s (dataBlock r s d a)
   steps-data r v d NoAnswer = steps-due r v
-  steps-data r v d (AnAnswer c k e) = steps-answered r (bytesOf k d) (codeField (bytesOf c d)) (numberField greatestExpected (bytesOf e d)) (waitingNumber (s .persisted) (s .waiting))
+  steps-data r v d (AnAnswer c k e) = steps-answered r (bytesOf k d) (codeField (bytesOf c d)) (numberField greatestExpected (bytesOf e d)) (waitingMessage (s .persisted) (s .waiting))
 
   steps-in : (r : ℕ) → validResends r ≡ true → (u : Verdict) (d : List ℕ) → StepOf r s (blockIn r s u d)
   steps-in r v (Accepted t n) d = cond-ind (StepOf r s) (eqb t 78) _ _ (λ e. steps-due r v) (λ e. steps-data r v d (acknowledgmentOf d))
@@ -307,7 +305,7 @@ module _ (s : Sender) (v : validSender s ≡ true) where
       go Idle e =
           let a = at Idle e .1 .all in
           starts {w = Sending} refl (record { stored = j; waits = (on true (at Idle e .0), record { more = omega arith; sent = one-sent }) })
-          (fresh-at Idle (Waits (Number (s .persisted .delivered + 1))) e (none-fresh (Waits (Number (s .persisted .delivered + 1)))))
+          (fresh-at Idle (Numbered (Number (s .persisted .delivered + 1))) e (none-fresh (Numbered (Number (s .persisted .delivered + 1)))))
       go Resynchronizing e = keeps e refl (record { stored = j; waits = (on false (at Resynchronizing e .0), at Resynchronizing e .1) }) refl
       go Querying e = keeps e refl (record { stored = j; waits = (on true (at Querying e .0), at Querying e .1) }) refl
       go Sending e =

@@ -5,12 +5,10 @@ use Prim.Native.Nat.{ℕ, _+_}
 use lib.Dec.{eqb}
 use Rattle.numbers.specs.declared.SequenceNumber.{SequenceNumber}
 use Rattle.numbers.specs.declared.SequenceNumber.the-variants.{MinusOne, Number}
-use Rattle.sender.specs.Sender.{waitingNumber}
+use Rattle.sender.specs.Sender.{waitingMessage}
 use Rattle.sender.specs.declared.Sender.{Sender}
-use Rattle.sender.specs.declared.WaitingNumber.{WaitingNumber}
-use Rattle.sender.specs.declared.WaitingNumber.the-variants.{Nothing, Waits}
-use Rattle.sender.specs.declared.Send.{Send}
-use Rattle.sender.specs.declared.Send.the-variants.{NoSend, SendResynchronize, SendQuery, SendTransaction}
+use Rattle.sender.specs.declared.NumberedMessage.{NumberedMessage}
+use Rattle.sender.specs.declared.NumberedMessage.the-variants.{Nothing, Numbered}
 use Rattle.sender.specs.declared.Event.{Event}
 use Rattle.sender.specs.declared.Event.the-variants.{NoEvent, Delivered, DeliveredUnknown, GaveUp, Froze, Dropped}
 use Rattle.sender.specs.declared.Acted.{Acted}
@@ -31,33 +29,26 @@ historyOf s [] = []
 historyOf s (x ∷ xs) = entryOf x (afterOf s xs) ∷ historyOf s xs
 
 -- the message that waits in a state, by its number (-1, 0 or a transaction's)
-abbrev pub waitsOf : Sender → WaitingNumber
-waitsOf s = waitingNumber (s .persisted) (s .waiting)
+abbrev pub waitsOf : Sender → NumberedMessage
+waitsOf s = waitingMessage (s .persisted) (s .waiting)
 
--- the message that an answer names
-abbrev pub sentOf : Send → WaitingNumber
-sentOf NoSend = Nothing
-sentOf SendResynchronize = Waits MinusOne
-sentOf SendQuery = Waits (Number 0)
-sentOf (SendTransaction n) = Waits (Number n)
-
-abbrev pub is : SequenceNumber → WaitingNumber → Bool
+abbrev pub is : SequenceNumber → NumberedMessage → Bool
 is m Nothing = false
-is MinusOne (Waits MinusOne) = true
-is MinusOne (Waits (Number k)) = false
-is (Number n) (Waits MinusOne) = false
-is (Number n) (Waits (Number k)) = eqb n k
+is MinusOne (Numbered MinusOne) = true
+is MinusOne (Numbered (Number k)) = false
+is (Number n) (Numbered MinusOne) = false
+is (Number n) (Numbered (Number k)) = eqb n k
 
 -- "the sends in the history since it began to wait on this circuit": those of m among the newest answers, as far back as m waited after each.
 -- When a circuit ended, and after a crash, nothing waited.
 abbrev pub counted : SequenceNumber → List Entry → ℕ
 counted m [] = 0
 counted m (crashed ∷ h) = 0
-counted m (told b ∷ h) = cond (is m (waitsOf (b .sender))) (cond (is m (sentOf (b .send))) 1 0 + counted m h) 0
+counted m (told b ∷ h) = cond (is m (waitsOf (b .sender))) (cond (is m (b .send)) 1 0 + counted m h) 0
 
-abbrev pub countedOf : WaitingNumber → List Entry → ℕ
+abbrev pub countedOf : NumberedMessage → List Entry → ℕ
 countedOf Nothing h = 0
-countedOf (Waits m) h = counted m h
+countedOf (Numbered m) h = counted m h
 
 abbrev pub givesUp : Event → Bool
 givesUp NoEvent = false

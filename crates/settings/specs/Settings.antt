@@ -34,6 +34,10 @@ valid s =
     byKind (s .kind) (hybridValid (s .«start_block») (s .«end_block») (s .«data_limit»))
     (minimalValid (s .«start_block») (s .«end_block») (s .«data_limit»))
 
+-- "for a sender or receiver at least 128"
+unfoldable pub validLink : Settings → Bool
+validLink s = valid s && leb 128 (s .«data_limit»)
+
 -- "as many as fit in D + 12 (minimal: D)"
 abbrev pub capacityOf : Settings → ℕ
 capacityOf s = byKind (s .kind) (s .«data_limit» + 12) (s .«data_limit»)

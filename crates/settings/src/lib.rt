@@ -1,6 +1,6 @@
 // The block settings of a link, and the bytes that data may have.
 ghost use mathlib.Core.Path.{_≡_};
-ghost use Rattle.settings.specs.Settings.{allowed, valid, dataOffsetOf, hybridOf, minimalOf};
+ghost use Rattle.settings.specs.Settings.{allowed, valid, validLink, dataOffsetOf, hybridOf, minimalOf};
 
 // The two lower layer protocols (000, C.2 and C.4).
 pub enum Kind {
@@ -35,6 +35,8 @@ impl Settings {
     pub const END_BLOCK: u8 = 28;
 
     pub const LARGEST_DATA_LIMIT: usize = 99994;
+    // For a sender or receiver.
+    pub const SMALLEST_LINK_LIMIT: usize = 128;
 
     // The settings of a hybrid link, or a refusal (1).
     pub fn hybrid(start_block: u64, end_block: u64, data_limit: u64) -> Made
@@ -95,6 +97,13 @@ impl Settings {
                 start_ok & end_ok & limit_ok
             }
         }
+    }
+
+    // Whether these are settings of a sender or receiver.
+    pub fn is_link(self) -> bool
+        ensures { λ r. ⌜ r ≡ validLink self ⌝ }
+    {
+        self.is_valid() & (Self::SMALLEST_LINK_LIMIT <= self.data_limit)
     }
 
     // Where an accepted block's data begins among the bytes after SB.

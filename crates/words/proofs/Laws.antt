@@ -1,25 +1,13 @@
--- Words written over the first of what was lent, and the state that words encode.
-use mathlib.Core.Path.{_≡_, _∙_}
-use mathlib.Core.List.{List, [], _∷_}
+-- The state that words encode.
+use mathlib.Core.Path.{_≡_}
+use mathlib.Core.List.{List}
 use Prim.Native.Nat.{ℕ, _≤_, _<_}
-use lib.ListN.{length, getD, set}
-use lib.Seq.{sets-eq}
+use lib.ListN.{length, getD}
 use borrow.Author.Tests.{eq-eqb, ne-eqb, lt-ltb, le-ltb}
-use Rattle.lists.proofs.Over.{enough}
 use Rattle.stream.specs.declared.Phase.the-variants.{Between, Inside, Ended}
-use Rattle.lists.specs.Bytes.{over}
 use Rattle.words.specs.Words.{decoded, withPhase}
 use Rattle.words.specs.declared.Decoded.the-variants.{Unknown}
 
-pub four : (l : List ℕ) (a b c d : ℕ) → 4 ≤ length l → set (set (set (set l 0 a) 1 b) 2 c) 3 d ≡ over l (a ∷ b ∷ c ∷ d ∷ [])
-four l a b c d h = sets-eq (a ∷ b ∷ c ∷ d ∷ []) l 0 h ∙ enough l (a ∷ b ∷ c ∷ d ∷ []) h
-
-pub eight : (l : List ℕ) (a b c d e f g i : ℕ) → 8 ≤ length l
-    → set (set (set (set (set (set (set (set l 0 a) 1 b) 2 c) 3 d) 4 e) 5 f) 6 g) 7 i ≡ over l (a ∷ b ∷ c ∷ d ∷ e ∷ f ∷ g ∷ i ∷ [])
-eight l a b c d e f g i h =
-    sets-eq (a ∷ b ∷ c ∷ d ∷ e ∷ f ∷ g ∷ i ∷ []) l 0 h ∙ enough l (a ∷ b ∷ c ∷ d ∷ e ∷ f ∷ g ∷ i ∷ []) h
-
--- the state that words encode
 pub decoded-few : (ws : List ℕ) → length ws < 4 → Unknown ≡ decoded ws
 unfolding decoded
 decoded-few ws h = rw (lt-ltb (length ws) 4 h)

@@ -1,4 +1,4 @@
--- What the 64-bit words that a C driver lends mean: a reader's state, a verdict, a writer's report.
+-- What the 64-bit words and numbers of a C driver mean: a reader's state, a verdict, a writer's report.
 use mathlib.Core.List.{List, [], _∷_}
 use mathlib.Core.Bool.{cond}
 use Prim.Native.Nat.{ℕ}
@@ -12,6 +12,8 @@ use Rattle.stream.specs.declared.Phase.the-variants.{Between, Inside, Ended}
 use Rattle.stream.specs.declared.Reader.{Reader}
 use Rattle.words.specs.declared.Decoded.{Decoded}
 use Rattle.words.specs.declared.Decoded.the-variants.{Unknown, Known}
+use Rattle.words.specs.declared.VerdictMade.{VerdictMade}
+use Rattle.words.specs.declared.VerdictMade.the-variants.{NoVerdict, AVerdict}
 
 abbrev pub phaseNumber : Phase → ℕ
 phaseNumber Between = 0
@@ -50,3 +52,20 @@ verdictWords s v o used =
 -- no block ended yet
 unfoldable pub pendingWords : ℕ → List ℕ
 pendingWords used = 0 ∷ 0 ∷ 0 ∷ 0 ∷ 0 ∷ 0 ∷ 0 ∷ used ∷ []
+
+-- GMV_REPORT_BLOCK_LENGTH or GMV_REPORT_MESSAGE_LENGTH, then GMV_REPORT_FORBIDDEN_OFFSET
+abbrev pub reportWords : ℕ → ℕ → List ℕ
+reportWords n i = n ∷ i ∷ []
+
+-- a type over 255 is no byte, and so a wrong type, as 0 is
+abbrev pub typeByte : ℕ → ℕ
+typeByte t = cond (ltb 255 t) 0 t
+
+-- the verdict that a reader gave, by its number and type
+abbrev pub verdictOf : ℕ → ℕ → VerdictMade
+verdictOf n t =
+    cond (eqb n 0) (AVerdict (Accepted (typeByte t) 0))
+    (cond (eqb n 3) (AVerdict (Byte 0))
+    (cond (eqb n 4) (AVerdict Long)
+    (cond (eqb n 5) (AVerdict Shape)
+    (cond (eqb n 6) (AVerdict Count) (cond (eqb n 7) (AVerdict Check) (cond (eqb n 8) (AVerdict Interrupted) NoVerdict))))))

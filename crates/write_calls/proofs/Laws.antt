@@ -1,21 +1,16 @@
 -- The ways in which a call of the writer returns.
 use mathlib.Core.Path.{_≡_, refl, ap, _∙_}
-use mathlib.Core.List.{List, [], _∷_}
+use mathlib.Core.List.{List, []}
 use Prim.Native.Nat.{ℕ, _≤_, _<_}
-use lib.ListN.{length, set}
-use lib.Seq.{sets-eq}
+use lib.ListN.{length}
 use borrow.Author.Tests.{lt-ltb, le-ltb}
 use Rattle.writer.specs.Write.{Outcome, writeOf}
 use Rattle.writer.specs.declared.Written.{Written}
 use Rattle.writer.specs.declared.Written.the-variants.{Block, Setting as WrongSetting, TooShort as WriterTooShort, Long as LongContent, Shape as WrongType, Byte as ForbiddenByte}
 use Rattle.settings.specs.declared.Settings.{Settings}
 use Rattle.settings.specs.declared.Made.the-variants.{Valid, Refused}
-use Rattle.lists.proofs.Over.{enough}
-use Rattle.lists.specs.Bytes.{over}
-use Rattle.write_calls.specs.WriteCalls.{WriteCall, writeCalled, writeFinished, typeByte, writeCall}
-
-pub two : (l : List ℕ) (a b : ℕ) → 2 ≤ length l → set (set l 0 a) 1 b ≡ over l (a ∷ b ∷ [])
-two l a b h = sets-eq (a ∷ b ∷ []) l 0 h ∙ enough l (a ∷ b ∷ []) h
+use Rattle.words.specs.Words.{typeByte}
+use Rattle.write_calls.specs.WriteCalls.{WriteCall, writeCalled, writeFinished, writeCall}
 
 pub write-refused : (t : ℕ) (d b : List ℕ) (start : ℕ) (p : List ℕ) → writeCalled 1 b p ≡ writeCall Refused t d b start p
 unfolding writeCall
@@ -36,9 +31,13 @@ written c p WrongType = refl
 written c p (ForbiddenByte i) = refl
 written c p (Block n) = refl
 
+-- the buffer is the writer's
+pub finished-with : (p c q : List ℕ) (w : Written) (n : ℕ) (o : Outcome) → writeCalled n [] q ≡ writeFinished [] p w
+    → _≡_ {A = Outcome} (record { answer = w; buffer = c }) o → writeCalled n c q ≡ writeFinished (o .buffer) p (o .answer)
+finished-with p c q w n o e f = ap (withWritten c) e ∙ written c p w ∙ ap (λ (z : Outcome). writeFinished (z .buffer) p (z .answer)) f
+
 pub write-done : (g : Settings) (t : ℕ) (d b : List ℕ) (start : ℕ) (p c q : List ℕ) (w : Written) (n : ℕ) → 2 ≤ length p
     → writeCalled n [] q ≡ writeFinished [] p w → _≡_ {A = Outcome} (record { answer = w; buffer = c }) (writeOf g (typeByte t) d start b)
     → writeCalled n c q ≡ writeCall (Valid g) t d b start p
 unfolding writeCall
-write-done g t d b start p c q w n h e f =
-    rw (le-ltb (length p) 2 h) (ap (withWritten c) e ∙ written c p w ∙ ap (λ (o : Outcome). writeFinished (o .buffer) p (o .answer)) f)
+write-done g t d b start p c q w n h e f = rw (le-ltb (length p) 2 h) (finished-with p c q w n (writeOf g (typeByte t) d start b) e f)

@@ -1,5 +1,5 @@
 -- What gmv_hybrid_write and gmv_minimal_write return and leave in what was lent, for every input (include/giamuvich.h). Order of refusals: 1, 2, 11.
-use mathlib.Core.List.{List, [], _∷_}
+use mathlib.Core.List.{List}
 use mathlib.Core.Bool.{cond}
 use Prim.Native.Nat.{ℕ}
 use lib.ListN.{length}
@@ -11,6 +11,7 @@ use Rattle.writer.specs.Write.{writeOf, numberOf as writtenNumber, forbiddenOff
 use Rattle.writer.specs.declared.Written.{Written}
 use Rattle.writer.specs.declared.Written.the-variants.{Block, Setting as WrongSetting, TooShort as WriterTooShort, Long as LongContent, Shape as WrongType, Byte as ForbiddenByte}
 use Rattle.lists.specs.Bytes.{over}
+use Rattle.words.specs.Words.{reportWords, typeByte}
 
 -- gmv_hybrid_write, gmv_minimal_write: the number, and what is left in the buffer and the report
 pub record WriteCall : Type 0 where
@@ -21,9 +22,8 @@ pub record WriteCall : Type 0 where
 abbrev pub writeCalled : ℕ → List ℕ → List ℕ → WriteCall
 writeCalled n b p = record { number = n; buffer = b; report = p }
 
--- GMV_REPORT_BLOCK_LENGTH, GMV_REPORT_FORBIDDEN_OFFSET
 abbrev pub writeReported : List ℕ → List ℕ → Written → WriteCall
-writeReported c p w = writeCalled (writtenNumber w) c (over p (writtenLength w ∷ writtenForbiddenOffset w ∷ []))
+writeReported c p w = writeCalled (writtenNumber w) c (over p (reportWords (writtenLength w) (writtenForbiddenOffset w)))
 
 -- 1 and 2 change nothing
 abbrev pub writeFinished : List ℕ → List ℕ → Written → WriteCall
@@ -33,10 +33,6 @@ writeFinished c p LongContent = writeReported c p LongContent
 writeFinished c p WrongType = writeReported c p WrongType
 writeFinished c p (ForbiddenByte i) = writeReported c p (ForbiddenByte i)
 writeFinished c p (Block n) = writeReported c p (Block n)
-
--- a type over 255 is no byte, and so a wrong type, as 0 is
-abbrev pub typeByte : ℕ → ℕ
-typeByte t = cond (ltb 255 t) 0 t
 
 unfoldable pub writeCall : Made → ℕ → List ℕ → List ℕ → ℕ → List ℕ → WriteCall
 writeCall Refused t d b start p = writeCalled (madeNumber Refused) b p

@@ -1,25 +1,14 @@
 // Writing one block.
 use settings::Made;
+use words::type_byte;
+use words::write_report;
 use writer::Written;
 ghost use mathlib.Core.Path.{_≡_};
-ghost use mathlib.Core.List.{[], _∷_};
-ghost use Prim.Native.Nat.{_≤_};
-ghost use lib.ListN.{length};
-ghost use Rattle.lists.specs.Bytes.{over};
-ghost use Rattle.write_calls.specs.WriteCalls.{writeCalled, writeFinished, typeByte, writeCall};
-
-// Writes over the first two words.
-fn write_report(report: &mut [u64], block_length: usize, offset: usize)
-    requires { ⌜ 2 ≤ length (now report) ⌝ }
-    ensures { λ r. ⌜ now (report .exit) ≡ over (now (report .entry)) («block_length» ∷ offset ∷ []) ⌝ }
-{
-    report[0] = block_length as u64;
-    report[1] = offset as u64;
-}
+ghost use mathlib.Core.List.{[]};
+ghost use Rattle.write_calls.specs.WriteCalls.{writeCalled, writeFinished, writeCall};
 
 // The number of what the writer answered, with the report written unless it was 1 or 2.
-fn report_written(written: Written, report: &mut [u64]) -> u64
-    requires { ⌜ 2 ≤ length (now report) ⌝ }
+pub fn report_written(written: Written, report: &mut [u64]) -> u64
     ensures { λ r. ⌜ writeCalled r [] (now (report .exit)) ≡ writeFinished [] (now (report .entry)) written ⌝ }
 {
     match written {
@@ -42,16 +31,6 @@ fn report_written(written: Written, report: &mut [u64]) -> u64
             0
         }
     }
-}
-
-// A type that is no byte counts as 0, which is no type.
-fn type_byte(t: u64) -> u8
-    ensures { λ r. ⌜ r ≡ typeByte t ⌝ }
-{
-    if 255 < t {
-        return 0;
-    }
-    t as u8
 }
 
 pub fn write_words(

@@ -13,14 +13,32 @@ pub const GUARD_BYTE: u8 = 0xC3;
 
 /// Draws random numbers for a group and counts what was compared: calls of the functions for
 /// blocks, and messages that were read or written. Of the messages read, those with a header that
-/// the model reads are counted too, and those with an answer.
+/// the model reads are counted too, and those with an answer. Acts are calls of the functions for
+/// the receiver and the sender, those on simulated links apart.
 pub struct Compare {
     pub random: Random,
     pub inputs: u64,
     pub messages: u64,
     pub headers: u64,
     pub answers: u64,
+    pub acts: u64,
+    pub link_acts: u64,
+    pub kinds: Kinds,
 }
+
+/// Acts by what every run promises: the receiver's by layer, the sender's by r (`RESENDS`), and those
+/// of either on numbers near the ends of their range.
+#[derive(Default)]
+pub struct Kinds {
+    pub hybrid: u64,
+    pub minimal: u64,
+    pub resends: [u64; 4],
+    pub small: u64,
+    pub large: u64,
+}
+
+/// The r that every run has.
+pub const RESENDS: [u64; 4] = [0, 1, 3, 99];
 
 /// One reading call, from any words.
 #[derive(Clone, Copy)]
@@ -90,6 +108,9 @@ impl Compare {
             messages: 0,
             headers: 0,
             answers: 0,
+            acts: 0,
+            link_acts: 0,
+            kinds: Kinds::default(),
         }
     }
 

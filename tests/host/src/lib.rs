@@ -1,7 +1,11 @@
 //! What the tests stand on: the rules of document 01 (`model` for blocks, `message_model` for header
-//! fields and messages), the C interface (`ffi`) and a seeded generator (`prng`).
+//! fields and messages, `receiver_model` and `sender_model` for the two ends of a link), the C
+//! interface (`ffi`, `ends_ffi`) and a seeded generator (`prng`).
 
+pub mod ends_ffi;
 pub mod ffi;
 pub mod message_model;
 pub mod model;
 pub mod prng;
+pub mod receiver_model;
+pub mod sender_model;

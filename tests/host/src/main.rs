@@ -1,12 +1,16 @@
 //! Runs the groups of tests: `hosttests [SEED] [GROUP]`. The seed is a decimal number.
 
 mod compare;
+mod compare_ends;
 mod compare_messages;
 mod faults;
 mod groups;
 mod guarded;
 mod library;
+mod line;
+mod link;
 mod make;
+mod make_ends;
 mod make_messages;
 mod real;
 
@@ -16,14 +20,50 @@ use std::time::Instant;
 
 const SEED: u64 = 20_261_115;
 
+const COUNTS: usize = 14;
+
 /// How many inputs a whole run compares at least: calls of the functions for blocks; messages read
-/// or written; and of the messages read, those whose header can be read, and those that are answers.
-const LEAST: [(&str, u64); 4] = [
+/// or written; of the messages read, those whose header can be read, and those that are answers;
+/// acts of the receiver and the sender compared with the model; acts on simulated links; and of the
+/// acts compared, those of each kind.
+const LEAST: [(&str, u64); COUNTS] = [
     ("inputs", 1_000_000),
     ("messages", 2_000_000),
     ("readable headers", 500_000),
     ("readable answers", 250_000),
+    ("acts", 1_000_000),
+    ("acts on links", 500_000),
+    ("acts of hybrid receivers", 200_000),
+    ("acts of minimal receivers", 100_000),
+    ("acts with r of 0", 50_000),
+    ("acts with r of 1", 50_000),
+    ("acts with r of 3", 50_000),
+    ("acts with r of 99", 50_000),
+    ("acts on numbers up to 100", 200_000),
+    ("acts on the last 100 numbers", 200_000),
 ];
+
+/// What a group compared, in the order of `LEAST`.
+fn counts(compare: &Compare) -> [u64; COUNTS] {
+    let kinds = &compare.kinds;
+    let [none, one, three, most] = kinds.resends;
+    [
+        compare.inputs,
+        compare.messages,
+        compare.headers,
+        compare.answers,
+        compare.acts,
+        compare.link_acts,
+        kinds.hybrid,
+        kinds.minimal,
+        none,
+        one,
+        three,
+        most,
+        kinds.small,
+        kinds.large,
+    ]
+}
 
 /// A seed of its own for each group, so that one group can be run alone.
 fn group_seed(seed: u64, name: &str) -> u64 {
@@ -33,7 +73,7 @@ fn group_seed(seed: u64, name: &str) -> u64 {
 }
 
 /// A run that compared fewer of something than promised has failed, whatever they gave.
-fn too_few(compared: &[u64; 4]) -> bool {
+fn too_few(compared: &[u64; COUNTS]) -> bool {
     let mut fewer = false;
     for ((what, least), &found) in LEAST.into_iter().zip(compared) {
         if found < least {
@@ -46,10 +86,26 @@ fn too_few(compared: &[u64; 4]) -> bool {
 
 /// What a group compared.
 fn tally(compare: &Compare) -> String {
-    match (compare.inputs, compare.messages) {
-        (inputs, 0) => format!("{inputs} inputs"),
-        (0, messages) => format!("{messages} messages"),
-        (inputs, messages) => format!("{inputs} inputs, {messages} messages"),
+    let counts = [
+        (compare.inputs, "inputs"),
+        (compare.messages, "messages"),
+        (compare.acts, "acts"),
+        (compare.link_acts, "acts on links"),
+    ];
+    let counted = counts.iter().filter(|(count, _)| *count > 0);
+    let texts: Vec<String> = counted
+        .map(|(count, what)| format!("{count} {what}"))
+        .collect();
+    texts.join(", ")
+}
+
+/// What a whole run compared besides inputs.
+fn print_counts(compared: &[u64; COUNTS]) {
+    let [_, messages, headers, answers, acts, link_acts, kinds @ ..] = compared;
+    println!("{messages} messages, of them {headers} readable headers, {answers} readable answers");
+    println!("{acts} acts of the receiver and the sender, and {link_acts} on links");
+    for (count, (what, _)) in kinds.iter().zip(&LEAST[COUNTS - kinds.len()..]) {
+        println!("  {count} {what}");
     }
 }
 
@@ -65,7 +121,7 @@ fn main() -> ExitCode {
     };
     let only = arguments.get(1);
     let (mut passed, mut failed) = (0, 0);
-    let mut compared = [0; 4];
+    let mut compared = [0; COUNTS];
     let begun = Instant::now();
     faults::install();
     for &(name, group) in groups::ALL {
@@ -84,20 +140,13 @@ fn main() -> ExitCode {
                 failed += 1;
             }
         }
-        let counts = [
-            compare.inputs,
-            compare.messages,
-            compare.headers,
-            compare.answers,
-        ];
-        for (sum, count) in compared.iter_mut().zip(counts) {
+        for (sum, count) in compared.iter_mut().zip(counts(&compare)) {
             *sum += count;
         }
     }
     failed += u64::from(only.is_none() && too_few(&compared));
-    let seconds = begun.elapsed().as_secs_f64();
-    let [inputs, messages, headers, answers] = compared;
-    println!("{messages} messages, of them {headers} readable headers, {answers} readable answers");
+    print_counts(&compared);
+    let (inputs, seconds) = (compared[0], begun.elapsed().as_secs_f64());
     println!("{inputs} inputs in {seconds:.1} s, seed {seed}");
     println!("host: {passed} passed, {failed} failed");
     ExitCode::from(u8::from(failed > 0 || passed == 0))

@@ -1,10 +1,10 @@
 -- `words::write_pending` meets its contract.
 use mathlib.Core.Path.{_∙_}
+use mathlib.Core.List.{[], _∷_}
 use native.Mathlib.Omega.{arith}
 use lib.ListN.{length-set}
 use borrow.Author.Needs.{needs}
-use Rattle.lists.proofs.Over.{few}
-use Rattle.words.proofs.Laws.{eight}
+use Rattle.lists.proofs.Over.{few, written-over}
 use Rattle.words.specs.Words.{pendingWords}
 use Rattle.words.proofs.write_pending.Statement.{statement}
 use Rattle.words.proofs.write_pending.Tie as tie
@@ -45,7 +45,7 @@ same-length c = simp length-set
 
 returns-2 : tie.Need-returns-2
 unfolding pendingWords
-returns-2 c = eight (c .before .before .before .args .words .now) _ _ _ _ _ _ _ _ (c .before .if1 .left) ∙ rw (c .word .ensures)
+returns-2 c = written-over (c .before .before .before .args .words .now) (_ ∷ _ ∷ _ ∷ _ ∷ _ ∷ _ ∷ _ ∷ _ ∷ []) (c .before .if1 .left) ∙ rw (c .word .ensures)
 
 pub write-pending-spec : {M : Type 1} → statement M
 write-pending-spec =

@@ -1,10 +1,10 @@
 -- `words::write_reader` meets its contract.
 use mathlib.Core.Path.{_∙_}
+use mathlib.Core.List.{[], _∷_}
 use native.Mathlib.Omega.{arith}
 use lib.ListN.{length-set}
 use borrow.Author.Needs.{needs}
-use Rattle.lists.proofs.Over.{few}
-use Rattle.words.proofs.Laws.{four}
+use Rattle.lists.proofs.Over.{few, written-over}
 use Rattle.words.specs.Words.{readerWords}
 use Rattle.words.proofs.write_reader.Statement.{statement}
 use Rattle.words.proofs.write_reader.Tie as tie
@@ -42,7 +42,7 @@ same-length c = simp length-set
 
 returns-2 : tie.Need-returns-2
 unfolding readerWords
-returns-2 c = four (c .before .before .before .before .before .before .args .words .now) _ _ _ _ (c .before .before .before .before .if1 .left) ∙ rw (c .before .before .before .phase-number .ensures, c .before .before .word .ensures, c .before .word2 .ensures, c .word3 .ensures)
+returns-2 c = written-over (c .before .before .before .before .before .before .args .words .now) (_ ∷ _ ∷ _ ∷ _ ∷ []) (c .before .before .before .before .if1 .left) ∙ rw (c .before .before .before .phase-number .ensures, c .before .before .word .ensures, c .before .word2 .ensures, c .word3 .ensures)
 
 pub write-reader-spec : {M : Type 1} → statement M
 write-reader-spec =

@@ -1,10 +1,10 @@
 -- `words::write_verdict` meets its contract.
 use mathlib.Core.Path.{_∙_}
+use mathlib.Core.List.{[], _∷_}
 use native.Mathlib.Omega.{arith}
 use lib.ListN.{length-set}
 use borrow.Author.Needs.{needs}
-use Rattle.lists.proofs.Over.{few}
-use Rattle.words.proofs.Laws.{eight}
+use Rattle.lists.proofs.Over.{few, written-over}
 use Rattle.words.specs.Words.{verdictWords}
 use Rattle.words.proofs.write_verdict.Statement.{statement}
 use Rattle.words.proofs.write_verdict.Tie as tie
@@ -75,7 +75,7 @@ same-length c = simp length-set
 
 returns-2 : tie.Need-returns-2
 unfolding verdictWords
-returns-2 c = eight (c .before .before .before .before .before .before .before .before .before .before .before .before .before .args .words .now) _ _ _ _ _ _ _ _ (c .before .before .before .before .before .before .before .before .before .before .before .if1 .left) ∙ rw (c .before .before .before .before .before .before .before .before .before .before .word .ensures, c .before .before .before .before .before .before .before .before .before .number .ensures, c .before .before .before .before .before .before .before .word2 .ensures, c .before .before .before .before .before .before .before .before .forbidden-offset .ensures, c .before .before .before .before .before .byte-word .ensures, c .before .before .before .before .before .before .block-type .ensures, c .before .before .before .word3 .ensures, c .before .before .before .before .data-start .ensures, c .before .word4 .ensures, c .before .before .data-length .ensures, c .word5 .ensures)
+returns-2 c = written-over (c .before .before .before .before .before .before .before .before .before .before .before .before .before .args .words .now) (_ ∷ _ ∷ _ ∷ _ ∷ _ ∷ _ ∷ _ ∷ _ ∷ []) (c .before .before .before .before .before .before .before .before .before .before .before .if1 .left) ∙ rw (c .before .before .before .before .before .before .before .before .before .before .word .ensures, c .before .before .before .before .before .before .before .before .before .number .ensures, c .before .before .before .before .before .before .before .word2 .ensures, c .before .before .before .before .before .before .before .before .forbidden-offset .ensures, c .before .before .before .before .before .byte-word .ensures, c .before .before .before .before .before .before .block-type .ensures, c .before .before .before .word3 .ensures, c .before .before .before .before .data-start .ensures, c .before .word4 .ensures, c .before .before .data-length .ensures, c .word5 .ensures)
 
 pub write-verdict-spec : {M : Type 1} → statement M
 write-verdict-spec =

@@ -2,13 +2,20 @@
 
 mod blocks;
 mod bytes;
+mod ends_hand;
+mod ends_memory;
 mod hand;
 mod headers;
+mod links;
 mod memory;
 mod message_hand;
 mod message_memory;
 mod message_writers;
+mod receiver;
 mod refusals;
+mod sender;
+mod sender_interruptions;
+mod sender_words;
 mod states;
 mod streams;
 mod writers;
@@ -76,4 +83,40 @@ pub const ALL: &[(&str, Group)] = &[
         message_memory::message_null_pointers,
     ),
     ("message_guard_pages", message_memory::message_guard_pages),
+    ("receiver_by_hand", ends_hand::receiver_by_hand),
+    ("sender_by_hand", ends_hand::sender_by_hand),
+    ("receiver_fresh", receiver::receiver_fresh),
+    ("receiver_table", receiver::receiver_table),
+    ("receiver_histories", receiver::receiver_histories),
+    ("receiver_large_limits", receiver::receiver_large_limits),
+    (
+        "receiver_largest_numbers",
+        receiver::receiver_largest_numbers,
+    ),
+    (
+        "receiver_corrupt_histories",
+        receiver::receiver_corrupt_histories,
+    ),
+    ("receiver_refusals", receiver::receiver_refusals),
+    ("receiver_words", receiver::receiver_words),
+    ("refused_numbers", receiver::refused_numbers),
+    ("other_block_types", receiver::other_block_types),
+    ("data_of_no_block", receiver::data_of_no_block),
+    ("sender_histories", sender::sender_histories),
+    ("sender_progress", sender::sender_progress),
+    ("sender_largest_numbers", sender::sender_largest_numbers),
+    ("sender_sends", sender::sender_sends),
+    ("ended_at_any_time", sender_interruptions::ended_at_any_time),
+    ("crash_at_any_time", sender_interruptions::crash_at_any_time),
+    ("corrupt_histories", sender_interruptions::corrupt_histories),
+    ("any_beginning", sender_words::any_beginning),
+    ("every_answer", sender_words::every_answer),
+    ("corrupt_words", sender_words::corrupt_words),
+    ("small_words", sender_words::small_words),
+    ("random_words", sender_words::random_words),
+    ("sender_refusals", sender_words::sender_refusals),
+    ("control_blocks", sender_words::control_blocks),
+    ("links", links::links),
+    ("ends_null_pointers", ends_memory::ends_null_pointers),
+    ("ends_guard_pages", ends_memory::ends_guard_pages),
 ];

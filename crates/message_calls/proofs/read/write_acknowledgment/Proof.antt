@@ -3,9 +3,10 @@ use borrow.Author.Needs.{needs}
 use Rattle.message_calls.proofs.read.write_acknowledgment.Statement.{statement}
 use Rattle.message_calls.proofs.read.write_acknowledgment.Tie as tie
 use mathlib.Core.Path.{_∙_}
+use mathlib.Core.List.{[], _∷_}
 use native.Mathlib.Omega.{arith}
 use lib.ListN.{length-set}
-use Rattle.message_calls.proofs.Laws.{nine}
+use Rattle.lists.proofs.Over.{written-over}
 
 slice-write-words : tie.Need-slice-write-words
 slice-write-words c = omega arith
@@ -47,7 +48,7 @@ same-length : tie.Need-same-length
 same-length c = simp length-set
 
 returns : tie.Need-returns
-returns c = nine (c .before .before .before .before .args .words .now) _ _ _ _ _ _ _ _ _ (c .before .before .before .before .pre) ∙ rw (c .before .before .code-word .ensures, c .before .kind-of .ensures, c .value-of .ensures)
+returns c = written-over (c .before .before .before .before .args .words .now) (_ ∷ _ ∷ _ ∷ _ ∷ _ ∷ _ ∷ _ ∷ _ ∷ _ ∷ []) (c .before .before .before .before .pre) ∙ rw (c .before .before .code-word .ensures, c .before .kind-of .ensures, c .value-of .ensures)
 
 pub write-acknowledgment-spec : {M : Type 1} → statement M
 write-acknowledgment-spec =

@@ -3,9 +3,10 @@ use borrow.Author.Needs.{needs}
 use Rattle.message_calls.proofs.read.write_header.Statement.{statement}
 use Rattle.message_calls.proofs.read.write_header.Tie as tie
 use mathlib.Core.Path.{_∙_}
+use mathlib.Core.List.{[], _∷_}
 use native.Mathlib.Omega.{arith}
 use lib.ListN.{length-set}
-use Rattle.message_calls.proofs.Laws.{six}
+use Rattle.lists.proofs.Over.{written-over}
 
 slice-write-words : tie.Need-slice-write-words
 slice-write-words c = omega arith
@@ -35,7 +36,7 @@ same-length : tie.Need-same-length
 same-length c = simp length-set
 
 returns : tie.Need-returns
-returns c = six (c .before .before .before .args .words .now) _ _ _ _ _ _ (c .before .before .before .pre) ∙ rw (c .before .kind-of .ensures, c .value-of .ensures)
+returns c = written-over (c .before .before .before .args .words .now) (_ ∷ _ ∷ _ ∷ _ ∷ _ ∷ _ ∷ []) (c .before .before .before .pre) ∙ rw (c .before .kind-of .ensures, c .value-of .ensures)
 
 pub write-header-spec : {M : Type 1} → statement M
 write-header-spec =

@@ -3,8 +3,7 @@ use borrow.Author.Needs.{needs}
 use Rattle.receiver.proofs.receiving.frame_answer.Statement.{statement}
 use Rattle.receiver.proofs.receiving.frame_answer.Tie as tie
 use mathlib.Core.Path.{ap, _∙_}
-use native.Mathlib.Omega.{arith}
-use Rattle.receiver.proofs.Replying.{size-most, made-part, answer-block, replied}
+use Rattle.receiver.proofs.Replying.{made-part, answer-block, replied}
 use mathlib.Core.List.{List}
 use Prim.Native.Nat.{ℕ}
 use Rattle.writer.specs.Write.{writeOf}

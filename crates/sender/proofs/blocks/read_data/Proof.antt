@@ -26,8 +26,8 @@ with-block-requires c κs = search needs
 returns : tie.Need-returns
 returns c = c .with-block .ensures ∙ rw (c .before .fall-due .ensures) (data-as (c .before .before .before .before .before .before .args .resends) (c .before .before .before .before .before .before .args .sender) (c .before .before .before .before .before .before .args .content .now) _ _ (sym (c .before .before .before .before .read-acknowledgment .ensures) ∙ c .before .before .enum-told .given .1))
 
-waiting-number-requires : tie.Need-waiting-number-requires
-waiting-number-requires c κs = search needs
+waiting-message-requires : tie.Need-waiting-message-requires
+waiting-message-requires c κs = search needs
 
 enum-known-number : tie.Need-enum-known-number
 enum-known-number c = search needs
@@ -41,7 +41,7 @@ stay-requires c κs = search needs
 returns-2 : tie.Need-returns-2
 returns-2 c =
     let a = c .before .before .before .before .before .before .before .before .before .before .args in
-    c .stay .ensures ∙ answered-as (a .sender) _ _ _ _ _ (sym (c .before .before .before .waiting-number .ensures) ∙ c .before .enum-told2 .given .1) ∙ data-as (a .resends) (a .sender) (a .content .now) _ _ (sym (c .before .before .before .before .before .before .before .before .read-acknowledgment .ensures) ∙ c .before .before .before .before .before .before .code .given .1)
+    c .stay .ensures ∙ answered-as (a .sender) _ _ _ _ _ (sym (c .before .before .before .waiting-message .ensures) ∙ c .before .enum-told2 .given .1) ∙ data-as (a .resends) (a .sender) (a .content .now) _ _ (sym (c .before .before .before .before .before .before .before .before .read-acknowledgment .ensures) ∙ c .before .before .before .before .before .before .code .given .1)
 
 field-content-requires : tie.Need-field-content-requires
 field-content-requires c κs = search needs
@@ -56,7 +56,7 @@ returns-3 : tie.Need-returns-3
 returns-3 c =
     let a = c .before .before .before .before .before .before .before .before .before .before .before .before .before .before .args in
     let t = c .before .before .before .before .before .before .before .before .before .before .code .given in
-    c .stay2 .ensures ∙ data-dropped (a .resends) (a .sender) (a .content .now) (t .0 .0) (t .0 .1 .0) (t .0 .1 .1 .0) (c .before .before .before .before .before .number .given .0 .0) (sym (c .before .before .before .before .before .before .before .before .before .before .before .before .read-acknowledgment .ensures) ∙ t .1) (sym (c .before .before .before .before .before .before .before .waiting-number .ensures) ∙ c .before .before .before .before .before .number .given .1) (rw (c .before .before .before .field-content .ensures) at (sym (c .before .before .is-text .ensures) ∙ not-true _ (c .before .if1 .taken)))
+    c .stay2 .ensures ∙ data-dropped (a .resends) (a .sender) (a .content .now) (t .0 .0) (t .0 .1 .0) (t .0 .1 .1 .0) (c .before .before .before .before .before .number .given .0 .0) (sym (c .before .before .before .before .before .before .before .before .before .before .before .before .read-acknowledgment .ensures) ∙ t .1) (sym (c .before .before .before .before .before .before .before .waiting-message .ensures) ∙ c .before .before .before .before .before .number .given .1) (rw (c .before .before .before .field-content .ensures) at (sym (c .before .before .is-text .ensures) ∙ not-true _ (c .before .if1 .taken)))
 
 field-content-requires-2 : tie.Need-field-content-requires-2
 field-content-requires-2 c κs = search needs
@@ -77,7 +77,7 @@ returns-4 : tie.Need-returns-4
 returns-4 c =
     let a = c .before .before .before .before .before .before .before .before .before .before .before .before .before .before .before .before .before .before .args in
     let t = c .before .before .before .before .before .before .before .before .before .before .before .before .before .before .code .given in
-    c .hear .ensures ∙ rw (c .before .before .before .read-code .ensures, c .before .before .before .before .field-content2 .ensures, c .before .read-number .ensures, c .before .before .field-content3 .ensures) (data-heard (a .resends) (a .sender) (a .content .now) (t .0 .0) (t .0 .1 .0) (t .0 .1 .1 .0) (c .before .before .before .before .before .before .before .before .before .number .given .0 .0) (sym (c .before .before .before .before .before .before .before .before .before .before .before .before .before .before .before .before .read-acknowledgment .ensures) ∙ t .1) (sym (c .before .before .before .before .before .before .before .before .before .before .before .waiting-number .ensures) ∙ c .before .before .before .before .before .before .before .before .before .number .given .1) (rw (c .before .before .before .before .before .before .before .field-content .ensures) at (sym (c .before .before .before .before .before .before .is-text .ensures) ∙ not-false _ (c .before .before .before .before .before .if1 .left))))
+    c .hear .ensures ∙ rw (c .before .before .before .read-code .ensures, c .before .before .before .before .field-content2 .ensures, c .before .read-number .ensures, c .before .before .field-content3 .ensures) (data-heard (a .resends) (a .sender) (a .content .now) (t .0 .0) (t .0 .1 .0) (t .0 .1 .1 .0) (c .before .before .before .before .before .before .before .before .before .number .given .0 .0) (sym (c .before .before .before .before .before .before .before .before .before .before .before .before .before .before .before .before .read-acknowledgment .ensures) ∙ t .1) (sym (c .before .before .before .before .before .before .before .before .before .before .before .waiting-message .ensures) ∙ c .before .before .before .before .before .before .before .before .before .number .given .1) (rw (c .before .before .before .before .before .before .before .field-content .ensures) at (sym (c .before .before .before .before .before .before .is-text .ensures) ∙ not-false _ (c .before .before .before .before .before .if1 .left))))
 
 pub read-data-spec : {M : Type 1} → statement M
 read-data-spec =
@@ -89,7 +89,7 @@ read-data-spec =
     fall-due-requires
     with-block-requires
     returns
-    waiting-number-requires
+    waiting-message-requires
     enum-known-number
     enum-told-2
     stay-requires

@@ -13,14 +13,14 @@ add-if1 c = search needs
 add-sends : tie.Need-add-sends
 add-sends c = search needs
 
-named-message-requires : tie.Need-named-message-requires
-named-message-requires c κs = search needs
+waiting-message-requires : tie.Need-waiting-message-requires
+waiting-message-requires c κs = search needs
 
 act-requires : tie.Need-act-requires
 act-requires c κs = search needs
 
 returns : tie.Need-returns
-returns c = c .act .ensures ∙ rw (c .before .named-message .ensures) (again-sends (c .before .before .before .before .before .before .args .resends) (c .before .before .before .before .before .before .args .sender) (c .before .before .before .if1 .taken))
+returns c = c .act .ensures ∙ rw (c .before .waiting-message .ensures) (again-sends (c .before .before .before .before .before .before .args .resends) (c .before .before .before .before .before .before .args .sender) (c .before .before .before .if1 .taken))
 
 close-requires : tie.Need-close-requires
 close-requires c κs = search needs
@@ -34,7 +34,7 @@ again-spec =
     (tie.spec
     add-if1
     add-sends
-    named-message-requires
+    waiting-message-requires
     act-requires
     returns
     close-requires

@@ -9,14 +9,14 @@ use borrow.Author.Tests.{not-true, not-false, lt-ltb, le-ltb, eq-eqb, ne-eqb}
 first-sends-requires : tie.Need-first-sends-requires
 first-sends-requires c κs = search needs
 
-named-message-requires : tie.Need-named-message-requires
-named-message-requires c κs = search needs
+waiting-message-requires : tie.Need-waiting-message-requires
+waiting-message-requires c κs = search needs
 
 act-requires : tie.Need-act-requires
 act-requires c κs = search needs
 
 returns : tie.Need-returns
-returns c = c .act .ensures ∙ rw (c .before .before .first-sends .ensures, c .before .named-message .ensures)
+returns c = c .act .ensures ∙ rw (c .before .before .first-sends .ensures, c .before .waiting-message .ensures)
 
 pub begin-spec : {M : Type 1} → statement M
-begin-spec = tie.close (tie.spec first-sends-requires named-message-requires act-requires returns)
+begin-spec = tie.close (tie.spec first-sends-requires waiting-message-requires act-requires returns)

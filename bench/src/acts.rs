@@ -1,0 +1,312 @@
+//! The two sides of the acts of both ends: the library through its C interface, and plain Rust. Each
+//! call begins from words that were prepared, and leaves its words and bytes for comparison.
+
+use crate::act_inputs::{accepted, data_block, SenderState, LIMIT};
+use crate::ends_ffi;
+use crate::ends_ffi::names::{ACT_WORDS, RECEIVED_WORDS, SENDER_WORDS};
+use crate::ffi::names::{CODE_AA, REPORT_WORDS};
+use crate::model::Settings;
+use crate::plain_ends;
+use crate::plain_sender;
+use crate::receiver_model::Incoming;
+use crate::sender_model::Act;
+use crate::timing::Work;
+use std::hint::black_box;
+
+/// One pass makes every call once. So many passes make a turn where a call takes the same time
+/// whatever its bytes; where it looks at each byte, about so many bytes do.
+const PASSES: usize = 50;
+const TURN_BYTES: usize = 500_000;
+
+/// Replies and control blocks lie so far apart in the buffer.
+const STRIDE: usize = 128;
+
+/// The sender's acts.
+#[derive(Clone, Copy, Debug, PartialEq, Eq)]
+pub enum Step {
+    Submit,
+    Open,
+    Ended,
+    Reset,
+    Timer,
+    Answer,
+    Nak,
+}
+
+/// A sender's act: its bytes, r, and the words it begins from. Aligned, as its result is, so that
+/// where it lies in memory makes no difference of a nanosecond.
+#[repr(align(64))]
+pub struct SenderCall {
+    pub step: Step,
+    pub resends: u64,
+    pub state: SenderState,
+    pub bytes: Vec<u8>,
+}
+
+impl SenderCall {
+    fn act(&self) -> Act<'_> {
+        let resends = self.resends;
+        match self.step {
+            Step::Submit => Act::Submit {
+                limit: LIMIT,
+                message: &self.bytes,
+            },
+            Step::Open => Act::Open,
+            Step::Ended => Act::Ended,
+            Step::Reset => Act::Reset,
+            Step::Timer => Act::Timer { resends },
+            Step::Answer => data_block(resends, &self.bytes),
+            Step::Nak => Act::Block {
+                resends,
+                block: accepted(b'N', &self.bytes),
+            },
+        }
+    }
+}
+
+/// What a call left.
+#[derive(Clone, PartialEq, Eq)]
+#[repr(align(64))]
+struct SenderResult {
+    state: SenderState,
+    report: [u64; ACT_WORDS],
+}
+
+/// Acts of a sender that both sides make.
+pub struct SenderWork {
+    calls: Vec<SenderCall>,
+    passes: usize,
+    library: Vec<SenderResult>,
+    plain: Vec<SenderResult>,
+}
+
+impl SenderWork {
+    pub fn new(calls: Vec<SenderCall>) -> SenderWork {
+        let result = SenderResult {
+            state: [0; SENDER_WORDS],
+            report: [0; ACT_WORDS],
+        };
+        let bytes: usize = calls.iter().map(|call| call.bytes.len()).sum();
+        let linear = calls.iter().any(|call| call.step == Step::Submit);
+        SenderWork {
+            passes: if linear {
+                (TURN_BYTES / bytes).clamp(1, PASSES)
+            } else {
+                PASSES
+            },
+            library: vec![result.clone(); calls.len()],
+            plain: vec![result; calls.len()],
+            calls,
+        }
+    }
+
+    /// The bytes that an act is given.
+    pub fn length(&self) -> usize {
+        self.calls[0].bytes.len()
+    }
+}
+
+type SenderAct = fn(&Act, &mut [u64], &mut [u64]) -> u64;
+
+fn act_all(act: SenderAct, calls: &[SenderCall], passes: usize, results: &mut [SenderResult]) {
+    for _ in 0..passes {
+        for (call, result) in calls.iter().zip(results.iter_mut()) {
+            result.state = call.state;
+            let number = act(
+                black_box(&call.act()),
+                &mut result.state,
+                &mut result.report,
+            );
+            assert_eq!(number, 0);
+        }
+    }
+}
+
+impl Work for SenderWork {
+    fn calls(&self) -> usize {
+        self.passes * self.calls.len()
+    }
+
+    fn library(&mut self) {
+        let results = &mut self.library;
+        act_all(ends_ffi::sender_act, &self.calls, self.passes, results);
+    }
+
+    fn plain(&mut self) {
+        let results = &mut self.plain;
+        act_all(plain_sender::sender_act, &self.calls, self.passes, results);
+    }
+
+    fn compare(&self) {
+        assert!(self.library == self.plain, "the sender's words differ");
+    }
+}
+
+/// A receiver's act on an accepted data block, from a state.
+pub struct ReceiverCall {
+    pub state: u64,
+    pub data: Vec<u8>,
+}
+
+/// What a pass left: states, reports and replies.
+#[derive(Clone, PartialEq, Eq)]
+struct ReceiverResults {
+    states: Vec<u64>,
+    reports: Vec<[u64; RECEIVED_WORDS]>,
+    buffer: Vec<u8>,
+}
+
+/// Acts of a receiver that both sides make.
+pub struct ReceiverWork {
+    settings: Settings,
+    calls: Vec<ReceiverCall>,
+    library: ReceiverResults,
+    plain: ReceiverResults,
+}
+
+impl ReceiverWork {
+    pub fn new(settings: Settings, calls: Vec<ReceiverCall>) -> ReceiverWork {
+        let count = calls.len();
+        let need = settings.limit as usize + settings.overhead();
+        let results = ReceiverResults {
+            states: vec![0; count],
+            reports: vec![[0; RECEIVED_WORDS]; count],
+            buffer: vec![0; need + count * STRIDE],
+        };
+        ReceiverWork {
+            settings,
+            calls,
+            library: results.clone(),
+            plain: results,
+        }
+    }
+
+    pub fn length(&self) -> usize {
+        self.calls[0].data.len()
+    }
+
+    /// The bytes of a reply, once some were written.
+    pub fn reply_length(&self) -> u64 {
+        self.library.reports[0][1]
+    }
+}
+
+type Receive = fn(&Settings, u64, &mut [u64], &Incoming, &mut [u8], usize, &mut [u64]) -> u64;
+
+fn receive_all(
+    receive: Receive,
+    settings: &Settings,
+    calls: &[ReceiverCall],
+    results: &mut ReceiverResults,
+) {
+    for _ in 0..PASSES {
+        for (index, call) in calls.iter().enumerate() {
+            let block = accepted(b'D', &call.data);
+            let mut state = [call.state];
+            let number = receive(
+                settings,
+                CODE_AA,
+                &mut state,
+                black_box(&block),
+                &mut results.buffer,
+                index * STRIDE,
+                &mut results.reports[index],
+            );
+            assert_eq!(number, 0);
+            results.states[index] = state[0];
+        }
+    }
+}
+
+impl Work for ReceiverWork {
+    fn calls(&self) -> usize {
+        PASSES * self.calls.len()
+    }
+
+    fn library(&mut self) {
+        let results = &mut self.library;
+        receive_all(ends_ffi::receive, &self.settings, &self.calls, results);
+    }
+
+    fn plain(&mut self) {
+        let results = &mut self.plain;
+        receive_all(plain_ends::receive, &self.settings, &self.calls, results);
+    }
+
+    fn compare(&self) {
+        assert!(self.library == self.plain, "the receiver's results differ");
+        let taken = self.library.reports.iter().all(|report| report[0] != 0);
+        assert!(taken, "a transaction that is due is not taken");
+    }
+}
+
+/// Control blocks that both sides write.
+pub struct ControlWork {
+    settings: Settings,
+    number: u64,
+    types: Vec<[u8; 3]>,
+    library: Vec<u8>,
+    plain: Vec<u8>,
+    pub length: u64,
+}
+
+impl ControlWork {
+    pub fn new(settings: Settings, number: u64, types: Vec<[u8; 3]>) -> ControlWork {
+        let buffer = vec![0; types.len() * STRIDE];
+        let mut work = ControlWork {
+            settings,
+            number,
+            library: buffer.clone(),
+            plain: buffer,
+            types,
+            length: 0,
+        };
+        work.length = work.write_all(ends_ffi::control_block, 1, &mut vec![0; STRIDE * 16]);
+        work
+    }
+
+    /// Gives the length of the last block.
+    fn write_all(&self, write: WriteControl, passes: usize, buffer: &mut [u8]) -> u64 {
+        let mut report = [0; REPORT_WORDS];
+        for _ in 0..passes {
+            for (index, message_type) in self.types.iter().enumerate() {
+                let (settings, start) = (&self.settings, index * STRIDE);
+                let message_type = black_box(message_type);
+                let number = write(
+                    settings,
+                    message_type,
+                    self.number,
+                    buffer,
+                    start,
+                    &mut report,
+                );
+                assert_eq!(number, 0);
+            }
+        }
+        report[0]
+    }
+}
+
+type WriteControl = fn(&Settings, &[u8], u64, &mut [u8], usize, &mut [u64]) -> u64;
+
+impl Work for ControlWork {
+    fn calls(&self) -> usize {
+        PASSES * self.types.len()
+    }
+
+    fn library(&mut self) {
+        let mut buffer = std::mem::take(&mut self.library);
+        self.write_all(ends_ffi::control_block, PASSES, &mut buffer);
+        self.library = buffer;
+    }
+
+    fn plain(&mut self) {
+        let mut buffer = std::mem::take(&mut self.plain);
+        self.write_all(plain_ends::control_block, PASSES, &mut buffer);
+        self.plain = buffer;
+    }
+
+    fn compare(&self) {
+        assert!(self.library == self.plain, "the control blocks differ");
+    }
+}

@@ -1,0 +1,58 @@
+-- The block writer takes the control message of a link.
+use mathlib.Core.Path.{_≡_, refl, sym, ap, _∙_}
+use mathlib.Core.List.{List}
+use mathlib.Core.Bool.{Bool, true, false, _&&_, cond}
+use Prim.Native.Nat.{ℕ, _+_, _≤_}
+use native.Mathlib.Omega.{arith}
+use lib.ListN.{length}
+use lib.Dec.{leb}
+use borrow.Author.Tests.{le-leb, leb-true}
+use Rattle.lists.proofs.Tests.{and-left, and-right}
+use Rattle.settings.specs.Settings.{valid, validLink}
+use Rattle.settings.specs.declared.Settings.{Settings}
+use Rattle.block.specs.Format.{blockOf}
+use Rattle.writer.specs.Write.{needOf, Outcome, wrote, refused, writeOf}
+use Rattle.writer.specs.declared.Written.the-variants.{Setting, TooShort}
+use Rattle.messages.specs.Messages.{controlMessage, validType}
+use Rattle.messages.specs.Write.{writeControlOf, wrote as messageWrote}
+use Rattle.messages.specs.declared.Control.{Control}
+use Rattle.messages.specs.declared.MessageType.{MessageType}
+use Rattle.message_theorems.proofs.Control.{control-length}
+use Rattle.message_theorems.proofs.InBlock.{control-in-block}
+use Rattle.control_block.specs.ControlBlock.{controlBlockOf}
+
+-- the message made apart
+pub control-fits : (t : MessageType) (c : Control) (l : List ℕ) → 33 ≤ length l → length (controlMessage t c) ≤ length l
+control-fits t c l h = let m = control-length t c in omega arith
+
+pub control-made : (t : MessageType) (c : Control) (l : List ℕ) → validType t ≡ true → 33 ≤ length l
+    → writeControlOf t c 0 l ≡ messageWrote l 0 (controlMessage t c)
+unfolding writeControlOf
+control-made t c l v h = let m = control-fits t c l h in rw (v, le-leb (0 + length (controlMessage t c)) (length l) (omega arith))
+
+module _ (g : Settings) (t : MessageType) (c : Control) (start : ℕ) (b : List ℕ) where
+  pub no-link : validLink g ≡ false → refused Setting b ≡ controlBlockOf g t c start b
+  unfolding controlBlockOf
+  no-link h = rw h
+
+  pub no-type : validLink g ≡ true → validType t ≡ false → refused Setting b ≡ controlBlockOf g t c start b
+  unfolding controlBlockOf
+  no-type h v = rw (h, v)
+
+  module _ (h : validLink g ≡ true) (v : validType t ≡ true) where
+    settings-valid : valid g ≡ true
+    unfolding validLink
+    settings-valid = and-left (valid g) (leb 128 (g .«data_limit»)) h
+
+    limit : 128 ≤ g .«data_limit»
+    unfolding validLink
+    limit = leb-true 128 (g .«data_limit») (and-right (valid g) (leb 128 (g .«data_limit»)) h)
+
+    framed : (f : Bool) → leb (start + needOf g (controlMessage t c)) (length b) ≡ f → writeOf g 68 (controlMessage t c) start b ≡ controlBlockOf g t c start b
+    unfolding controlBlockOf writeOf
+    framed true e =
+        control-in-block g settings-valid limit start b t c v (leb-true (start + needOf g (controlMessage t c)) (length b) e) ∙ sym (rw (h, v, e))
+    framed false e = rw (settings-valid, h, v, e)
+
+    pub control-framed : writeOf g 68 (controlMessage t c) start b ≡ controlBlockOf g t c start b
+    control-framed = framed (leb (start + needOf g (controlMessage t c)) (length b)) refl

@@ -1,0 +1,51 @@
+// The sender's control message as a block.
+use messages::Control;
+use messages::MessageType;
+use settings::Settings;
+use writer::Written;
+ghost use mathlib.Core.Path.{_≡_};
+ghost use mathlib.Core.Bool.{true};
+ghost use Prim.Native.Nat.{_≤_};
+ghost use lib.ListN.{length};
+ghost use Rattle.settings.specs.Settings.{validLink};
+ghost use Rattle.messages.specs.Messages.{validType};
+ghost use Rattle.writer.specs.Write.{refused};
+ghost use Rattle.control_block.specs.ControlBlock.{controlBlockOf};
+
+// Makes the message in the first bytes of `message`, and frames it as a block.
+fn frame_control(
+    settings: Settings,
+    name: MessageType,
+    control: Control,
+    message: &mut [u8],
+    buffer: &mut [u8],
+    start: usize,
+) -> Written
+    requires { ⌜ validLink settings ≡ true ⌝ }
+    requires { ⌜ validType name ≡ true ⌝ }
+    requires { ⌜ 33 ≤ length (now message) ⌝ }
+    ensures { λ r. ⌜ refused r (now (buffer .exit)) ≡ controlBlockOf settings name control start (now (buffer .entry)) ⌝ }
+{
+    let size = messages::write_control(name, control, message, 0).message_length();
+    writer::write(settings, 68, &message[..size], buffer, start)
+}
+
+// Writes the block into the buffer from an offset on. A refusal (1, 2) writes nothing.
+pub fn write_control_block(
+    settings: Settings,
+    name: MessageType,
+    control: Control,
+    buffer: &mut [u8],
+    start: usize,
+) -> Written
+    ensures { λ r. ⌜ refused r (now (buffer .exit)) ≡ controlBlockOf settings name control start (now (buffer .entry)) ⌝ }
+{
+    if !settings.is_link() {
+        return Written::Setting;
+    }
+    if !messages::is_type(name) {
+        return Written::Setting;
+    }
+    let mut message = [0u8; 33];
+    frame_control(settings, name, control, &mut message, buffer, start)
+}

@@ -1,0 +1,62 @@
+-- `sender_calls::states::write_sender` meets its contract.
+use borrow.Author.Needs.{needs}
+use Rattle.lists.proofs.Over.{written-over}
+use mathlib.Core.List.{[], _∷_}
+use mathlib.Core.Path.{_∙_}
+use native.Mathlib.Omega.{arith}
+use lib.ListN.{length-set}
+use Rattle.sender_calls.proofs.states.write_sender.Statement.{statement}
+use Rattle.sender_calls.proofs.states.write_sender.Tie as tie
+
+slice-write-words : tie.Need-slice-write-words
+slice-write-words c = search needs
+
+slice-write-words-2 : tie.Need-slice-write-words-2
+slice-write-words-2 c = simp length-set (omega arith)
+
+slice-write-words-3 : tie.Need-slice-write-words-3
+slice-write-words-3 c = simp length-set (omega arith)
+
+flag-word-requires : tie.Need-flag-word-requires
+flag-word-requires c κs = search needs
+
+slice-write-words-4 : tie.Need-slice-write-words-4
+slice-write-words-4 c = simp length-set (omega arith)
+
+flag-word-requires-2 : tie.Need-flag-word-requires-2
+flag-word-requires-2 c κs = search needs
+
+slice-write-words-5 : tie.Need-slice-write-words-5
+slice-write-words-5 c = simp length-set (omega arith)
+
+waiting-word-requires : tie.Need-waiting-word-requires
+waiting-word-requires c κs = search needs
+
+slice-write-words-6 : tie.Need-slice-write-words-6
+slice-write-words-6 c = simp length-set (omega arith)
+
+slice-write-words-7 : tie.Need-slice-write-words-7
+slice-write-words-7 c = simp length-set (omega arith)
+
+same-length : tie.Need-same-length
+same-length c = search needs
+
+returns : tie.Need-returns
+returns c = written-over (c .before .before .before .before .before .args .words .now) (_ ∷ _ ∷ _ ∷ _ ∷ _ ∷ _ ∷ _ ∷ []) (c .before .before .before .before .before .pre) ∙ rw (c .before .before .flag-word .ensures, c .before .flag-word2 .ensures, c .waiting-word .ensures)
+
+pub write-sender-spec : {M : Type 1} → statement M
+write-sender-spec =
+    tie.close
+    (tie.spec
+    slice-write-words
+    slice-write-words-2
+    slice-write-words-3
+    flag-word-requires
+    slice-write-words-4
+    flag-word-requires-2
+    slice-write-words-5
+    waiting-word-requires
+    slice-write-words-6
+    slice-write-words-7
+    same-length
+    returns)

@@ -1,0 +1,104 @@
+// An act's answer as words.
+use header::Code;
+use numbers::SequenceNumber;
+use sender::Acted;
+use sender::Event;
+use sender::NumberedMessage;
+ghost use mathlib.Core.Path.{_≡_};
+ghost use Prim.Native.Nat.{_≤_};
+ghost use lib.ListN.{length};
+ghost use Rattle.lists.specs.Bytes.{over};
+ghost use Rattle.sender_calls.specs.SenderCalls.{sendWord, sendNumber, eventWord, deliveredWord, codeNumber, codeWord, actWords};
+
+fn send_word(send: NumberedMessage) -> u64
+    ensures { λ r. ⌜ r ≡ sendWord send ⌝ }
+{
+    let NumberedMessage::Numbered(number) = send else {
+        return 0;
+    };
+    let SequenceNumber::Number(n) = number else {
+        return 1;
+    };
+    if n == 0 {
+        return 2;
+    }
+    3
+}
+
+fn send_number(send: NumberedMessage) -> u64
+    ensures { λ r. ⌜ r ≡ sendNumber send ⌝ }
+{
+    let NumberedMessage::Numbered(number) = send else {
+        return 0;
+    };
+    match number {
+        SequenceNumber::MinusOne => 0,
+        SequenceNumber::Number(n) => n,
+    }
+}
+
+fn event_word(event: Event) -> u64
+    ensures { λ r. ⌜ r ≡ eventWord event ⌝ }
+{
+    match event {
+        Event::NoEvent => 0,
+        Event::Delivered(_, _) => 1,
+        Event::DeliveredUnknown(_) => 1,
+        Event::GaveUp => 2,
+        Event::Froze => 3,
+        Event::Dropped => 4,
+    }
+}
+
+fn delivered_word(event: Event) -> u64
+    ensures { λ r. ⌜ r ≡ deliveredWord event ⌝ }
+{
+    match event {
+        Event::NoEvent => 0,
+        Event::Delivered(number, _) => number,
+        Event::DeliveredUnknown(number) => number,
+        Event::GaveUp => 0,
+        Event::Froze => 0,
+        Event::Dropped => 0,
+    }
+}
+
+fn code_number(code: Code) -> u64
+    ensures { λ r. ⌜ r ≡ codeNumber code ⌝ }
+{
+    match code {
+        Code::AA => 1,
+        Code::AE => 2,
+        Code::AR => 3,
+    }
+}
+
+fn code_word(event: Event) -> u64
+    ensures { λ r. ⌜ r ≡ codeWord event ⌝ }
+{
+    match event {
+        Event::NoEvent => 0,
+        Event::Delivered(_, code) => code_number(code),
+        Event::DeliveredUnknown(_) => 0,
+        Event::GaveUp => 0,
+        Event::Froze => 0,
+        Event::Dropped => 0,
+    }
+}
+
+// Writes over the first eight words.
+pub fn write_act(words: &mut [u64], acted: Acted)
+    requires { ⌜ 8 ≤ length (now words) ⌝ }
+    ensures { λ r. ⌜ now (words .exit) ≡ over (now (words .entry)) (actWords acted) ⌝ }
+{
+    let send = acted.send;
+    let event = acted.event;
+    words[0] = send_word(send);
+    words[1] = send_number(send);
+    words[2] = acted.sends;
+    words[3] = event_word(event);
+    words[4] = delivered_word(event);
+    words[5] = code_word(event);
+    words[6] = acted.block;
+    words[7] = acted.forbidden_offset as u64;
+}

@@ -1,0 +1,307 @@
+//! The functions of include/giamuvich.h for the receiver and the sender of sequence numbers, and a
+//! safe wrapper of each, as in `ffi`.
+
+/// The names of giamuvich.h for both ends, without their prefix.
+pub mod names {
+    pub const RECEIVER_EXPECTED: usize = 0;
+    pub const RECEIVER_WORDS: usize = 1;
+
+    pub const RECEIVED_TRANSACTION: usize = 0;
+    pub const RECEIVED_REPLY_LENGTH: usize = 1;
+    pub const RECEIVED_BLOCK: usize = 2;
+    pub const RECEIVED_WORDS: usize = 3;
+
+    pub const RESENDS_DEFAULT: u64 = 3;
+
+    pub const SENDER_FIRST: usize = 0;
+    pub const SENDER_DELIVERED: usize = 1;
+    pub const SENDER_LAST: usize = 2;
+    pub const SENDER_RESYNCHRONIZED: usize = 3;
+    pub const SENDER_FROZEN: usize = 4;
+    pub const SENDER_PERSISTED_WORDS: usize = 5;
+    pub const SENDER_WAITING: usize = 5;
+    pub const SENDER_SENDS: usize = 6;
+    pub const SENDER_WORDS: usize = 7;
+
+    pub const EVENT_NONE: u64 = 0;
+    pub const EVENT_DELIVERED: u64 = 1;
+    pub const EVENT_GAVE_UP: u64 = 2;
+    pub const EVENT_FROZE: u64 = 3;
+    pub const EVENT_DROPPED: u64 = 4;
+
+    pub const ACT_SEND: usize = 0;
+    pub const ACT_SEND_NUMBER: usize = 1;
+    pub const ACT_SENDS: usize = 2;
+    pub const ACT_EVENT: usize = 3;
+    pub const ACT_DELIVERED: usize = 4;
+    pub const ACT_CODE: usize = 5;
+    pub const ACT_BLOCK: usize = 6;
+    pub const ACT_FORBIDDEN_OFFSET: usize = 7;
+    pub const ACT_WORDS: usize = 8;
+}
+
+/// The functions as C sees them.
+pub mod raw {
+    extern "C" {
+        pub fn gmv_receiver_fresh(state: *mut u64, state_words: usize) -> u64;
+
+        pub fn gmv_hybrid_receive(
+            start_block: u64,
+            end_block: u64,
+            data_limit: u64,
+            application: u64,
+            state: *mut u64,
+            state_words: usize,
+            block_number: u64,
+            block_type: u64,
+            data: *const u8,
+            data_length: usize,
+            buffer: *mut u8,
+            buffer_length: usize,
+            start: usize,
+            report: *mut u64,
+            report_words: usize,
+        ) -> u64;
+
+        pub fn gmv_minimal_receive(
+            data_limit: u64,
+            application: u64,
+            state: *mut u64,
+            state_words: usize,
+            block_number: u64,
+            block_type: u64,
+            data: *const u8,
+            data_length: usize,
+            buffer: *mut u8,
+            buffer_length: usize,
+            start: usize,
+            report: *mut u64,
+            report_words: usize,
+        ) -> u64;
+
+        pub fn gmv_sender_fresh(first: u64, state: *mut u64, state_words: usize) -> u64;
+
+        pub fn gmv_sender_submit(
+            data_limit: u64,
+            message: *const u8,
+            message_length: usize,
+            state: *mut u64,
+            state_words: usize,
+            report: *mut u64,
+            report_words: usize,
+        ) -> u64;
+
+        pub fn gmv_sender_open(
+            state: *mut u64,
+            state_words: usize,
+            report: *mut u64,
+            report_words: usize,
+        ) -> u64;
+
+        pub fn gmv_sender_ended(
+            state: *mut u64,
+            state_words: usize,
+            report: *mut u64,
+            report_words: usize,
+        ) -> u64;
+
+        pub fn gmv_sender_reset(
+            state: *mut u64,
+            state_words: usize,
+            report: *mut u64,
+            report_words: usize,
+        ) -> u64;
+
+        pub fn gmv_sender_timer(
+            resends: u64,
+            state: *mut u64,
+            state_words: usize,
+            report: *mut u64,
+            report_words: usize,
+        ) -> u64;
+
+        pub fn gmv_sender_block(
+            resends: u64,
+            block_number: u64,
+            block_type: u64,
+            data: *const u8,
+            data_length: usize,
+            state: *mut u64,
+            state_words: usize,
+            report: *mut u64,
+            report_words: usize,
+        ) -> u64;
+
+        pub fn gmv_hybrid_control_block(
+            start_block: u64,
+            end_block: u64,
+            data_limit: u64,
+            message_type: *const u8,
+            type_length: usize,
+            number: u64,
+            buffer: *mut u8,
+            buffer_length: usize,
+            start: usize,
+            report: *mut u64,
+            report_words: usize,
+        ) -> u64;
+
+        pub fn gmv_minimal_control_block(
+            data_limit: u64,
+            message_type: *const u8,
+            type_length: usize,
+            number: u64,
+            buffer: *mut u8,
+            buffer_length: usize,
+            start: usize,
+            report: *mut u64,
+            report_words: usize,
+        ) -> u64;
+    }
+}
+
+use crate::model::{Layer, Settings};
+use crate::receiver_model::Incoming;
+use crate::sender_model::Act;
+
+pub fn receiver_fresh(state: &mut [u64]) -> u64 {
+    // SAFETY: the slice has memory of the length passed.
+    unsafe { raw::gmv_receiver_fresh(state.as_mut_ptr(), state.len()) }
+}
+
+pub fn sender_fresh(first: u64, state: &mut [u64]) -> u64 {
+    // SAFETY: the slice has memory of the length passed.
+    unsafe { raw::gmv_sender_fresh(first, state.as_mut_ptr(), state.len()) }
+}
+
+/// The receiver's act, by layer.
+pub fn receive(
+    settings: &Settings,
+    application: u64,
+    state: &mut [u64],
+    block: &Incoming,
+    buffer: &mut [u8],
+    start: usize,
+    report: &mut [u64],
+) -> u64 {
+    match settings.layer {
+        // SAFETY: each slice has memory of the length passed, and none overlaps another.
+        Layer::Hybrid => unsafe {
+            raw::gmv_hybrid_receive(
+                settings.start,
+                settings.end,
+                settings.limit,
+                application,
+                state.as_mut_ptr(),
+                state.len(),
+                block.number,
+                block.block_type,
+                block.data.as_ptr(),
+                block.data.len(),
+                buffer.as_mut_ptr(),
+                buffer.len(),
+                start,
+                report.as_mut_ptr(),
+                report.len(),
+            )
+        },
+        // SAFETY: each slice has memory of the length passed, and none overlaps another.
+        Layer::Minimal => unsafe {
+            raw::gmv_minimal_receive(
+                settings.limit,
+                application,
+                state.as_mut_ptr(),
+                state.len(),
+                block.number,
+                block.block_type,
+                block.data.as_ptr(),
+                block.data.len(),
+                buffer.as_mut_ptr(),
+                buffer.len(),
+                start,
+                report.as_mut_ptr(),
+                report.len(),
+            )
+        },
+    }
+}
+
+/// One of the sender's acts.
+pub fn sender_act(act: &Act, state: &mut [u64], report: &mut [u64]) -> u64 {
+    let (words, length) = (state.as_mut_ptr(), state.len());
+    let (told, told_words) = (report.as_mut_ptr(), report.len());
+    // SAFETY: each slice has memory of the length passed, and none overlaps another.
+    unsafe {
+        match *act {
+            Act::Submit { limit, message } => raw::gmv_sender_submit(
+                limit,
+                message.as_ptr(),
+                message.len(),
+                words,
+                length,
+                told,
+                told_words,
+            ),
+            Act::Open => raw::gmv_sender_open(words, length, told, told_words),
+            Act::Ended => raw::gmv_sender_ended(words, length, told, told_words),
+            Act::Reset => raw::gmv_sender_reset(words, length, told, told_words),
+            Act::Timer { resends } => {
+                raw::gmv_sender_timer(resends, words, length, told, told_words)
+            }
+            Act::Block { resends, block } => raw::gmv_sender_block(
+                resends,
+                block.number,
+                block.block_type,
+                block.data.as_ptr(),
+                block.data.len(),
+                words,
+                length,
+                told,
+                told_words,
+            ),
+        }
+    }
+}
+
+/// Writes a control message as a block, by layer.
+pub fn control_block(
+    settings: &Settings,
+    message_type: &[u8],
+    number: u64,
+    buffer: &mut [u8],
+    start: usize,
+    report: &mut [u64],
+) -> u64 {
+    match settings.layer {
+        // SAFETY: each slice has memory of the length passed, and none overlaps another.
+        Layer::Hybrid => unsafe {
+            raw::gmv_hybrid_control_block(
+                settings.start,
+                settings.end,
+                settings.limit,
+                message_type.as_ptr(),
+                message_type.len(),
+                number,
+                buffer.as_mut_ptr(),
+                buffer.len(),
+                start,
+                report.as_mut_ptr(),
+                report.len(),
+            )
+        },
+        // SAFETY: each slice has memory of the length passed, and none overlaps another.
+        Layer::Minimal => unsafe {
+            raw::gmv_minimal_control_block(
+                settings.limit,
+                message_type.as_ptr(),
+                message_type.len(),
+                number,
+                buffer.as_mut_ptr(),
+                buffer.len(),
+                start,
+                report.as_mut_ptr(),
+                report.len(),
+            )
+        },
+    }
+}

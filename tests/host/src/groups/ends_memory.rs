@@ -1,0 +1,273 @@
+//! The two ends at the C boundary: null pointers with length 0, and memory at the edge of what may
+//! be touched.
+
+use super::memory::Pages;
+use crate::compare::{Compare, Outcome};
+use crate::compare_ends::act_text;
+use crate::guarded::same;
+use crate::library;
+use crate::make;
+use crate::make_ends::{self, Plan};
+use host::ends_ffi::{self, raw};
+use host::message_model::{Memory, LARGEST_SENT, MINUS_ONE};
+use host::model::Settings;
+use host::receiver_model::{self, Incoming, Received, RECEIVED_WORDS};
+use host::sender_model::{self, Act, Acted, Sender, ACT_WORDS, SENDER_WORDS};
+use std::ptr::{dangling_mut, null_mut};
+
+/// Null pointers, and pointers to nothing, with length 0.
+pub fn ends_null_pointers(compare: &mut Compare) -> Outcome {
+    let nowhere: [*mut u8; 3] = [null_mut(), dangling_mut(), usize::MAX as *mut u8];
+    for pointer in nowhere {
+        compare.acts += 24;
+        let found = receiver_with(pointer);
+        let expected = [2, 2, 2, 2, 0, 2, 2, 2, 0, 1];
+        same("answer", &found, &expected).map_err(|why| format!("receiver, {pointer:?}: {why}"))?;
+        let found = sender_with(pointer);
+        let expected = [1, 2, 9, 2, 2, 2, 2, 2, 2, 2, 2, 0, 1, 2];
+        same("answer", &found, &expected).map_err(|why| format!("sender, {pointer:?}: {why}"))?;
+    }
+    Ok(())
+}
+
+/// Answers to: a fresh state of no words; the hybrid receiver without a state, a buffer, a report,
+/// and data; the minimal one the same; and with a wrong setting and nothing at all.
+fn receiver_with(bytes: *mut u8) -> [u64; 10] {
+    let words: *mut u64 = bytes.cast();
+    let none: *const u8 = bytes;
+    let (mut state, mut buffer, mut report) = ([0], [0; 150], [0; 3]);
+    let (s, b, r) = (state.as_mut_ptr(), buffer.as_mut_ptr(), report.as_mut_ptr());
+    // SAFETY: every pointer has memory of the length passed, which is 0 for the odd ones.
+    unsafe {
+        [
+            raw::gmv_receiver_fresh(words, 0),
+            raw::gmv_hybrid_receive(11, 28, 128, 1, words, 0, 0, 68, none, 0, b, 150, 0, r, 3),
+            raw::gmv_hybrid_receive(11, 28, 128, 1, s, 1, 0, 68, none, 0, bytes, 0, 0, r, 3),
+            raw::gmv_hybrid_receive(11, 28, 128, 1, s, 1, 0, 68, none, 0, b, 150, 0, words, 0),
+            raw::gmv_hybrid_receive(11, 28, 128, 1, s, 1, 0, 68, none, 0, b, 150, 0, r, 3),
+            raw::gmv_minimal_receive(128, 1, words, 0, 0, 68, none, 0, b, 150, 0, r, 3),
+            raw::gmv_minimal_receive(128, 1, s, 1, 0, 68, none, 0, bytes, 0, 0, r, 3),
+            raw::gmv_minimal_receive(128, 1, s, 1, 0, 68, none, 0, b, 150, 0, words, 0),
+            raw::gmv_minimal_receive(128, 1, s, 1, 0, 68, none, 0, b, 150, 0, r, 3),
+            raw::gmv_minimal_receive(127, 1, words, 0, 0, 68, none, 0, bytes, 0, 0, words, 0),
+        ]
+    }
+}
+
+/// Answers to: a fresh state of a wrong number and of no words; submitting nothing, and without a
+/// state or report; the other acts without state or report; a block without data; a control block
+/// of no type, and one without buffer and report.
+fn sender_with(bytes: *mut u8) -> [u64; 14] {
+    let words: *mut u64 = bytes.cast();
+    let none: *const u8 = bytes;
+    let (mut state, mut report) = ([1, 0, 0, 0, 0, 2, 1], [0; 8]);
+    let (s, r) = (state.as_mut_ptr(), report.as_mut_ptr());
+    let mut buffer = [0; 60];
+    let (b, text) = (buffer.as_mut_ptr(), b"ADT".as_ptr());
+    // SAFETY: every pointer has memory of the length passed, which is 0 for the odd ones.
+    unsafe {
+        [
+            raw::gmv_sender_fresh(0, words, 0),
+            raw::gmv_sender_fresh(1, words, 0),
+            raw::gmv_sender_submit(128, none, 0, s, 7, r, 8),
+            raw::gmv_sender_submit(128, none, 0, words, 0, r, 8),
+            raw::gmv_sender_submit(128, none, 0, s, 7, words, 0),
+            raw::gmv_sender_open(words, 0, words, 0),
+            raw::gmv_sender_ended(s, 7, words, 0),
+            raw::gmv_sender_reset(words, 0, r, 8),
+            raw::gmv_sender_timer(3, words, 0, words, 0),
+            raw::gmv_sender_block(3, 0, 68, none, 0, words, 0, r, 8),
+            raw::gmv_sender_block(3, 0, 68, none, 0, s, 7, words, 0),
+            raw::gmv_sender_block(3, 0, 68, none, 0, s, 7, r, 8),
+            raw::gmv_hybrid_control_block(11, 28, 128, none, 0, 0, b, 60, 0, r, 8),
+            raw::gmv_minimal_control_block(128, text, 3, 0, bytes, 0, 0, words, 0),
+        ]
+    }
+}
+
+/// One set of pages for each kind of memory.
+struct GuardPages {
+    data: Pages,
+    buffer: Pages,
+    state: Pages,
+    report: Pages,
+}
+
+/// Acts with all memory at the edge of what may be touched.
+pub fn ends_guard_pages(compare: &mut Compare) -> Outcome {
+    let mut guarded = GuardPages {
+        data: Pages::new(1),
+        buffer: Pages::new(1),
+        state: Pages::new(1),
+        report: Pages::new(1),
+    };
+    let mut words = [1, 0, 0, 0, 0, 0, 0];
+    for round in 0..25_000 {
+        let at_end = round % 4 != 0;
+        if round % 50 == 0 {
+            words = [1, 0, 0, 0, 0, 0, 0];
+        }
+        guarded_act(compare, &mut guarded, &mut words, at_end)?;
+        guarded_receive(compare, &mut guarded, at_end)?;
+        if round % 8 == 0 {
+            guarded_control(compare, &mut guarded, at_end)?;
+        }
+    }
+    Ok(())
+}
+
+fn copied<'a>(bytes: &[u8], memory: &'a mut Pages, at_end: bool) -> &'a [u8] {
+    let copied = memory.bytes(bytes.len(), at_end);
+    copied.copy_from_slice(bytes);
+    copied
+}
+
+/// The same act with its bytes in other memory.
+fn moved<'a>(act: &Act, memory: &'a mut Pages, at_end: bool) -> Act<'a> {
+    match *act {
+        Act::Submit { limit, message } => Act::Submit {
+            limit,
+            message: copied(message, memory, at_end),
+        },
+        Act::Block { resends, block } => Act::Block {
+            resends,
+            block: Incoming {
+                data: copied(block.data, memory, at_end),
+                ..block
+            },
+        },
+        Act::Open => Act::Open,
+        Act::Ended => Act::Ended,
+        Act::Reset => Act::Reset,
+        Act::Timer { resends } => Act::Timer { resends },
+    }
+}
+
+fn guarded_act(
+    compare: &mut Compare,
+    guarded: &mut GuardPages,
+    words: &mut [u64; SENDER_WORDS],
+    at_end: bool,
+) -> Outcome {
+    compare.acts += 1;
+    let plan = Plan {
+        resends: compare.random.pick(&[0, 1, 3]),
+        limit: 128,
+    };
+    let sender = Sender::decode(words).ok_or_else(|| format!("{words:?} is no state"))?;
+    let planned = plan.any(&mut compare.random, &sender, 2);
+    let act = planned.act();
+    let state = guarded.state.words(SENDER_WORDS, at_end);
+    state.copy_from_slice(words);
+    let report = guarded.report.words(ACT_WORDS, at_end);
+    report.fill(77);
+    let copied = moved(&act, &mut guarded.data, at_end);
+    let found = ends_ffi::sender_act(&copied, state, report);
+    let (number, then, told) = match sender_model::act_on_words(&act, words, ACT_WORDS) {
+        Acted::Unchanged(number) => (number, *words, [77; ACT_WORDS]),
+        Acted::Reported(number, then, told) => (number, then, told),
+    };
+    same("number", &[found], &[number])
+        .and_then(|()| same("state", state, &then))
+        .and_then(|()| same("report", report, &told))
+        .map_err(|why| format!("{}, state {words:?}: {why}", act_text(&act)))?;
+    *words = then;
+    Ok(())
+}
+
+fn guarded_receive(compare: &mut Compare, guarded: &mut GuardPages, at_end: bool) -> Outcome {
+    compare.acts += 1;
+    let random = &mut compare.random;
+    let settings = if random.one_in(3) {
+        Settings::minimal(128)
+    } else {
+        make::hybrid_settings(random, 128)
+    };
+    let expected = random.pick(&[0, 5, LARGEST_SENT]);
+    let sequence = make_ends::near(random, expected);
+    let mut message = make_ends::request(random, b"5", sequence.as_deref());
+    if random.one_in(3) {
+        message.truncate(random.below(message.len() + 1));
+    }
+    let data = guarded.data.bytes(message.len(), at_end);
+    data.copy_from_slice(&message);
+    let state = guarded.state.words(1, at_end);
+    state[0] = expected;
+    let report = guarded.report.words(RECEIVED_WORDS, at_end);
+    report.fill(77);
+    let start = random.below(5);
+    let less = usize::from(random.one_in(10));
+    let length = start + 128 + settings.overhead() - less;
+    let buffer = guarded.buffer.bytes(length, at_end);
+    buffer.fill(0xEE);
+    let block = Incoming {
+        number: random.pick(&[0, 0, 0, 0, 3, 6]),
+        block_type: random.pick(&[68, 68, 68, 78]),
+        data,
+    };
+    let found = ends_ffi::receive(&settings, 2, state, &block, buffer, start, report);
+    let memory = Memory {
+        buffer_length: length,
+        start,
+        report_words: RECEIVED_WORDS,
+    };
+    let mut bytes = vec![0xEE; length];
+    let (number, then, told) =
+        match receiver_model::receive(&settings, 2, &[expected], &block, &memory) {
+            Received::Refused(number) => (number, expected, [77; RECEIVED_WORDS]),
+            Received::Taken(then, told, reply) => {
+                bytes[start..][..reply.len()].copy_from_slice(&reply);
+                (0, then, told)
+            }
+        };
+    same("number", &[found], &[number])
+        .and_then(|()| same("state", state, &[then]))
+        .and_then(|()| same("report", report, &told))
+        .and_then(|()| same("buffer", buffer, &bytes))
+        .map_err(|why| {
+            let settings = library::settings_text(&settings);
+            let text = library::text(&message);
+            format!("receive, {settings}, state {expected}: {why}; data {text}")
+        })
+}
+
+fn guarded_control(compare: &mut Compare, guarded: &mut GuardPages, at_end: bool) -> Outcome {
+    compare.acts += 1;
+    let settings = compare
+        .random
+        .pick(&[Settings::minimal(128), Settings::hybrid(0x0B, 0x1C, 128)]);
+    let number = compare.random.pick(&[0, MINUS_ONE]);
+    let message_type = guarded.data.bytes(3, at_end);
+    message_type.copy_from_slice(b"ORU");
+    let start = compare.random.below(5);
+    let length = start + compare.random.pick(&[33, 34, 35, 36, 45, 46, 47, 48]);
+    let buffer = guarded.buffer.bytes(length, at_end);
+    buffer.fill(0xEE);
+    let report = guarded.report.words(2, at_end);
+    report.fill(77);
+    let found = ends_ffi::control_block(&settings, message_type, number, buffer, start, report);
+    let memory = Memory {
+        buffer_length: length,
+        start,
+        report_words: 2,
+    };
+    let mut bytes = vec![0xEE; length];
+    let mut told = [77; 2];
+    let expected = match sender_model::control_block(&settings, b"ORU", number, &memory) {
+        Ok(block) => {
+            bytes[start..][..block.len()].copy_from_slice(&block);
+            told = [block.len() as u64, 0];
+            0
+        }
+        Err(number) => number,
+    };
+    same("number", &[found], &[expected])
+        .and_then(|()| same("report", report, &told))
+        .and_then(|()| same("buffer", buffer, &bytes))
+        .map_err(|why| {
+            format!(
+                "control block, {}: {why}",
+                library::settings_text(&settings)
+            )
+        })
+}
