@@ -1,5 +1,6 @@
 # Two commands: `make` proves and builds all and lists a sample; `make test` is the gate.
-# `make bench` measures; `make clean` removes target/, which is all that is ever made here.
+# `make bench` measures (PART=blocks, messages or acts: that part alone); `make clean` removes
+# target/, which is all that is ever made here.
 
 .DEFAULT_GOAL := all
 .NOTPARALLEL:
@@ -37,7 +38,7 @@ test:
 	@tests/gate
 
 bench: setup $(archive)
-	CARGO_TARGET_DIR=$(CURDIR)/target/bench cargo run --release --offline --manifest-path bench/Cargo.toml --bin bench
+	CARGO_TARGET_DIR=$(CURDIR)/target/bench cargo run --release --offline --manifest-path bench/Cargo.toml --bin bench -- $(PART)
 
 clean:
 	rm -rf target

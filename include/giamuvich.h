@@ -19,7 +19,8 @@
  * What the caller answers for, and nothing else:
  *   - each pointer has memory of the length that is passed with it (a length of 0 may come with
  *     any pointer, also a null pointer),
- *   - memory that a function may change overlaps nothing else that is passed in the same call.
+ *   - memory that a function may change overlaps nothing else that is passed in the same call,
+ *   - for the receiver and the sender, the duties about storing and order in their two sections.
  *
  * Settings are plain numbers and are checked in every call that takes them:
  *   start_block, end_block  the bytes SB and EB of a hybrid link. They differ, each is at most
@@ -60,7 +61,7 @@ enum {
     GMV_TOO_SHORT = 2,   /* lent memory is shorter than the stated need */
     GMV_BYTE = 3,        /* a data byte, or a byte of a control ID, is not allowed */
     GMV_LONG = 4,        /* over data_limit + 12 bytes between SB and EB (minimal: data_limit); at a
-                            writer: data over data_limit */
+                            writer and at gmv_sender_submit: data over data_limit */
     GMV_SHAPE = 5,       /* under 12 bytes, wrong type, version or CR, wrong NAK data, EB without CR;
                             at a writer: wrong type or NAK data; at a check also: not exactly one block */
     GMV_COUNT = 6,       /* the five digits are not 5 plus the data's length */
@@ -276,10 +277,17 @@ uint64_t gmv_control_write(const uint8_t *type, size_t type_length, uint64_t num
                            uint8_t *buffer, size_t buffer_length, size_t start,
                            uint64_t *report, size_t report_words);
 
-/* ---- The receiver of sequence numbers ---- */
+/* ---- The receiver of sequence numbers ----
+ *
+ * The driver's duties besides memory:
+ *   - the state and the transaction named in the report are persisted, as one act, before the
+ *     reply goes out,
+ *   - one block at a time: the reply to a block is decided after the state of the block before it
+ *     is persisted,
+ *   - when a circuit ends, a reply that was not yet sent is dropped, and the reader starts afresh
+ *     (gmv_reader_fresh). */
 
-/* The words of a receiver's state. All of it must be persisted, together with the transaction that
- * the report names, as one act, before the reply goes out. */
+/* The words of a receiver's state. All of it is persisted. */
 enum {
     GMV_RECEIVER_EXPECTED = 0, /* 0: none; else the expected sequence number, 1 to 999999999999999 */
     GMV_RECEIVER_WORDS = 1
@@ -323,6 +331,7 @@ uint64_t gmv_receiver_fresh(uint64_t *state, size_t state_words);
  * a byte that data may not have is not readable either) is answered by an N block with G. Minimal:
  * refused blocks, also by 9, are dropped without a reply, and block_type is not looked at.
  * Of the data nothing but these fields is looked at, nor is its length compared with data_limit.
+ * Words from GMV_RECEIVER_WORDS and GMV_RECEIVED_WORDS on are not changed.
  *
  * Returns 0 with state, report and buffer written; or, in this order and with nothing changed:
  *   1  a setting is outside its range, data_limit is below 128, application is neither code,
@@ -343,14 +352,22 @@ uint64_t gmv_minimal_receive(uint64_t data_limit,
                              uint8_t *buffer, size_t buffer_length, size_t start,
                              uint64_t *report, size_t report_words);
 
-/* ---- The sender of sequence numbers ---- */
+/* ---- The sender of sequence numbers ----
+ *
+ * The driver's duties besides memory:
+ *   - the first GMV_SENDER_PERSISTED_WORDS words of the state are persisted, as one act, before the
+ *     next block goes out,
+ *   - sends go out in the order in which the reports named them; an older one that is not yet
+ *     written may be dropped for a newer one,
+ *   - when a circuit ends, sends named and not yet written are dropped; at a new circuit the reader
+ *     starts afresh (gmv_reader_fresh),
+ *   - resends is the same in every call of one sender (else a count may exceed resends + 1). */
 
 /* How often a message is sent again, where nothing else is agreed. */
 enum { GMV_RESENDS_DEFAULT = 3 };
 
-/* The words of a sender's state. The first GMV_SENDER_PERSISTED_WORDS must be persisted, as one act,
- * before the next block goes out; after a crash they are restored and the others set to 0 (no circuit
- * is open). */
+/* The words of a sender's state. After a crash the first GMV_SENDER_PERSISTED_WORDS are restored
+ * and the others set to 0 (no circuit is open). */
 enum {
     GMV_SENDER_FIRST = 0,          /* the first sequence number, 1 to 999999999999998 */
     GMV_SENDER_DELIVERED = 1,      /* the last number known to be delivered; first - 1: none yet */
@@ -358,18 +375,34 @@ enum {
     GMV_SENDER_RESYNCHRONIZED = 3, /* 0 or 1 */
     GMV_SENDER_FROZEN = 4,         /* 0 or 1 */
     GMV_SENDER_PERSISTED_WORDS = 5,
-    GMV_SENDER_WAITING = 5,        /* 0 no circuit, 1 open and nothing waits, 2 -1 waits, 3 0 waits,
-                                      4 the transaction after GMV_SENDER_DELIVERED waits */
+    GMV_SENDER_WAITING = 5,        /* GMV_WAITING_.. */
     GMV_SENDER_SENDS = 6,          /* the sends made of what waits, on this circuit; 0 where nothing
                                       does */
     GMV_SENDER_WORDS = 7
+};
+
+/* What waits for its answer. */
+enum {
+    GMV_WAITING_CLOSED = 0,        /* no circuit is open */
+    GMV_WAITING_IDLE = 1,          /* a circuit is open, and nothing waits */
+    GMV_WAITING_RESYNCHRONIZE = 2, /* the control message for -1 */
+    GMV_WAITING_QUERY = 3,         /* the control message for 0 */
+    GMV_WAITING_TRANSACTION = 4    /* the transaction after GMV_SENDER_DELIVERED */
+};
+
+/* What to send now. */
+enum {
+    GMV_SEND_NOTHING = 0,
+    GMV_SEND_RESYNCHRONIZE = 1, /* the control message for -1 */
+    GMV_SEND_QUERY = 2,         /* the control message for 0 */
+    GMV_SEND_TRANSACTION = 3    /* the transaction GMV_ACT_SEND_NUMBER */
 };
 
 /* What happened. */
 enum {
     GMV_EVENT_NONE = 0,      /* nothing but what the other words say */
     GMV_EVENT_DELIVERED = 1, /* a transaction is known to be delivered */
-    GMV_EVENT_GAVE_UP = 2,   /* a send fell due with all sends spent: the circuit ended */
+    GMV_EVENT_ABANDONED = 2, /* a send fell due with all sends spent: the circuit ended */
     GMV_EVENT_FROZE = 3,     /* an answer that cannot be: frozen until an operator resets; the circuit
                                 ended */
     GMV_EVENT_DROPPED = 4    /* an answer to something else was dropped */
@@ -377,8 +410,7 @@ enum {
 
 /* The words of an act's report. */
 enum {
-    GMV_ACT_SEND = 0,             /* what to send now: 0 nothing, 1 the control message for -1, 2 that
-                                     for 0, 3 a transaction */
+    GMV_ACT_SEND = 0,             /* GMV_SEND_.. */
     GMV_ACT_SEND_NUMBER = 1,      /* the transaction's number; else 0 */
     GMV_ACT_SENDS = 2,            /* the sends made of the message waiting after the act, or of the one
                                      just given up; with neither 0 */
@@ -387,7 +419,7 @@ enum {
     GMV_ACT_CODE = 5,             /* with GMV_EVENT_DELIVERED GMV_CODE_AA, GMV_CODE_AE, or 0 where the
                                      application's verdict is unknown; else 0 */
     GMV_ACT_BLOCK = 6,            /* at gmv_sender_block the number of a refused block, 3 to 9; else
-                                     0 */
+                                     0, and 0 with a refusal (11) */
     GMV_ACT_FORBIDDEN_OFFSET = 7, /* at gmv_sender_submit with 3 the offset of the first forbidden
                                      byte, else 0 */
     GMV_ACT_WORDS = 8
@@ -402,7 +434,8 @@ enum {
  * 2: state_words below GMV_SENDER_WORDS or report_words below GMV_ACT_WORDS.
  * 11: the act does not apply now, or the words encode no state (then GMV_ACT_SENDS is 0). Words encode
  * a state exactly if 1 <= first <= 999999999999998,
- * first - 1 <= delivered <= last <= 999999999999998, resynchronized and frozen are 0 or 1, and
+ * first - 1 <= delivered <= last <= 999999999999998, resynchronized and frozen are 0 or 1,
+ * resynchronized is 1 or delivered = first - 1, and
  *   waiting 0: sends 0;
  *   waiting 1: resynchronized, not frozen, delivered = last, sends 0;
  *   waiting 2: not resynchronized, not frozen, sends 1 to 100;
@@ -410,8 +443,9 @@ enum {
  *   waiting 4: resynchronized, not frozen, delivered < last, sends 1 to 100.
  * Waiting is never over 4. */
 
-/* A new sender: nothing submitted, first number `first`. Returns 0; or, in this order and with nothing
- * changed, 1 (first is not 1 to 999999999999998) or 2 (state_words below GMV_SENDER_WORDS). */
+/* A new sender: nothing submitted, first number `first`. Returns 0; or, in this order and with
+ * nothing changed, 1 (first is not 1 to 999999999999998) or 2 (state_words below GMV_SENDER_WORDS).
+ * Words from GMV_SENDER_WORDS on are not changed. */
 uint64_t gmv_sender_fresh(uint64_t first, uint64_t *state, size_t state_words);
 
 /* A transaction is submitted: the message with the next number, last + 1. It stays in the host's log.
@@ -445,6 +479,7 @@ uint64_t gmv_sender_timer(uint64_t resends, uint64_t *state, size_t state_words,
                           uint64_t *report, size_t report_words);
 
 /* A block was read on the circuit: block_number, block_type and data as for the receiver.
+ * block_type is as the reader gave it; on a minimal link the reader gives GMV_DATA_BLOCK.
  *
  * An N block (block_type GMV_NAK_BLOCK) and a refused block, also by 9 (data that gmv_answer_read
  * refuses), do what the timer does. An answer whose MSA-2 is not the control ID of what waits is

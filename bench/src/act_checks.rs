@@ -12,8 +12,9 @@ use crate::receiver_model::Incoming;
 use crate::sender_model::Act;
 
 /// States of every kind, and words that are none.
-const STATES: [[u64; SENDER_WORDS]; 12] = [
+const STATES: [[u64; SENDER_WORDS]; 15] = [
     [1, 0, 0, 0, 0, 0, 0],
+    [1, 0, 1, 0, 1, 0, 0],
     [1, 0, 1, 0, 0, 2, 1],
     [1, 0, 1, 1, 0, 3, 4],
     [1, 1, 1, 1, 0, 3, 1],
@@ -23,6 +24,8 @@ const STATES: [[u64; SENDER_WORDS]; 12] = [
     [LARGEST_SENT, LARGEST_SENT - 1, LARGEST_SENT, 1, 0, 4, 2],
     [1, LARGEST_SENT, LARGEST_SENT, 1, 0, 1, 0],
     [1, 0, 1, 2, 0, 0, 0],
+    [1, 1, 1, 0, 0, 0, 0],
+    [1, 1, 2, 0, 0, 2, 1],
     [1, 0, 1, 1, 1, 4, 1],
     [1, 2, 1, 1, 0, 4, MINUS_ONE],
 ];

@@ -22,7 +22,7 @@ const SENDING: u64 = 4;
 /// Events, as in GMV_ACT_EVENT.
 const NONE: u64 = 0;
 const DELIVERED: u64 = 1;
-const GAVE_UP: u64 = 2;
+const ABANDONED: u64 = 2;
 const FROZE: u64 = 3;
 const DROPPED: u64 = 4;
 
@@ -60,6 +60,7 @@ impl Sender {
             && self.first - 1 <= self.delivered
             && self.delivered <= self.last
             && self.last <= LARGEST_SENT
+            && (self.resynchronized || self.delivered == self.first - 1)
     }
 
     fn can_wait(&self) -> bool {
@@ -150,7 +151,7 @@ impl Sender {
             self.sending(NONE)
         } else {
             let sends = self.sends;
-            let mut report = self.close(GAVE_UP);
+            let mut report = self.close(ABANDONED);
             report[2] = sends;
             report
         };

@@ -117,7 +117,7 @@ static void note_act(exchange *x, uint64_t answer)
     CHECK(x->act[GMV_ACT_EVENT] != GMV_EVENT_FROZE && x->act[GMV_ACT_EVENT] != GMV_EVENT_DROPPED);
     if (x->act[GMV_ACT_EVENT] == GMV_EVENT_DELIVERED)
         add(&x->delivered, x->act[GMV_ACT_DELIVERED], x->act[GMV_ACT_CODE]);
-    if (x->act[GMV_ACT_EVENT] == GMV_EVENT_GAVE_UP)
+    if (x->act[GMV_ACT_EVENT] == GMV_EVENT_ABANDONED)
         CHECK(x->fault == LINE_DOWN && x->act[GMV_ACT_SENDS] == GMV_RESENDS_DEFAULT + 1);
 }
 
@@ -149,16 +149,17 @@ static void submit_next(exchange *x)
 static size_t write_named_block(exchange *x, uint8_t *block)
 {
     const settings link = x->link;
-    const uint64_t send = x->act[GMV_ACT_SEND], number = send == 1 ? GMV_MINUS_ONE : 0;
+    const uint64_t send = x->act[GMV_ACT_SEND];
+    const uint64_t number = send == GMV_SEND_RESYNCHRONIZE ? GMV_MINUS_ONE : 0;
     const uint8_t *type = (const uint8_t *)"ADT";
     uint64_t report[GMV_REPORT_WORDS] = {0}, answer;
     char message[LEAST_LIMIT];
     size_t length = message_in_log(message, x->act[GMV_ACT_SEND_NUMBER]);
 
-    if (send == 3 && link.minimal)
+    if (send == GMV_SEND_TRANSACTION && link.minimal)
         answer = gmv_minimal_write(link.data_limit, (uint8_t *)message, length, block,
                                    LONGEST_BLOCK, 0, report, GMV_REPORT_WORDS);
-    else if (send == 3)
+    else if (send == GMV_SEND_TRANSACTION)
         answer = gmv_hybrid_write(link.start_block, link.end_block, link.data_limit, 'D',
                                   (uint8_t *)message, length, block, LONGEST_BLOCK, 0, report,
                                   GMV_REPORT_WORDS);
@@ -269,7 +270,7 @@ static void send_named_block(exchange *x)
 
     count_send(x);
     x->blocks++;
-    if (x->act[GMV_ACT_SEND] == 3 && x->blocks == x->fault_at)
+    if (x->act[GMV_ACT_SEND] == GMV_SEND_TRANSACTION && x->blocks == x->fault_at)
         x->unknown = x->fault >= REPLY_LOST && x->fault <= CIRCUIT_ENDED;
     send_request(x, block, length);
     send_reply(x);
@@ -292,15 +293,23 @@ static exchange new_exchange(settings link, enum fault fault, size_t fault_at)
     return x;
 }
 
+/* A new circuit: both readers start afresh. */
+static void open_circuit(exchange *x)
+{
+    x->sent = GMV_SEND_NOTHING;
+    CHECK(gmv_reader_fresh(x->to_sender.reader, GMV_READER_WORDS) == GMV_OK);
+    CHECK(gmv_reader_fresh(x->to_receiver.reader, GMV_READER_WORDS) == GMV_OK);
+    note_act(x, gmv_sender_open(x->sender, GMV_SENDER_WORDS, x->act, GMV_ACT_WORDS));
+}
+
 /* The hosts' next step: a circuit, the block that is due, the next transaction, or the timer. */
 static void take_turn(exchange *x)
 {
-    if (x->sender[GMV_SENDER_WAITING] == 0) {
-        x->sent = 0;
-        note_act(x, gmv_sender_open(x->sender, GMV_SENDER_WORDS, x->act, GMV_ACT_WORDS));
-    } else if (x->act[GMV_ACT_SEND] != 0) {
+    if (x->sender[GMV_SENDER_WAITING] == GMV_WAITING_CLOSED) {
+        open_circuit(x);
+    } else if (x->act[GMV_ACT_SEND] != GMV_SEND_NOTHING) {
         send_named_block(x);
-    } else if (x->sender[GMV_SENDER_WAITING] == 1) {
+    } else if (x->sender[GMV_SENDER_WAITING] == GMV_WAITING_IDLE) {
         submit_next(x);
     } else {
         note_act(x, gmv_sender_timer(GMV_RESENDS_DEFAULT, x->sender, GMV_SENDER_WORDS, x->act,
@@ -360,7 +369,7 @@ static void lost_answer(void)
     take_turn(&x); /* the transaction, whose answer is lost */
     CHECK(x.receiver[0] == FIRST + 1 && x.persisted.count == 1 && x.delivered.count == 0);
     take_turn(&x); /* the timer runs out */
-    CHECK(x.act[GMV_ACT_SEND] == 3 && x.act[GMV_ACT_SENDS] == 2);
+    CHECK(x.act[GMV_ACT_SEND] == GMV_SEND_TRANSACTION && x.act[GMV_ACT_SENDS] == 2);
     take_turn(&x); /* the transaction again */
     CHECK(memcmp(x.act, unknown, sizeof unknown) == 0);
     CHECK(x.receiver[0] == FIRST + 1 && x.persisted.count == 1 && x.delivered.count == 1);

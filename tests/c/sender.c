@@ -11,10 +11,6 @@ enum { WORD = sizeof(uint64_t), LEAST_LIMIT = 128, LARGEST_LIMIT = 99994, LONGES
 /* A text and its length, which leaves out C's closing zero byte. */
 #define TEXT(text) text, sizeof text - 1
 
-/* GMV_SENDER_WAITING, and GMV_ACT_SEND. */
-enum { NO_CIRCUIT, IDLE, WAITS_ON_MINUS_ONE, WAITS_ON_ZERO, WAITS_ON_TRANSACTION };
-enum { SEND_NOTHING, SEND_MINUS_ONE, SEND_ZERO, SEND_TRANSACTION };
-
 static const uint64_t largest_sent = 999999999999998;
 
 /* The words of a state: first, delivered, last, resynchronized, frozen, waiting, sends. Those of a
@@ -164,41 +160,42 @@ static void refuses_setting(act a, sender before)
 
 /* ---- states */
 
-/* First number 5; 5 to 7 submitted, 5 delivered: 6 waits. The others wait on 0, -1 or nothing. */
+/* First number 5; 5 to 7 submitted, 5 delivered: 6 waits. The others wait on 0 or nothing, or on -1
+ * with nothing delivered yet. */
 static sender waits_on_6(uint64_t sends)
 {
-    return SENDER(5, 5, 7, 1, 0, WAITS_ON_TRANSACTION, sends);
+    return SENDER(5, 5, 7, 1, 0, GMV_WAITING_TRANSACTION, sends);
 }
 
 static sender waits_on_zero(uint64_t sends)
 {
-    return SENDER(5, 5, 7, 1, 0, WAITS_ON_ZERO, sends);
+    return SENDER(5, 5, 7, 1, 0, GMV_WAITING_QUERY, sends);
 }
 
 static sender waits_on_minus_one(uint64_t sends)
 {
-    return SENDER(5, 5, 7, 0, 0, WAITS_ON_MINUS_ONE, sends);
+    return SENDER(5, 4, 7, 0, 0, GMV_WAITING_RESYNCHRONIZE, sends);
 }
 
 static sender idle(void)
 {
-    return SENDER(5, 7, 7, 1, 0, IDLE, 0);
+    return SENDER(5, 7, 7, 1, 0, GMV_WAITING_IDLE, 0);
 }
 
 static sender without_circuit(void)
 {
-    return SENDER(5, 5, 7, 1, 0, NO_CIRCUIT, 0);
+    return SENDER(5, 5, 7, 1, 0, GMV_WAITING_CLOSED, 0);
 }
 
 static sender frozen(void)
 {
-    return SENDER(5, 5, 7, 1, 1, NO_CIRCUIT, 0);
+    return SENDER(5, 5, 7, 1, 1, GMV_WAITING_CLOSED, 0);
 }
 
 /* The circuit has ended, and all that is persisted is as before. */
 static sender closed(sender from)
 {
-    from.words[GMV_SENDER_WAITING] = NO_CIRCUIT;
+    from.words[GMV_SENDER_WAITING] = GMV_WAITING_CLOSED;
     from.words[GMV_SENDER_SENDS] = 0;
     return from;
 }
@@ -280,16 +277,17 @@ static void first_submitted(void)
 /* With or without a circuit, and while something waits; on an idle circuit it is sent at once. */
 static void submitted_in_every_state(void)
 {
-    submit("8", "8", without_circuit(), SENDER(5, 5, 8, 1, 0, NO_CIRCUIT, 0), nothing);
-    submit("8", "8", idle(), SENDER(5, 7, 8, 1, 0, WAITS_ON_TRANSACTION, 1),
-           REPORT(SEND_TRANSACTION, 8, 1));
+    submit("8", "8", without_circuit(), SENDER(5, 5, 8, 1, 0, GMV_WAITING_CLOSED, 0), nothing);
+    submit("8", "8", idle(), SENDER(5, 7, 8, 1, 0, GMV_WAITING_TRANSACTION, 1),
+           REPORT(GMV_SEND_TRANSACTION, 8, 1));
     for (uint64_t sends = 1; sends <= 100; sends += 33) {
-        report waits = REPORT(SEND_NOTHING, 0, sends);
+        report waits = REPORT(GMV_SEND_NOTHING, 0, sends);
 
         submit("8", "8", waits_on_minus_one(sends),
-               SENDER(5, 5, 8, 0, 0, WAITS_ON_MINUS_ONE, sends), waits);
-        submit("8", "8", waits_on_zero(sends), SENDER(5, 5, 8, 1, 0, WAITS_ON_ZERO, sends), waits);
-        submit("8", "8", waits_on_6(sends), SENDER(5, 5, 8, 1, 0, WAITS_ON_TRANSACTION, sends),
+               SENDER(5, 4, 8, 0, 0, GMV_WAITING_RESYNCHRONIZE, sends), waits);
+        submit("8", "8", waits_on_zero(sends), SENDER(5, 5, 8, 1, 0, GMV_WAITING_QUERY, sends),
+               waits);
+        submit("8", "8", waits_on_6(sends), SENDER(5, 5, 8, 1, 0, GMV_WAITING_TRANSACTION, sends),
                waits);
     }
 }
@@ -339,16 +337,17 @@ static void submit_last_number(void)
 
     submit("999999999999998", "999999999999998", SENDER(5, 5, last - 1, 1, 0, 0, 0),
            SENDER(5, 5, last, 1, 0, 0, 0), nothing);
-    submit("999999999999998", "999999999999998", SENDER(last, last - 1, last - 1, 1, 0, IDLE, 0),
-           SENDER(last, last - 1, last, 1, 0, WAITS_ON_TRANSACTION, 1),
-           REPORT(SEND_TRANSACTION, last, 1));
+    submit("999999999999998", "999999999999998",
+           SENDER(last, last - 1, last - 1, 1, 0, GMV_WAITING_IDLE, 0),
+           SENDER(last, last - 1, last, 1, 0, GMV_WAITING_TRANSACTION, 1),
+           REPORT(GMV_SEND_TRANSACTION, last, 1));
     submit_refuses("999999999999998", "999999999999998", SENDER(5, 5, last, 1, 0, 0, 0),
                    GMV_NUMBER);
     submit_refuses("999999999999999", "999999999999999", SENDER(5, 5, last, 1, 0, 0, 0),
                    GMV_NUMBER);
-    submit_refuses("1000000000000000", "1000000000000000", SENDER(5, last, last, 1, 0, IDLE, 0),
-                   GMV_NUMBER);
-    submit_refuses("0", "0", SENDER(5, last, last, 1, 0, IDLE, 0), GMV_NUMBER);
+    submit_refuses("1000000000000000", "1000000000000000",
+                   SENDER(5, last, last, 1, 0, GMV_WAITING_IDLE, 0), GMV_NUMBER);
+    submit_refuses("0", "0", SENDER(5, last, last, 1, 0, GMV_WAITING_IDLE, 0), GMV_NUMBER);
 }
 
 /* A message as long as the limit is taken, and one with a byte more is 4. */
@@ -449,24 +448,24 @@ static void submit_order(void)
     memcpy(message, TEXT("MSH|^~\\&|||||||ADT|9|P|2.3.1|8\r"));
     refuses(a, waits_on_6(1), GMV_NUMBER);
     message[19] = '8';
-    acts(a, waits_on_6(1), SENDER(5, 5, 8, 1, 0, WAITS_ON_TRANSACTION, 1), REPORT(0, 0, 1));
+    acts(a, waits_on_6(1), SENDER(5, 5, 8, 1, 0, GMV_WAITING_TRANSACTION, 1), REPORT(0, 0, 1));
 }
 
 /* ---- circuits */
 
 static void opened_before_resynchronizing(void)
 {
-    acts(new_act(OPEN), SENDER(5, 4, 4, 0, 0, 0, 0), SENDER(5, 4, 4, 0, 0, WAITS_ON_MINUS_ONE, 1),
-         REPORT(SEND_MINUS_ONE, 0, 1));
-    acts(new_act(OPEN), SENDER(5, 5, 7, 0, 0, 0, 0), SENDER(5, 5, 7, 0, 0, WAITS_ON_MINUS_ONE, 1),
-         REPORT(SEND_MINUS_ONE, 0, 1));
+    acts(new_act(OPEN), SENDER(5, 4, 4, 0, 0, 0, 0),
+         SENDER(5, 4, 4, 0, 0, GMV_WAITING_RESYNCHRONIZE, 1), REPORT(GMV_SEND_RESYNCHRONIZE, 0, 1));
+    acts(new_act(OPEN), SENDER(5, 4, 7, 0, 0, 0, 0), waits_on_minus_one(1),
+         REPORT(GMV_SEND_RESYNCHRONIZE, 0, 1));
 }
 
 static void opened_after_resynchronizing(void)
 {
-    acts(new_act(OPEN), SENDER(5, 4, 4, 1, 0, 0, 0), SENDER(5, 4, 4, 1, 0, WAITS_ON_ZERO, 1),
-         REPORT(SEND_ZERO, 0, 1));
-    acts(new_act(OPEN), without_circuit(), waits_on_zero(1), REPORT(SEND_ZERO, 0, 1));
+    acts(new_act(OPEN), SENDER(5, 4, 4, 1, 0, 0, 0), SENDER(5, 4, 4, 1, 0, GMV_WAITING_QUERY, 1),
+         REPORT(GMV_SEND_QUERY, 0, 1));
+    acts(new_act(OPEN), without_circuit(), waits_on_zero(1), REPORT(GMV_SEND_QUERY, 0, 1));
 }
 
 static void open_refusals(void)
@@ -590,11 +589,11 @@ static void all_others_freeze(sender before, const char *id, const char *const g
 static void answer_to_minus_one(void)
 {
     acts(answers("-1", "AA", "-1"), waits_on_minus_one(2),
-         SENDER(5, 5, 7, 1, 0, WAITS_ON_TRANSACTION, 1), REPORT(SEND_TRANSACTION, 6, 1));
-    acts(answers("-1", "AA", "-1"), SENDER(5, 4, 4, 0, 0, WAITS_ON_MINUS_ONE, 100),
-         SENDER(5, 4, 4, 1, 0, IDLE, 0), nothing);
-    acts(answers("-1", "AA", "-1"), SENDER(1, 0, 1, 0, 0, WAITS_ON_MINUS_ONE, 1),
-         SENDER(1, 0, 1, 1, 0, WAITS_ON_TRANSACTION, 1), REPORT(SEND_TRANSACTION, 1, 1));
+         SENDER(5, 4, 7, 1, 0, GMV_WAITING_TRANSACTION, 1), REPORT(GMV_SEND_TRANSACTION, 5, 1));
+    acts(answers("-1", "AA", "-1"), SENDER(5, 4, 4, 0, 0, GMV_WAITING_RESYNCHRONIZE, 100),
+         SENDER(5, 4, 4, 1, 0, GMV_WAITING_IDLE, 0), nothing);
+    acts(answers("-1", "AA", "-1"), SENDER(1, 0, 1, 0, 0, GMV_WAITING_RESYNCHRONIZE, 1),
+         SENDER(1, 0, 1, 1, 0, GMV_WAITING_TRANSACTION, 1), REPORT(GMV_SEND_TRANSACTION, 1, 1));
 }
 
 static void other_answers_to_minus_one(void)
@@ -602,34 +601,35 @@ static void other_answers_to_minus_one(void)
     static const char *const good[MOST_GOOD][2] = {{"AA", "-1"}};
 
     all_others_freeze(waits_on_minus_one(2), "-1", good);
-    all_others_freeze(SENDER(5, 4, 4, 0, 0, WAITS_ON_MINUS_ONE, 1), "-1", good);
+    all_others_freeze(SENDER(5, 4, 4, 0, 0, GMV_WAITING_RESYNCHRONIZE, 1), "-1", good);
 }
 
 /* AA, -1 where nothing is delivered yet. */
 static void none_expected_on_zero(void)
 {
-    acts(answers("0", "AA", "-1"), SENDER(5, 4, 7, 1, 0, WAITS_ON_ZERO, 2),
-         SENDER(5, 4, 7, 1, 0, WAITS_ON_TRANSACTION, 1), REPORT(SEND_TRANSACTION, 5, 1));
-    acts(answers("0", "AA", "-1"), SENDER(5, 4, 4, 1, 0, WAITS_ON_ZERO, 1),
-         SENDER(5, 4, 4, 1, 0, IDLE, 0), nothing);
-    freezes(answers("0", "AA", "-1"), SENDER(5, 5, 7, 1, 0, WAITS_ON_ZERO, 1));
-    freezes(answers("0", "AA", "-1"), SENDER(1, 1, 1, 1, 0, WAITS_ON_ZERO, 1));
+    acts(answers("0", "AA", "-1"), SENDER(5, 4, 7, 1, 0, GMV_WAITING_QUERY, 2),
+         SENDER(5, 4, 7, 1, 0, GMV_WAITING_TRANSACTION, 1), REPORT(GMV_SEND_TRANSACTION, 5, 1));
+    acts(answers("0", "AA", "-1"), SENDER(5, 4, 4, 1, 0, GMV_WAITING_QUERY, 1),
+         SENDER(5, 4, 4, 1, 0, GMV_WAITING_IDLE, 0), nothing);
+    freezes(answers("0", "AA", "-1"), SENDER(5, 5, 7, 1, 0, GMV_WAITING_QUERY, 1));
+    freezes(answers("0", "AA", "-1"), SENDER(1, 1, 1, 1, 0, GMV_WAITING_QUERY, 1));
 }
 
 /* AA, e where e - 1 is delivered. */
 static void next_expected_on_zero(void)
 {
-    acts(answers("0", "AA", "6"), waits_on_zero(3), waits_on_6(1), REPORT(SEND_TRANSACTION, 6, 1));
+    acts(answers("0", "AA", "6"), waits_on_zero(3), waits_on_6(1),
+         REPORT(GMV_SEND_TRANSACTION, 6, 1));
     acts(answers("0", "AA", "006"), waits_on_zero(3), waits_on_6(1),
-         REPORT(SEND_TRANSACTION, 6, 1));
-    acts(answers("0", "AA", "8"), SENDER(5, 7, 7, 1, 0, WAITS_ON_ZERO, 1), idle(), nothing);
-    acts(answers("0", "AA", "5"), SENDER(5, 4, 5, 1, 0, WAITS_ON_ZERO, 1),
-         SENDER(5, 4, 5, 1, 0, WAITS_ON_TRANSACTION, 1), REPORT(SEND_TRANSACTION, 5, 1));
-    acts(answers("0", "AA", "1"), SENDER(1, 0, 0, 1, 0, WAITS_ON_ZERO, 1),
-         SENDER(1, 0, 0, 1, 0, IDLE, 0), nothing);
+         REPORT(GMV_SEND_TRANSACTION, 6, 1));
+    acts(answers("0", "AA", "8"), SENDER(5, 7, 7, 1, 0, GMV_WAITING_QUERY, 1), idle(), nothing);
+    acts(answers("0", "AA", "5"), SENDER(5, 4, 5, 1, 0, GMV_WAITING_QUERY, 1),
+         SENDER(5, 4, 5, 1, 0, GMV_WAITING_TRANSACTION, 1), REPORT(GMV_SEND_TRANSACTION, 5, 1));
+    acts(answers("0", "AA", "1"), SENDER(1, 0, 0, 1, 0, GMV_WAITING_QUERY, 1),
+         SENDER(1, 0, 0, 1, 0, GMV_WAITING_IDLE, 0), nothing);
     acts(answers("0", "AA", "999999999999999"),
-         SENDER(5, largest_sent, largest_sent, 1, 0, WAITS_ON_ZERO, 1),
-         SENDER(5, largest_sent, largest_sent, 1, 0, IDLE, 0), nothing);
+         SENDER(5, largest_sent, largest_sent, 1, 0, GMV_WAITING_QUERY, 1),
+         SENDER(5, largest_sent, largest_sent, 1, 0, GMV_WAITING_IDLE, 0), nothing);
 }
 
 /* AA, e where e - 1 is the next one and was submitted: it is delivered, its verdict unknown. */
@@ -637,17 +637,20 @@ static void one_more_expected_on_zero(void)
 {
     const uint64_t last = largest_sent;
 
-    acts(answers("0", "AA", "7"), waits_on_zero(3), SENDER(5, 6, 7, 1, 0, WAITS_ON_TRANSACTION, 1),
-         REPORT(SEND_TRANSACTION, 7, 1, GMV_EVENT_DELIVERED, 6));
-    acts(answers("0", "AA", "8"), SENDER(5, 6, 7, 1, 0, WAITS_ON_ZERO, 3), idle(),
+    acts(answers("0", "AA", "7"), waits_on_zero(3),
+         SENDER(5, 6, 7, 1, 0, GMV_WAITING_TRANSACTION, 1),
+         REPORT(GMV_SEND_TRANSACTION, 7, 1, GMV_EVENT_DELIVERED, 6));
+    acts(answers("0", "AA", "8"), SENDER(5, 6, 7, 1, 0, GMV_WAITING_QUERY, 3), idle(),
          REPORT(0, 0, 0, GMV_EVENT_DELIVERED, 7));
-    acts(answers("0", "AA", "6"), SENDER(5, 4, 5, 1, 0, WAITS_ON_ZERO, 1),
-         SENDER(5, 5, 5, 1, 0, IDLE, 0), REPORT(0, 0, 0, GMV_EVENT_DELIVERED, 5));
-    acts(answers("0", "AA", "999999999999999"), SENDER(5, last - 1, last, 1, 0, WAITS_ON_ZERO, 1),
-         SENDER(5, last, last, 1, 0, IDLE, 0), REPORT(0, 0, 0, GMV_EVENT_DELIVERED, last));
+    acts(answers("0", "AA", "6"), SENDER(5, 4, 5, 1, 0, GMV_WAITING_QUERY, 1),
+         SENDER(5, 5, 5, 1, 0, GMV_WAITING_IDLE, 0), REPORT(0, 0, 0, GMV_EVENT_DELIVERED, 5));
+    acts(answers("0", "AA", "999999999999999"),
+         SENDER(5, last - 1, last, 1, 0, GMV_WAITING_QUERY, 1),
+         SENDER(5, last, last, 1, 0, GMV_WAITING_IDLE, 0),
+         REPORT(0, 0, 0, GMV_EVENT_DELIVERED, last));
     /* not submitted */
-    freezes(answers("0", "AA", "9"), SENDER(5, 7, 7, 1, 0, WAITS_ON_ZERO, 1));
-    freezes(answers("0", "AA", "6"), SENDER(5, 4, 4, 1, 0, WAITS_ON_ZERO, 1));
+    freezes(answers("0", "AA", "9"), SENDER(5, 7, 7, 1, 0, GMV_WAITING_QUERY, 1));
+    freezes(answers("0", "AA", "6"), SENDER(5, 4, 4, 1, 0, GMV_WAITING_QUERY, 1));
 }
 
 static void other_answers_to_zero(void)
@@ -658,8 +661,8 @@ static void other_answers_to_zero(void)
     static const char *const one_first[MOST_GOOD][2] = {{"AA", "-1"}, {"AA", "1"}};
 
     all_others_freeze(waits_on_zero(2), "0", good);
-    all_others_freeze(SENDER(5, 4, 4, 1, 0, WAITS_ON_ZERO, 1), "0", at_first);
-    all_others_freeze(SENDER(1, 0, 0, 1, 0, WAITS_ON_ZERO, 1), "0", one_first);
+    all_others_freeze(SENDER(5, 4, 4, 1, 0, GMV_WAITING_QUERY, 1), "0", at_first);
+    all_others_freeze(SENDER(1, 0, 0, 1, 0, GMV_WAITING_QUERY, 1), "0", one_first);
 }
 
 /* AA or AE with n: n is delivered with that verdict. */
@@ -672,16 +675,17 @@ static void answers_with_verdict(void)
         const char *name = accepts_or_errs[i];
         const uint64_t code = GMV_CODE_AA + i;
 
-        acts(answers("6", name, "6"), waits_on_6(2), SENDER(5, 6, 7, 1, 0, WAITS_ON_TRANSACTION, 1),
-             REPORT(SEND_TRANSACTION, 7, 1, GMV_EVENT_DELIVERED, 6, code));
+        acts(answers("6", name, "6"), waits_on_6(2),
+             SENDER(5, 6, 7, 1, 0, GMV_WAITING_TRANSACTION, 1),
+             REPORT(GMV_SEND_TRANSACTION, 7, 1, GMV_EVENT_DELIVERED, 6, code));
         acts(answers("6", name, "0006"), waits_on_6(100),
-             SENDER(5, 6, 7, 1, 0, WAITS_ON_TRANSACTION, 1),
-             REPORT(SEND_TRANSACTION, 7, 1, GMV_EVENT_DELIVERED, 6, code));
-        acts(answers("7", name, "7"), SENDER(5, 6, 7, 1, 0, WAITS_ON_TRANSACTION, 1), idle(),
+             SENDER(5, 6, 7, 1, 0, GMV_WAITING_TRANSACTION, 1),
+             REPORT(GMV_SEND_TRANSACTION, 7, 1, GMV_EVENT_DELIVERED, 6, code));
+        acts(answers("7", name, "7"), SENDER(5, 6, 7, 1, 0, GMV_WAITING_TRANSACTION, 1), idle(),
              REPORT(0, 0, 0, GMV_EVENT_DELIVERED, 7, code));
         acts(answers("999999999999998", name, "999999999999998"),
-             SENDER(5, last - 1, last, 1, 0, WAITS_ON_TRANSACTION, 1),
-             SENDER(5, last, last, 1, 0, IDLE, 0),
+             SENDER(5, last - 1, last, 1, 0, GMV_WAITING_TRANSACTION, 1),
+             SENDER(5, last, last, 1, 0, GMV_WAITING_IDLE, 0),
              REPORT(0, 0, 0, GMV_EVENT_DELIVERED, last, code));
     }
 }
@@ -691,13 +695,14 @@ static void answers_without_verdict(void)
 {
     const uint64_t last = largest_sent;
 
-    acts(answers("6", "AR", "7"), waits_on_6(2), SENDER(5, 6, 7, 1, 0, WAITS_ON_TRANSACTION, 1),
-         REPORT(SEND_TRANSACTION, 7, 1, GMV_EVENT_DELIVERED, 6));
-    acts(answers("7", "AR", "8"), SENDER(5, 6, 7, 1, 0, WAITS_ON_TRANSACTION, 4), idle(),
+    acts(answers("6", "AR", "7"), waits_on_6(2), SENDER(5, 6, 7, 1, 0, GMV_WAITING_TRANSACTION, 1),
+         REPORT(GMV_SEND_TRANSACTION, 7, 1, GMV_EVENT_DELIVERED, 6));
+    acts(answers("7", "AR", "8"), SENDER(5, 6, 7, 1, 0, GMV_WAITING_TRANSACTION, 4), idle(),
          REPORT(0, 0, 0, GMV_EVENT_DELIVERED, 7));
     acts(answers("999999999999998", "AR", "999999999999999"),
-         SENDER(5, last - 1, last, 1, 0, WAITS_ON_TRANSACTION, 1),
-         SENDER(5, last, last, 1, 0, IDLE, 0), REPORT(0, 0, 0, GMV_EVENT_DELIVERED, last));
+         SENDER(5, last - 1, last, 1, 0, GMV_WAITING_TRANSACTION, 1),
+         SENDER(5, last, last, 1, 0, GMV_WAITING_IDLE, 0),
+         REPORT(0, 0, 0, GMV_EVENT_DELIVERED, last));
 }
 
 static void other_answers_to_transactions(void)
@@ -707,7 +712,7 @@ static void other_answers_to_transactions(void)
     static const char *const one[MOST_GOOD][2] = {{"AA", "1"}, {"AE", "1"}};
 
     all_others_freeze(waits_on_6(2), "6", good);
-    all_others_freeze(SENDER(1, 0, 1, 1, 0, WAITS_ON_TRANSACTION, 1), "1", one);
+    all_others_freeze(SENDER(1, 0, 1, 1, 0, GMV_WAITING_TRANSACTION, 1), "1", one);
 }
 
 /* Fields that are missing, and a type that is neither D nor N. */
@@ -721,12 +726,12 @@ static void unusual_answers(void)
     freezes(reads_block(3, 0, 'D', "MSH|^~\\&|||||||ACK|6|P|2.3.1\rMSA||6||6\r"), waits_on_6(1));
     for (size_t i = 0; i < sizeof types / sizeof types[0]; i++) {
         a.block_type = types[i];
-        acts(a, waits_on_6(2), SENDER(5, 6, 7, 1, 0, WAITS_ON_TRANSACTION, 1),
-             REPORT(SEND_TRANSACTION, 7, 1, GMV_EVENT_DELIVERED, 6, GMV_CODE_AA));
+        acts(a, waits_on_6(2), SENDER(5, 6, 7, 1, 0, GMV_WAITING_TRANSACTION, 1),
+             REPORT(GMV_SEND_TRANSACTION, 7, 1, GMV_EVENT_DELIVERED, 6, GMV_CODE_AA));
     }
     acts(reads_block(3, 0, 'D', "MSH|^~\\&|||||||ACK|9|P|2.3.1|3\rMSA|AE|6|x|6|y\rERR|1"),
-         waits_on_6(2), SENDER(5, 6, 7, 1, 0, WAITS_ON_TRANSACTION, 1),
-         REPORT(SEND_TRANSACTION, 7, 1, GMV_EVENT_DELIVERED, 6, GMV_CODE_AE));
+         waits_on_6(2), SENDER(5, 6, 7, 1, 0, GMV_WAITING_TRANSACTION, 1),
+         REPORT(GMV_SEND_TRANSACTION, 7, 1, GMV_EVENT_DELIVERED, 6, GMV_CODE_AE));
 }
 
 /* An answer to something else is dropped, whatever it says, and is no send. */
@@ -759,7 +764,7 @@ static void foreign_answers(void)
 /* A late AR for 4 says 5, while 5 waits: dropped, as are late answers with AA. */
 static void late_answers(void)
 {
-    const sender waits_on_5 = SENDER(3, 4, 6, 1, 0, WAITS_ON_TRANSACTION, 2);
+    const sender waits_on_5 = SENDER(3, 4, 6, 1, 0, GMV_WAITING_TRANSACTION, 2);
 
     acts(answers("4", "AR", "5"), waits_on_5, waits_on_5, REPORT(0, 0, 2, GMV_EVENT_DROPPED));
     acts(answers("4", "AA", "4"), waits_on_5, waits_on_5, REPORT(0, 0, 2, GMV_EVENT_DROPPED));
@@ -806,26 +811,26 @@ static void resent(sender from, uint64_t send, uint64_t number, uint64_t resends
         acts(a, from, after, REPORT(send, number, sends + 1, 0, 0, 0, block));
     }
     from.words[GMV_SENDER_SENDS] = resends + 1;
-    acts(a, from, closed(from), REPORT(0, 0, resends + 1, GMV_EVENT_GAVE_UP, 0, 0, block));
+    acts(a, from, closed(from), REPORT(0, 0, resends + 1, GMV_EVENT_ABANDONED, 0, 0, block));
 }
 
 static void resent_by_all_triggers(uint64_t resends)
 {
     for (size_t which = 0; which < TRIGGERS; which++) {
-        resent(waits_on_minus_one(1), SEND_MINUS_ONE, 0, resends, which);
-        resent(waits_on_zero(1), SEND_ZERO, 0, resends, which);
-        resent(waits_on_6(1), SEND_TRANSACTION, 6, resends, which);
-        resent(SENDER(1, largest_sent - 1, largest_sent, 1, 0, WAITS_ON_TRANSACTION, 1),
-               SEND_TRANSACTION, largest_sent, resends, which);
+        resent(waits_on_minus_one(1), GMV_SEND_RESYNCHRONIZE, 0, resends, which);
+        resent(waits_on_zero(1), GMV_SEND_QUERY, 0, resends, which);
+        resent(waits_on_6(1), GMV_SEND_TRANSACTION, 6, resends, which);
+        resent(SENDER(1, largest_sent - 1, largest_sent, 1, 0, GMV_WAITING_TRANSACTION, 1),
+               GMV_SEND_TRANSACTION, largest_sent, resends, which);
     }
 }
 
 /* P11: r = 0, one timer: no send is left, and one was made. */
 static void p11(void)
 {
-    acts(timer(0), SENDER(5, 4, 4, 0, 0, WAITS_ON_MINUS_ONE, 1), SENDER(5, 4, 4, 0, 0, 0, 0),
-         REPORT(0, 0, 1, GMV_EVENT_GAVE_UP));
-    acts(timer(0), waits_on_6(1), without_circuit(), REPORT(0, 0, 1, GMV_EVENT_GAVE_UP));
+    acts(timer(0), SENDER(5, 4, 4, 0, 0, GMV_WAITING_RESYNCHRONIZE, 1), SENDER(5, 4, 4, 0, 0, 0, 0),
+         REPORT(0, 0, 1, GMV_EVENT_ABANDONED));
+    acts(timer(0), waits_on_6(1), without_circuit(), REPORT(0, 0, 1, GMV_EVENT_ABANDONED));
 }
 
 /* A setting that was lowered meanwhile: more sends were made than it allows. */
@@ -833,9 +838,9 @@ static void more_sends_than_allowed(void)
 {
     for (size_t which = 0; which < TRIGGERS; which++) {
         acts(trigger(which, 3), waits_on_6(50), without_circuit(),
-             REPORT(0, 0, 50, GMV_EVENT_GAVE_UP, 0, 0, trigger_block(which)));
+             REPORT(0, 0, 50, GMV_EVENT_ABANDONED, 0, 0, trigger_block(which)));
         acts(trigger(which, 0), waits_on_zero(100), without_circuit(),
-             REPORT(0, 0, 100, GMV_EVENT_GAVE_UP, 0, 0, trigger_block(which)));
+             REPORT(0, 0, 100, GMV_EVENT_ABANDONED, 0, 0, trigger_block(which)));
     }
 }
 
@@ -851,9 +856,9 @@ static void unreadable_answers(void)
         act a = reads_block(1, GMV_OK, GMV_DATA_BLOCK, data[i]);
 
         acts(a, waits_on_6(1), waits_on_6(2),
-             REPORT(SEND_TRANSACTION, 6, 2, 0, 0, 0, GMV_HEAD));
+             REPORT(GMV_SEND_TRANSACTION, 6, 2, 0, 0, 0, GMV_HEAD));
         acts(a, waits_on_6(2), without_circuit(),
-             REPORT(0, 0, 2, GMV_EVENT_GAVE_UP, 0, 0, GMV_HEAD));
+             REPORT(0, 0, 2, GMV_EVENT_ABANDONED, 0, 0, GMV_HEAD));
     }
 }
 
@@ -910,18 +915,20 @@ static void crashes(void)
 {
     sender s = crash_after(new_act(OPEN), SENDER(5, 4, 6, 0, 0, 0, 0));
 
-    acts(new_act(OPEN), s, SENDER(5, 4, 6, 0, 0, WAITS_ON_MINUS_ONE, 1),
-         REPORT(SEND_MINUS_ONE, 0, 1));
-    s = crash_after(answers("-1", "AA", "-1"), SENDER(5, 4, 6, 0, 0, WAITS_ON_MINUS_ONE, 1));
-    acts(new_act(OPEN), s, SENDER(5, 4, 6, 1, 0, WAITS_ON_ZERO, 1), REPORT(SEND_ZERO, 0, 1));
-    s = crash_after(answers("5", "AA", "5"), SENDER(5, 4, 6, 1, 0, WAITS_ON_TRANSACTION, 3));
-    acts(new_act(OPEN), s, SENDER(5, 5, 6, 1, 0, WAITS_ON_ZERO, 1), REPORT(SEND_ZERO, 0, 1));
+    acts(new_act(OPEN), s, SENDER(5, 4, 6, 0, 0, GMV_WAITING_RESYNCHRONIZE, 1),
+         REPORT(GMV_SEND_RESYNCHRONIZE, 0, 1));
+    s = crash_after(answers("-1", "AA", "-1"), SENDER(5, 4, 6, 0, 0, GMV_WAITING_RESYNCHRONIZE, 1));
+    acts(new_act(OPEN), s, SENDER(5, 4, 6, 1, 0, GMV_WAITING_QUERY, 1),
+         REPORT(GMV_SEND_QUERY, 0, 1));
+    s = crash_after(answers("5", "AA", "5"), SENDER(5, 4, 6, 1, 0, GMV_WAITING_TRANSACTION, 3));
+    acts(new_act(OPEN), s, SENDER(5, 5, 6, 1, 0, GMV_WAITING_QUERY, 1),
+         REPORT(GMV_SEND_QUERY, 0, 1));
     refuses(new_act(ENDED), s, GMV_STATE);
     s = crash_after(answers("6", "AR", "6"), waits_on_6(1));
     refuses(new_act(OPEN), s, GMV_STATE);
     acts(new_act(RESET), s, without_circuit(), nothing);
     s = crash_after(timer(0), waits_on_6(1));
-    acts(new_act(OPEN), s, waits_on_zero(1), REPORT(SEND_ZERO, 0, 1));
+    acts(new_act(OPEN), s, waits_on_zero(1), REPORT(GMV_SEND_QUERY, 0, 1));
 }
 
 /* ---- words that encode no state */
@@ -934,16 +941,18 @@ static int encodes_state(const uint64_t *w)
         return 0;
     if (w[1] > w[2] || w[2] > largest_sent || w[3] > 1 || w[4] > 1)
         return 0;
+    if (w[3] == 0 && w[1] + 1 != w[0])
+        return 0;
     switch (w[5]) {
-    case NO_CIRCUIT:
+    case GMV_WAITING_CLOSED:
         return w[6] == 0;
-    case IDLE:
+    case GMV_WAITING_IDLE:
         return open && w[1] == w[2] && w[6] == 0;
-    case WAITS_ON_MINUS_ONE:
+    case GMV_WAITING_RESYNCHRONIZE:
         return w[3] == 0 && w[4] == 0 && sent;
-    case WAITS_ON_ZERO:
+    case GMV_WAITING_QUERY:
         return open && sent;
-    case WAITS_ON_TRANSACTION:
+    case GMV_WAITING_TRANSACTION:
         return open && w[1] < w[2] && sent;
     default:
         return 0;
@@ -1020,9 +1029,10 @@ static void words_of_no_state(void)
     changed_words(without_circuit());
     changed_words(frozen());
     changed_words(SENDER(5, 4, 4, 0, 0, 0, 0));
-    changed_words(SENDER(1, 0, 1, 1, 0, WAITS_ON_TRANSACTION, 1));
-    changed_words(SENDER(largest_sent, largest_sent - 1, largest_sent, 1, 0, WAITS_ON_ZERO, 1));
-    changed_words(SENDER(1, largest_sent, largest_sent, 1, 0, IDLE, 0));
+    changed_words(SENDER(5, 4, 7, 0, 1, 0, 0));
+    changed_words(SENDER(1, 0, 1, 1, 0, GMV_WAITING_TRANSACTION, 1));
+    changed_words(SENDER(largest_sent, largest_sent - 1, largest_sent, 1, 0, GMV_WAITING_QUERY, 1));
+    changed_words(SENDER(1, largest_sent, largest_sent, 1, 0, GMV_WAITING_IDLE, 0));
 }
 
 /* Each of the rules, by an example. */
@@ -1035,19 +1045,56 @@ static void examples_of_no_state(void)
     no_state(SENDER(5, 5, largest_sent + 1, 1, 0, 0, 0));
     no_state(SENDER(5, 5, 7, 2, 0, 0, 0));
     no_state(SENDER(5, 5, 7, 1, 2, 0, 0));
-    no_state(SENDER(5, 5, 7, 1, 0, NO_CIRCUIT, 1));
-    no_state(SENDER(5, 5, 7, 1, 0, IDLE, 0));
-    no_state(SENDER(5, 7, 7, 0, 0, IDLE, 0));
-    no_state(SENDER(5, 7, 7, 1, 1, IDLE, 0));
-    no_state(SENDER(5, 5, 7, 1, 0, WAITS_ON_MINUS_ONE, 1));
-    no_state(SENDER(5, 5, 7, 0, 1, WAITS_ON_MINUS_ONE, 1));
-    no_state(SENDER(5, 5, 7, 0, 0, WAITS_ON_ZERO, 1));
-    no_state(SENDER(5, 5, 7, 1, 1, WAITS_ON_ZERO, 1));
-    no_state(SENDER(5, 5, 7, 0, 0, WAITS_ON_TRANSACTION, 1));
-    no_state(SENDER(5, 7, 7, 1, 0, WAITS_ON_TRANSACTION, 1));
-    no_state(SENDER(5, 5, 7, 1, 0, WAITS_ON_TRANSACTION, 0));
-    no_state(SENDER(5, 5, 7, 1, 0, WAITS_ON_TRANSACTION, 101));
+    no_state(SENDER(5, 5, 7, 1, 0, GMV_WAITING_CLOSED, 1));
+    no_state(SENDER(5, 5, 7, 1, 0, GMV_WAITING_IDLE, 0));
+    no_state(SENDER(5, 4, 4, 0, 0, GMV_WAITING_IDLE, 0));
+    no_state(SENDER(5, 7, 7, 1, 1, GMV_WAITING_IDLE, 0));
+    no_state(SENDER(5, 4, 7, 1, 0, GMV_WAITING_RESYNCHRONIZE, 1));
+    no_state(SENDER(5, 4, 7, 0, 1, GMV_WAITING_RESYNCHRONIZE, 1));
+    no_state(SENDER(5, 4, 7, 0, 0, GMV_WAITING_QUERY, 1));
+    no_state(SENDER(5, 5, 7, 1, 1, GMV_WAITING_QUERY, 1));
+    no_state(SENDER(5, 4, 7, 0, 0, GMV_WAITING_TRANSACTION, 1));
+    no_state(SENDER(5, 7, 7, 1, 0, GMV_WAITING_TRANSACTION, 1));
+    no_state(SENDER(5, 5, 7, 1, 0, GMV_WAITING_TRANSACTION, 0));
+    no_state(SENDER(5, 5, 7, 1, 0, GMV_WAITING_TRANSACTION, 101));
     no_state(SENDER(5, 5, 7, 1, 0, 5, 1));
+}
+
+/* The first number is delivered and the sender is not resynchronized. */
+static void delivered_before_resynchronizing(uint64_t first, uint64_t last)
+{
+    no_state(SENDER(first, first, last, 0, 0, GMV_WAITING_CLOSED, 0));
+    no_state(SENDER(first, first, last, 0, 1, GMV_WAITING_CLOSED, 0));
+    no_state(SENDER(first, first, last, 0, 0, GMV_WAITING_RESYNCHRONIZE, 1));
+    no_state(SENDER(first, first, last, 0, 1, GMV_WAITING_RESYNCHRONIZE, 1));
+    no_state(SENDER(first, last, last, 0, 0, GMV_WAITING_CLOSED, 0));
+    no_state(SENDER(first, last, last, 0, 1, GMV_WAITING_CLOSED, 0));
+    no_state(SENDER(first, last, last, 0, 0, GMV_WAITING_RESYNCHRONIZE, 100));
+    no_state(SENDER(first, last, last, 0, 1, GMV_WAITING_RESYNCHRONIZE, 100));
+}
+
+/* The same words with nothing delivered, or resynchronized, encode a state. */
+static void delivered_or_resynchronized(uint64_t first, uint64_t last)
+{
+    a_state(SENDER(first, first - 1, last, 0, 0, GMV_WAITING_CLOSED, 0));
+    a_state(SENDER(first, first - 1, last, 0, 1, GMV_WAITING_CLOSED, 0));
+    a_state(SENDER(first, first - 1, last, 0, 0, GMV_WAITING_RESYNCHRONIZE, 1));
+    a_state(SENDER(first, first - 1, last, 1, 0, GMV_WAITING_CLOSED, 0));
+    a_state(SENDER(first, first - 1, last, 1, 1, GMV_WAITING_CLOSED, 0));
+    a_state(SENDER(first, first, last, 1, 0, GMV_WAITING_CLOSED, 0));
+    a_state(SENDER(first, first, last, 1, 1, GMV_WAITING_CLOSED, 0));
+    a_state(SENDER(first, last, last, 1, 0, GMV_WAITING_CLOSED, 0));
+}
+
+static void resynchronized_before_delivered(void)
+{
+    const uint64_t first_and_last[][2] = {{1, 1}, {1, 3}, {5, 5}, {5, 6}, {5, 7}, {5, largest_sent},
+                                      {largest_sent, largest_sent}};
+
+    for (size_t i = 0; i < sizeof first_and_last / sizeof first_and_last[0]; i++) {
+        delivered_before_resynchronizing(first_and_last[i][0], first_and_last[i][1]);
+        delivered_or_resynchronized(first_and_last[i][0], first_and_last[i][1]);
+    }
 }
 
 /* ---- 2, and the order */
@@ -1082,7 +1129,7 @@ static void setting_first(void)
 
 static void null_pointers(void)
 {
-    uint64_t state[GMV_SENDER_WORDS] = {5, 5, 7, 1, 0, WAITS_ON_TRANSACTION, 1};
+    uint64_t state[GMV_SENDER_WORDS] = {5, 5, 7, 1, 0, GMV_WAITING_TRANSACTION, 1};
     uint64_t found[GMV_ACT_WORDS];
 
     CHECK(gmv_sender_submit(LEAST_LIMIT, NULL, 0, NULL, 0, NULL, 0) == GMV_TOO_SHORT);
@@ -1389,6 +1436,8 @@ static void test_sender_words(void)
 {
     begin_test("sender: 11 for words that encode no state, by examples");
     examples_of_no_state();
+    begin_test("sender: 11 for delivered transactions before resynchronizing");
+    resynchronized_before_delivered();
     begin_test("sender: 11 for words that encode no state, word by word");
     words_of_no_state();
     begin_test("sender: 2 with too few words");

@@ -88,6 +88,89 @@ static void control_write(void)
                       GMV_REPORT_WORDS);
 }
 
+/* The two ends; the block's data is a request or an answer, or nothing that can be read. */
+static uint64_t receiver[GMV_RECEIVER_WORDS], receiver_before[GMV_RECEIVER_WORDS];
+static uint64_t sender[GMV_SENDER_WORDS], sender_before[GMV_SENDER_WORDS];
+static uint64_t received[GMV_RECEIVED_WORDS], act[GMV_ACT_WORDS], block_number, block_type;
+static const uint8_t *end_data;
+static size_t end_data_length;
+
+static void receiver_fresh(void)
+{
+    gmv_receiver_fresh(receiver, GMV_RECEIVER_WORDS);
+}
+
+static void hybrid_receive(void)
+{
+    memcpy(receiver, receiver_before, sizeof receiver);
+    gmv_hybrid_receive(11, 28, LIMIT, GMV_CODE_AE, receiver, GMV_RECEIVER_WORDS, block_number,
+                       block_type, end_data, end_data_length, buffer, sizeof buffer, 0, received,
+                       GMV_RECEIVED_WORDS);
+}
+
+static void minimal_receive(void)
+{
+    memcpy(receiver, receiver_before, sizeof receiver);
+    gmv_minimal_receive(LIMIT, GMV_CODE_AE, receiver, GMV_RECEIVER_WORDS, block_number, block_type,
+                        end_data, end_data_length, buffer, sizeof buffer, 0, received,
+                        GMV_RECEIVED_WORDS);
+}
+
+static void sender_fresh(void)
+{
+    gmv_sender_fresh(17, sender, GMV_SENDER_WORDS);
+}
+
+static void sender_submit(void)
+{
+    memcpy(sender, sender_before, sizeof sender);
+    gmv_sender_submit(LIMIT, end_data, end_data_length, sender, GMV_SENDER_WORDS, act,
+                      GMV_ACT_WORDS);
+}
+
+static void sender_open(void)
+{
+    memcpy(sender, sender_before, sizeof sender);
+    gmv_sender_open(sender, GMV_SENDER_WORDS, act, GMV_ACT_WORDS);
+}
+
+static void sender_ended(void)
+{
+    memcpy(sender, sender_before, sizeof sender);
+    gmv_sender_ended(sender, GMV_SENDER_WORDS, act, GMV_ACT_WORDS);
+}
+
+static void sender_reset(void)
+{
+    memcpy(sender, sender_before, sizeof sender);
+    gmv_sender_reset(sender, GMV_SENDER_WORDS, act, GMV_ACT_WORDS);
+}
+
+static void sender_timer(void)
+{
+    memcpy(sender, sender_before, sizeof sender);
+    gmv_sender_timer(GMV_RESENDS_DEFAULT, sender, GMV_SENDER_WORDS, act, GMV_ACT_WORDS);
+}
+
+static void sender_block(void)
+{
+    memcpy(sender, sender_before, sizeof sender);
+    gmv_sender_block(GMV_RESENDS_DEFAULT, block_number, block_type, end_data, end_data_length,
+                     sender, GMV_SENDER_WORDS, act, GMV_ACT_WORDS);
+}
+
+static void hybrid_control_block(void)
+{
+    gmv_hybrid_control_block(11, 28, LIMIT, (const uint8_t *)"ADT", 3, number, buffer,
+                             sizeof buffer, 0, report, GMV_REPORT_WORDS);
+}
+
+static void minimal_control_block(void)
+{
+    gmv_minimal_control_block(LIMIT, (const uint8_t *)"ADT", 3, number, buffer, sizeof buffer, 0,
+                              report, GMV_REPORT_WORDS);
+}
+
 /* The bytes of the stack that were touched while the call ran. */
 static size_t touched_by(void (*call)(void))
 {
@@ -185,11 +268,128 @@ static void good_and_damaged_messages(void)
     messages_take_little_stack();
 }
 
+static void control_blocks_take_little_stack(void)
+{
+    const uint64_t numbers[] = {0, GMV_MINUS_ONE, 1};
+
+    for (size_t i = 0; i < sizeof numbers / sizeof numbers[0]; i++) {
+        number = numbers[i];
+        takes_little_stack(hybrid_control_block);
+        takes_little_stack(minimal_control_block);
+    }
+}
+
+static void receivers_take_little_stack(void)
+{
+    const uint64_t states[] = {0, 17, 18, 999999999999999, 1000000000000000};
+
+    takes_little_stack(receiver_fresh);
+    for (size_t i = 0; i < sizeof states / sizeof states[0]; i++) {
+        receiver_before[GMV_RECEIVER_EXPECTED] = states[i];
+        takes_little_stack(hybrid_receive);
+        takes_little_stack(minimal_receive);
+    }
+}
+
+/* In every kind of state, and in words that encode none. */
+static void senders_take_little_stack(void)
+{
+    const uint64_t states[][GMV_SENDER_WORDS] = {
+        {17, 16, 16, 0, 0, GMV_WAITING_CLOSED, 0},
+        {17, 16, 18, 1, 1, GMV_WAITING_CLOSED, 0},
+        {17, 16, 16, 1, 0, GMV_WAITING_IDLE, 0},
+        {17, 16, 16, 0, 0, GMV_WAITING_RESYNCHRONIZE, 1},
+        {17, 16, 17, 1, 0, GMV_WAITING_QUERY, 1},
+        {17, 16, 18, 1, 0, GMV_WAITING_TRANSACTION, 1},
+        {17, 16, 18, 1, 0, GMV_WAITING_TRANSACTION, 4},
+        {17, 17, 18, 0, 0, GMV_WAITING_CLOSED, 0}};
+
+    takes_little_stack(sender_fresh);
+    for (size_t i = 0; i < sizeof states / sizeof states[0]; i++) {
+        memcpy(sender_before, states[i], sizeof sender_before);
+        takes_little_stack(sender_submit);
+        takes_little_stack(sender_open);
+        takes_little_stack(sender_ended);
+        takes_little_stack(sender_reset);
+        takes_little_stack(sender_timer);
+        takes_little_stack(sender_block);
+    }
+}
+
+/* Both ends get this data, in a good data block, an N block and a refused block. */
+static void ends_take_little_stack(const void *data, size_t length)
+{
+    const uint64_t blocks[][2] = {
+        {GMV_OK, GMV_DATA_BLOCK}, {GMV_OK, GMV_NAK_BLOCK}, {GMV_BYTE, 0}, {GMV_CHECK, 0}};
+
+    end_data = data;
+    end_data_length = length;
+    for (size_t i = 0; i < sizeof blocks / sizeof blocks[0]; i++) {
+        block_number = blocks[i][0];
+        block_type = blocks[i][1];
+        receivers_take_little_stack();
+        senders_take_little_stack();
+    }
+}
+
+/* What is measured does its work: a transaction is taken, submitted and delivered. */
+static void ends_do_their_work(void)
+{
+    static const char request[] = "MSH|^~\\&|||||||ADT|17|P|2.3.1|17\r";
+    static const char reply[] = "MSH|^~\\&|||||||ACK|1|P|2.3.1\rMSA|AE|17||17\r";
+    const uint64_t idle[GMV_SENDER_WORDS] = {17, 16, 16, 1, 0, GMV_WAITING_IDLE, 0};
+
+    block_number = GMV_OK;
+    block_type = GMV_DATA_BLOCK;
+    end_data = (const uint8_t *)request;
+    end_data_length = sizeof request - 1;
+    receiver_before[GMV_RECEIVER_EXPECTED] = 17;
+    hybrid_receive();
+    CHECK(received[GMV_RECEIVED_TRANSACTION] == 17 && receiver[GMV_RECEIVER_EXPECTED] == 18);
+    minimal_receive();
+    CHECK(received[GMV_RECEIVED_TRANSACTION] == 17 && receiver[GMV_RECEIVER_EXPECTED] == 18);
+    memcpy(sender_before, idle, sizeof sender_before);
+    sender_submit();
+    CHECK(act[GMV_ACT_SEND] == GMV_SEND_TRANSACTION && act[GMV_ACT_SEND_NUMBER] == 17);
+    memcpy(sender_before, sender, sizeof sender_before);
+    end_data = (const uint8_t *)reply;
+    end_data_length = sizeof reply - 1;
+    sender_block();
+    CHECK(act[GMV_ACT_EVENT] == GMV_EVENT_DELIVERED && act[GMV_ACT_DELIVERED] == 17);
+}
+
+/* A request, an answer to each message, one that freezes the sender, and the long message. */
+static void good_and_damaged_ends(void)
+{
+    static const char *const data[] = {
+        "MSH|^~\\&|||||||ADT|17|P|2.3.1|17\r",
+        "MSH|^~\\&|||||||ADT|-1|P|2.3.1|-1\r",
+        "MSH|^~\\&|||||||ADT|0|P|2.3.1|0\r",
+        "MSH|^~\\&|||||||ADT|12345678901234567890|P|2.3.1|999999999999998\r",
+        "MSH|^~\\&|||||||ACK|1|P|2.3.1\rMSA|AA|-1||-1\r",
+        "MSH|^~\\&|||||||ACK|1|P|2.3.1\rMSA|AA|0||18\r",
+        "MSH|^~\\&|||||||ACK|1|P|2.3.1\rMSA|AE|17||17\r",
+        "MSH|^~\\&|||||||ACK|1|P|2.3.1\rMSA|AR|17||18\r",
+        "MSH|^~\\&|||||||ACK|1|P|2.3.1\rMSA|AR|17||999999999999999\r",
+        "MSH|^~\\&|||||||ADT|17|P|2.3.1|17\x7F\r",
+        ""};
+
+    for (size_t i = 0; i < sizeof data / sizeof data[0]; i++)
+        ends_take_little_stack(data[i], strlen(data[i]));
+    make_message();
+    ends_take_little_stack(message, sizeof message);
+    message[3] ^= 0x40;
+    ends_take_little_stack(message, sizeof message);
+    control_blocks_take_little_stack();
+    ends_do_their_work();
+}
+
 void test_stack(void)
 {
     begin_test("no function takes over 1 KiB of stack");
     good_and_damaged_blocks();
     good_and_damaged_messages();
+    good_and_damaged_ends();
 }
 
 #endif

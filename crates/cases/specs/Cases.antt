@@ -17,7 +17,7 @@ use Rattle.receiver.specs.declared.Expected.the-variants.{Unknown, Next}
 use Rattle.receiver.specs.declared.Transaction.the-variants.{NoTransaction, Numbered}
 use Rattle.sender.specs.Sender.{freshSender, openOf, timerOf}
 use Rattle.sender.specs.declared.Event.{Event}
-use Rattle.sender.specs.declared.Event.the-variants.{GaveUp}
+use Rattle.sender.specs.declared.Event.the-variants.{Abandoned}
 use Rattle.sender.specs.declared.Acted.{Acted}
 use Rattle.message_theorems.specs.Examples.{AnswerFor17, ControlFor0, ControlForMinusOne}
 use Rattle.whole_block.specs.Whole.{checkOf}
@@ -78,8 +78,8 @@ pub record Given : Type 0 where
 abbrev pub given : Event → ℕ → Given
 given e n = record { event = e; sends = n }
 
-abbrev pub gaveUp : Acted → Given
-gaveUp a = given (a .event) (a .sends)
+abbrev pub abandoned : Acted → Given
+abandoned a = given (a .event) (a .sends)
 
 -- every one of the equations holds
 pub data Each : List (Type 0) → Type 1 where
@@ -132,7 +132,7 @@ cases =
     -- "P10 expects 6, gets 5: AR 6."
     ∷ (rowOf Accepts (Next 6) (Present (Number 5)) ≡ row AR (Number 6) NoTransaction (Next 6))
     -- "P11 r = 0, one timer: gives up, count 1.": on a circuit that has just been opened
-    ∷ (gaveUp (timerOf 0 (openOf (freshSender 1) .sender)) ≡ given GaveUp 1)
+    ∷ (abandoned (timerOf 0 (openOf (freshSender 1) .sender)) ≡ given Abandoned 1)
     -- 'Header fields': the answer for request 17 and the control messages for 0 and -1, byte for byte
     ∷ AnswerFor17
     ∷ ControlFor0

@@ -1,7 +1,7 @@
 -- The block writer takes the control message of a link.
-use mathlib.Core.Path.{_≡_, refl, sym, ap, _∙_}
+use mathlib.Core.Path.{_≡_, refl, sym, _∙_}
 use mathlib.Core.List.{List}
-use mathlib.Core.Bool.{Bool, true, false, _&&_, cond}
+use mathlib.Core.Bool.{Bool, true, false}
 use Prim.Native.Nat.{ℕ, _+_, _≤_}
 use native.Mathlib.Omega.{arith}
 use lib.ListN.{length}
@@ -11,15 +11,15 @@ use Rattle.lists.proofs.Tests.{and-left, and-right}
 use Rattle.settings.specs.Settings.{valid, validLink}
 use Rattle.settings.specs.declared.Settings.{Settings}
 use Rattle.block.specs.Format.{blockOf}
-use Rattle.writer.specs.Write.{needOf, Outcome, wrote, refused, writeOf}
-use Rattle.writer.specs.declared.Written.the-variants.{Setting, TooShort}
+use Rattle.writer.specs.Write.{needOf, wrote, writeOf}
+use Rattle.writer.specs.declared.Written.the-variants.{Setting}
 use Rattle.messages.specs.Messages.{controlMessage, validType}
 use Rattle.messages.specs.Write.{writeControlOf, wrote as messageWrote}
 use Rattle.messages.specs.declared.Control.{Control}
 use Rattle.messages.specs.declared.MessageType.{MessageType}
 use Rattle.message_theorems.proofs.Control.{control-length}
 use Rattle.message_theorems.proofs.InBlock.{control-in-block}
-use Rattle.control_block.specs.ControlBlock.{controlBlockOf}
+use Rattle.control_block.specs.ControlBlock.{outcome, controlBlockOf}
 
 -- the message made apart
 pub control-fits : (t : MessageType) (c : Control) (l : List ℕ) → 33 ≤ length l → length (controlMessage t c) ≤ length l
@@ -31,11 +31,11 @@ unfolding writeControlOf
 control-made t c l v h = let m = control-fits t c l h in rw (v, le-leb (0 + length (controlMessage t c)) (length l) (omega arith))
 
 module _ (g : Settings) (t : MessageType) (c : Control) (start : ℕ) (b : List ℕ) where
-  pub no-link : validLink g ≡ false → refused Setting b ≡ controlBlockOf g t c start b
+  pub no-link : validLink g ≡ false → outcome Setting b ≡ controlBlockOf g t c start b
   unfolding controlBlockOf
   no-link h = rw h
 
-  pub no-type : validLink g ≡ true → validType t ≡ false → refused Setting b ≡ controlBlockOf g t c start b
+  pub no-type : validLink g ≡ true → validType t ≡ false → outcome Setting b ≡ controlBlockOf g t c start b
   unfolding controlBlockOf
   no-type h v = rw (h, v)
 

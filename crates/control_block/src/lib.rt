@@ -9,8 +9,7 @@ ghost use Prim.Native.Nat.{_≤_};
 ghost use lib.ListN.{length};
 ghost use Rattle.settings.specs.Settings.{validLink};
 ghost use Rattle.messages.specs.Messages.{validType};
-ghost use Rattle.writer.specs.Write.{refused};
-ghost use Rattle.control_block.specs.ControlBlock.{controlBlockOf};
+ghost use Rattle.control_block.specs.ControlBlock.{outcome, controlBlockOf};
 
 // Makes the message in the first bytes of `message`, and frames it as a block.
 fn frame_control(
@@ -24,7 +23,7 @@ fn frame_control(
     requires { ⌜ validLink settings ≡ true ⌝ }
     requires { ⌜ validType name ≡ true ⌝ }
     requires { ⌜ 33 ≤ length (now message) ⌝ }
-    ensures { λ r. ⌜ refused r (now (buffer .exit)) ≡ controlBlockOf settings name control start (now (buffer .entry)) ⌝ }
+    ensures { λ r. ⌜ outcome r (now (buffer .exit)) ≡ controlBlockOf settings name control start (now (buffer .entry)) ⌝ }
 {
     let size = messages::write_control(name, control, message, 0).message_length();
     writer::write(settings, 68, &message[..size], buffer, start)
@@ -38,7 +37,7 @@ pub fn write_control_block(
     buffer: &mut [u8],
     start: usize,
 ) -> Written
-    ensures { λ r. ⌜ refused r (now (buffer .exit)) ≡ controlBlockOf settings name control start (now (buffer .entry)) ⌝ }
+    ensures { λ r. ⌜ outcome r (now (buffer .exit)) ≡ controlBlockOf settings name control start (now (buffer .entry)) ⌝ }
 {
     if !settings.is_link() {
         return Written::Setting;

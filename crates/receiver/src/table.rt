@@ -45,7 +45,7 @@ fn row_without(code: Code, number: SequenceNumber, expected: Expected) -> Row
     }
 }
 
-// The row that stores a transaction and expects the one after it; a number that has none after it is not stored.
+// The row that stores a transaction and expects the one after it.
 fn row_storing(application: Application, n: u64) -> Row
     requires { ⌜ n ≤ 999999999999998 ⌝ }
     ensures { λ r. ⌜ r ≡ stores application n ⌝ }

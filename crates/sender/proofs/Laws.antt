@@ -1,7 +1,7 @@
 -- The ways in which the sender's functions return, held against the definitions.
 use mathlib.Core.Path.{_≡_, refl, sym, ap, _∙_}
 use mathlib.Core.List.{List}
-use mathlib.Core.Bool.{Bool, true, false, cond, not, _&&_}
+use mathlib.Core.Bool.{Bool, true, false, cond, not, _&&_, _||_}
 use Prim.Native.Nat.{ℕ, _+_, _-_, _≤_, _<_}
 use native.Mathlib.Omega.{arith}
 use native.Mathlib.Decide.{decLe}
@@ -29,7 +29,7 @@ use Rattle.header.specs.declared.CodeField.{CodeField}
 use Rattle.header.specs.declared.CodeField.the-variants.{Other, Known}
 use Rattle.verdict.specs.declared.Verdict.{Verdict}
 use Rattle.verdict.specs.declared.Verdict.the-variants.{Accepted, Byte, Long, Shape, Count, Check, Interrupted}
-use Rattle.sender.specs.Sender.{validPersisted, validSends, validWaiting, validSender, freshSender, senderOf, firstSends, acted, begins, stays, refused, noState, closes, openedOf, openIn, openOf, isOpen, endedOf, thawed, resetOf, againOf, dueIn, validResends, checked, timerOf, nextOf, goesOn, freezes, resynchronizedOf, deliveredOf, queryNone, queryNumber, knownNumber, rejectNumber, hearResynchronizing, hearQuerying, hearSending, hearWith, heardOf, waitingMessage, answeredBy, withBlock, dataBlock, blockIn, blockReadOf, takesNumber, submitted, takenIn, submittedHeader, byteRefused, validLimit, submitOf}
+use Rattle.sender.specs.Sender.{validNumbers, validPersisted, validSends, validWaiting, validSender, freshSender, senderOf, firstSends, acted, begins, stays, refused, noState, closes, openedOf, openIn, openOf, isOpen, endedOf, thawed, resetOf, againOf, dueIn, validResends, checked, timerOf, nextOf, goesOn, freezes, resynchronizedOf, deliveredOf, queryNone, queryNumber, knownNumber, rejectNumber, hearResynchronizing, hearQuerying, hearSending, hearWith, heardOf, waitingMessage, answeredBy, withBlock, dataBlock, blockIn, blockReadOf, takesNumber, submitted, takenIn, submittedHeader, byteRefused, validLimit, submitOf}
 use Rattle.sender.specs.Internal.{Bounded}
 use Rattle.sender.specs.declared.Persisted.{Persisted}
 use Rattle.sender.specs.declared.Waiting.{Waiting}
@@ -39,7 +39,7 @@ use Rattle.sender.specs.declared.NumberedMessage.the-variants.{Nothing, 
 use Rattle.sender.specs.declared.Sender.{Sender}
 use Rattle.sender.specs.declared.SenderMade.the-variants.{Refused, Made}
 use Rattle.sender.specs.declared.Event.{Event}
-use Rattle.sender.specs.declared.Event.the-variants.{NoEvent, Delivered, DeliveredUnknown, GaveUp, Froze, Dropped}
+use Rattle.sender.specs.declared.Event.the-variants.{NoEvent, Delivered, DeliveredUnknown, Abandoned, Froze, Dropped}
 use Rattle.sender.specs.declared.Acted.{Acted}
 
 -- what is said of a part of the state is said of the part that is found there
@@ -54,12 +54,12 @@ before-first f d h = go (decLe f (d + 1))
     go (yes e) = le-leb (f - 1) d (omega arith) ∙ sym (le-leb f (d + 1) e)
     go (no e) = lt-leb (f - 1) d (omega arith) ∙ sym (lt-leb f (d + 1) (omega arith))
 
-pub persisted-none : (p : Persisted) → p .first < 1 → false ≡ validPersisted p
-persisted-none p h = sym (rw (lt-leb 1 (p .first) h))
+pub numbers-none : (p : Persisted) → p .first < 1 → false ≡ validNumbers p
+numbers-none p h = sym (rw (lt-leb 1 (p .first) h))
 
-pub persisted-some : (p : Persisted) → 1 ≤ p .first
-    → (leb (p .first) 999999999999998 && (leb (p .first - 1) (p .delivered) && (leb (p .delivered) (p .last) && leb (p .last) 999999999999998))) ≡ validPersisted p
-persisted-some p h = rw (before-first (p .first) (p .delivered) h, le-leb 1 (p .first) h)
+pub numbers-some : (p : Persisted) → 1 ≤ p .first
+    → (leb (p .first) 999999999999998 && (leb (p .first - 1) (p .delivered) && (leb (p .delivered) (p .last) && leb (p .last) 999999999999998))) ≡ validNumbers p
+numbers-some p h = rw (before-first (p .first) (p .delivered) h, le-leb 1 (p .first) h)
 
 pub made-none : (f : ℕ) → f < 1 → Refused ≡ senderOf f
 unfolding senderOf
@@ -87,17 +87,31 @@ sends-few p Querying n h = few n (and-right (not (p .frozen) && p .resynchronize
 sends-few p Sending n h =
     few n (and-right (ltb (p .delivered) (p .last)) (validSends n) (and-right (not (p .frozen) && p .resynchronized) (ltb (p .delivered) (p .last) && validSends n) h))
 
-pub bounded : (s : Sender) → validSender s ≡ true → Bounded s
-unfolding validSender
-bounded s h =
-    let p = s .persisted in
-    let v = and-left (validPersisted (s .persisted)) (validWaiting (s .persisted) (s .waiting) (s .sends)) h in
-    let w = and-right (validPersisted (s .persisted)) (validWaiting (s .persisted) (s .waiting) (s .sends)) h in
+numbers-bounded : (p : Persisted) → validNumbers p ≡ true → (p .delivered ≤ 999999999999998) × (p .last ≤ 999999999999998)
+numbers-bounded p v =
     let u = and-right (leb 1 (p .first) && leb (p .first) greatestSent) (leb (p .first) (p .delivered + 1) && (leb (p .delivered) (p .last) && leb (p .last) greatestSent)) v in
     let t = and-right (leb (p .first) (p .delivered + 1)) (leb (p .delivered) (p .last) && leb (p .last) greatestSent) u in
     let d = leb-true (p .delivered) (p .last) (and-left (leb (p .delivered) (p .last)) (leb (p .last) greatestSent) t) in
     let l = leb-true (p .last) greatestSent (and-right (leb (p .delivered) (p .last)) (leb (p .last) greatestSent) t) in
-    record { delivered = omega (arith, d, l); last = l; sends = sends-few (s .persisted) (s .waiting) (s .sends) w }
+    (omega (arith, d, l), l)
+
+pub delivered-most : (p : Persisted) → validNumbers p ≡ true → p .delivered ≤ 999999999999998
+delivered-most p v = numbers-bounded p v .0
+
+pub no-numbers : (p : Persisted) → validNumbers p ≡ false → false ≡ validPersisted p
+no-numbers p h = sym (ap (λ (b : Bool). b && (p .resynchronized || eqb (p .delivered + 1) (p .first))) h)
+
+pub some-numbers : (p : Persisted) → validNumbers p ≡ true → (p .resynchronized || eqb (p .delivered + 1) (p .first)) ≡ validPersisted p
+some-numbers p h = sym (ap (λ (b : Bool). b && (p .resynchronized || eqb (p .delivered + 1) (p .first))) h)
+
+pub bounded : (s : Sender) → validSender s ≡ true → Bounded s
+unfolding validSender
+bounded s h =
+    let p = s .persisted in
+    let v = and-left (validPersisted p) (validWaiting p (s .waiting) (s .sends)) h in
+    let w = and-right (validPersisted p) (validWaiting p (s .waiting) (s .sends)) h in
+    let n = numbers-bounded p (and-left (validNumbers p) (p .resynchronized || eqb (p .delivered + 1) (p .first)) v) in
+    record { delivered = n .0; last = n .1; sends = sends-few p (s .waiting) (s .sends) w }
 
 -- circuits
 pub opened-query : (p : Persisted) → p .resynchronized ≡ true → begins p Querying NoEvent ≡ openedOf p
@@ -155,7 +169,7 @@ module _ (r : ℕ) (s : Sender) where
       → acted (record { persisted = s .persisted; waiting = s .waiting; sends = s .sends + 1 }) (waitingMessage (s .persisted) (s .waiting)) (s .sends + 1) NoEvent ≡ againOf r s
   again-sends h = sym (rw (lt-ltb (s .sends) (r + 1) h))
 
-  pub again-none : r + 1 ≤ s .sends → closes (s .persisted) (s .sends) GaveUp ≡ againOf r s
+  pub again-none : r + 1 ≤ s .sends → closes (s .persisted) (s .sends) Abandoned ≡ againOf r s
   again-none h = sym (rw (le-ltb (s .sends) (r + 1) h))
 
   module _ (a : Acted) where

@@ -1,6 +1,6 @@
 -- Document 01, 'Sender': what it has stored, what a crash loses, and its acts.
 use mathlib.Core.List.{List, [], _∷_}
-use mathlib.Core.Bool.{Bool, true, false, cond, not, _&&_}
+use mathlib.Core.Bool.{Bool, true, false, cond, not, _&&_, _||_}
 use Prim.Native.Nat.{ℕ, _+_, _-_}
 use lib.ListN.{length}
 use lib.Dec.{leb, ltb, eqb}
@@ -32,14 +32,18 @@ use Rattle.sender.specs.declared.SenderMade.the-variants.{Refused, Made}
 use Rattle.sender.specs.declared.NumberedMessage.{NumberedMessage}
 use Rattle.sender.specs.declared.NumberedMessage.the-variants.{Nothing, Numbered}
 use Rattle.sender.specs.declared.Event.{Event}
-use Rattle.sender.specs.declared.Event.the-variants.{NoEvent, Delivered, DeliveredUnknown, GaveUp, Froze, Dropped}
+use Rattle.sender.specs.declared.Event.the-variants.{NoEvent, Delivered, DeliveredUnknown, Abandoned, Froze, Dropped}
 use Rattle.sender.specs.declared.Acted.{Acted}
 
 -- "Stored: f, the mark and the last submitted number (both f - 1 at first), whether resynchronised, and whether frozen."
-abbrev pub validPersisted : Persisted → Bool
-validPersisted p =
+abbrev pub validNumbers : Persisted → Bool
+validNumbers p =
     (leb 1 (p .first) && leb (p .first) greatestSent)
     && (leb (p .first) (p .delivered + 1) && (leb (p .delivered) (p .last) && leb (p .last) greatestSent))
+
+-- nothing is delivered before "AA, -1 resynchronises, and that fact is stored"
+abbrev pub validPersisted : Persisted → Bool
+validPersisted p = validNumbers p && (p .resynchronized || eqb (p .delivered + 1) (p .first))
 
 -- the sends made of what waits: at least one, and at most r + 1 for the largest r
 abbrev pub validSends : ℕ → Bool
@@ -97,7 +101,7 @@ stays s e = acted s Nothing (s .sends) e
 abbrev pub refused : ℕ → Sender → Acted
 refused n s = record { number = n; sender = s; send = Nothing; sends = s .sends; event = NoEvent; block = 0; «forbidden_offset» = 0 }
 
--- words that are no state have no sends either
+-- what is no state has no sends to tell
 abbrev pub noState : Sender → Acted
 noState s = record { number = 11; sender = s; send = Nothing; sends = 0; event = NoEvent; block = 0; «forbidden_offset» = 0 }
 
@@ -142,7 +146,7 @@ abbrev pub againOf : ℕ → Sender → Acted
 againOf r s =
     cond (ltb (s .sends) (r + 1))
     (acted (record { persisted = s .persisted; waiting = s .waiting; sends = s .sends + 1 }) (waitingMessage (s .persisted) (s .waiting)) (s .sends + 1) NoEvent)
-    (closes (s .persisted) (s .sends) GaveUp)
+    (closes (s .persisted) (s .sends) Abandoned)
 
 abbrev pub dueIn : ℕ → Sender → Waiting → Acted
 dueIn r s Closed = refused 11 s

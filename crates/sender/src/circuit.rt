@@ -123,7 +123,7 @@ fn again(resends: u64, sender: Sender) -> Acted
             Event::NoEvent,
         );
     }
-    close(persisted, sender.sends, Event::GaveUp)
+    close(persisted, sender.sends, Event::Abandoned)
 }
 
 // A send falls due.

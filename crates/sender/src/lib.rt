@@ -65,7 +65,7 @@ pub enum Event {
     // A transaction is delivered, with its verdict.
     Delivered(u64, Code),
     DeliveredUnknown(u64),
-    GaveUp,
+    Abandoned,
     Froze,
     Dropped,
 }

@@ -9,10 +9,10 @@ use crate::Waiting;
 use numbers::SequenceNumber;
 ghost use mathlib.Core.Path.{_≡_};
 ghost use Prim.Native.Nat.{_≤_};
-ghost use Rattle.sender.specs.Sender.{validPersisted, validSends, validWaiting, validSender, senderOf, waitingMessage, firstSends, acted, begins, stays, refused, noState, closes, isOpen};
+ghost use Rattle.sender.specs.Sender.{validNumbers, validPersisted, validSends, validWaiting, validSender, senderOf, waitingMessage, firstSends, acted, begins, stays, refused, noState, closes, isOpen};
 
-fn is_persisted(p: Persisted) -> bool
-    ensures { λ r. ⌜ r ≡ validPersisted p ⌝ }
+fn are_numbers(p: Persisted) -> bool
+    ensures { λ r. ⌜ r ≡ validNumbers p ⌝ }
 {
     if p.first < 1 {
         return false;
@@ -21,6 +21,15 @@ fn is_persisted(p: Persisted) -> bool
     let delivered_ok = p.first - 1 <= p.delivered;
     let last_ok = (p.delivered <= p.last) & (p.last <= 999999999999998);
     first_ok & (delivered_ok & last_ok)
+}
+
+fn is_persisted(p: Persisted) -> bool
+    ensures { λ r. ⌜ r ≡ validPersisted p ⌝ }
+{
+    if !are_numbers(p) {
+        return false;
+    }
+    p.resynchronized | (p.delivered + 1 == p.first)
 }
 
 fn are_sends(n: u64) -> bool

@@ -1,5 +1,5 @@
 -- What the C functions of the sender return and leave in what was passed, for every input (include/giamuvich.h).
-use mathlib.Core.List.{List, [], _∷_}
+use mathlib.Core.List.{List, [], _∷_, _++_}
 use mathlib.Core.Bool.{Bool, true, false, cond, _&&_}
 use Prim.Native.Nat.{ℕ}
 use lib.ListN.{length, getD}
@@ -19,7 +19,7 @@ use Rattle.sender.specs.declared.NumberedMessage.the-variants.{Nothing, Numbere
 use Rattle.numbers.specs.declared.SequenceNumber.{SequenceNumber}
 use Rattle.numbers.specs.declared.SequenceNumber.the-variants.{MinusOne, Number}
 use Rattle.sender.specs.declared.Event.{Event}
-use Rattle.sender.specs.declared.Event.the-variants.{NoEvent, Delivered, DeliveredUnknown, GaveUp, Froze, Dropped}
+use Rattle.sender.specs.declared.Event.the-variants.{NoEvent, Delivered, DeliveredUnknown, Abandoned, Froze, Dropped}
 use Rattle.sender.specs.declared.Acted.{Acted}
 use Rattle.words.specs.Words.{verdictOf}
 use Rattle.words.specs.declared.VerdictMade.{VerdictMade}
@@ -40,11 +40,16 @@ waitingWord Sending = 4
 abbrev pub waitingOf : ℕ → Waiting
 waitingOf w = cond (eqb w 0) Closed (cond (eqb w 1) Idle (cond (eqb w 2) Resynchronizing (cond (eqb w 3) Querying Sending)))
 
--- GMV_SENDER_FIRST, _DELIVERED, _LAST, _RESYNCHRONIZED, _FROZEN (persisted), _WAITING, _SENDS
+-- GMV_SENDER_FIRST, _DELIVERED, _LAST, _RESYNCHRONIZED, _FROZEN: what must be stored before the next block goes out
+abbrev pub persistedWords : Persisted → List ℕ
+persistedWords p = p .first ∷ p .delivered ∷ p .last ∷ flagWord (p .resynchronized) ∷ flagWord (p .frozen) ∷ []
+
+-- GMV_SENDER_WAITING, _SENDS: what a crash loses
+abbrev pub circuitWords : Waiting → ℕ → List ℕ
+circuitWords w n = waitingWord w ∷ n ∷ []
+
 abbrev pub senderWords : Sender → List ℕ
-senderWords s =
-    s .persisted .first ∷ s .persisted .delivered ∷ s .persisted .last ∷ flagWord (s .persisted .resynchronized) ∷ flagWord (s .persisted .frozen)
-    ∷ waitingWord (s .waiting) ∷ s .sends ∷ []
+senderWords s = persistedWords (s .persisted) ++ circuitWords (s .waiting) (s .sends)
 
 -- every content of the words is an input: flags over 1 or a waiting over 4 are no sender (a first number of 0 never is one)
 abbrev pub goodWords : List ℕ → Bool
@@ -76,7 +81,7 @@ abbrev pub eventWord : Event → ℕ
 eventWord NoEvent = 0
 eventWord (Delivered n c) = 1
 eventWord (DeliveredUnknown n) = 1
-eventWord GaveUp = 2
+eventWord Abandoned = 2
 eventWord Froze = 3
 eventWord Dropped = 4
 
@@ -84,7 +89,7 @@ abbrev pub deliveredWord : Event → ℕ
 deliveredWord NoEvent = 0
 deliveredWord (Delivered n c) = n
 deliveredWord (DeliveredUnknown n) = n
-deliveredWord GaveUp = 0
+deliveredWord Abandoned = 0
 deliveredWord Froze = 0
 deliveredWord Dropped = 0
 
@@ -97,7 +102,7 @@ abbrev pub codeWord : Event → ℕ
 codeWord NoEvent = 0
 codeWord (Delivered n c) = codeNumber c
 codeWord (DeliveredUnknown n) = 0
-codeWord GaveUp = 0
+codeWord Abandoned = 0
 codeWord Froze = 0
 codeWord Dropped = 0
 
@@ -115,7 +120,7 @@ pub record Called : Type 0 where
 abbrev pub called : ℕ → List ℕ → List ℕ → Called
 called n st p = record { number = n; state = st; report = p }
 
--- a refused act leaves the state as it is; its report is written
+-- a refused act leaves the state as it is. Its report is written, but with 1 and 2
 abbrev pub finished : List ℕ → List ℕ → Acted → Called
 finished st p a = cond (eqb (a .number) 0) (called 0 (over st (senderWords (a .sender))) (over p (actWords a))) (called (a .number) st (over p (actWords a)))
 

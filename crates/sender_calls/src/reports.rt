@@ -44,7 +44,7 @@ fn event_word(event: Event) -> u64
         Event::NoEvent => 0,
         Event::Delivered(_, _) => 1,
         Event::DeliveredUnknown(_) => 1,
-        Event::GaveUp => 2,
+        Event::Abandoned => 2,
         Event::Froze => 3,
         Event::Dropped => 4,
     }
@@ -57,7 +57,7 @@ fn delivered_word(event: Event) -> u64
         Event::NoEvent => 0,
         Event::Delivered(number, _) => number,
         Event::DeliveredUnknown(number) => number,
-        Event::GaveUp => 0,
+        Event::Abandoned => 0,
         Event::Froze => 0,
         Event::Dropped => 0,
     }
@@ -80,7 +80,7 @@ fn code_word(event: Event) -> u64
         Event::NoEvent => 0,
         Event::Delivered(_, code) => code_number(code),
         Event::DeliveredUnknown(_) => 0,
-        Event::GaveUp => 0,
+        Event::Abandoned => 0,
         Event::Froze => 0,
         Event::Dropped => 0,
     }

@@ -19,9 +19,9 @@ use Rattle.sender.specs.declared.Sender.{Sender}
 use Rattle.sender.specs.declared.Event.{Event}
 use Rattle.sender.specs.declared.Acted.{Acted}
 use Rattle.sender_theorems.specs.Acts.{Act, actOf, resendsOf, Doing, does, crashes, afterOf, within}
-use Rattle.sender_theorems.specs.History.{Entry, told, historyOf, waitsOf, is, counted, countedOf, givesUp, sendsToTell}
+use Rattle.sender_theorems.specs.History.{Entry, told, historyOf, waitsOf, is, counted, countedOf, isAbandoned, sendsToTell}
 use Rattle.sender_theorems.proofs.Valid.{WaitsRight, Right, right-from}
-use Rattle.sender_theorems.proofs.Steps.{Step, StepOf, refuses, keeps, starts, resends, gives-up, shuts, steps}
+use Rattle.sender_theorems.proofs.Steps.{Step, StepOf, refuses, keeps, starts, resends, abandons, shuts, steps}
 use Rattle.sender_theorems.proofs.Invariant.{step-right, reachable-valid}
 
 -- ---- at most r + 1
@@ -41,11 +41,11 @@ few-step r l b (refuses h) = record { after = b; said = b }
 few-step r l b (keeps w g j u) = record { after = b; said = b }
 few-step r l b (starts {w = w} g j f) = let o = first-few w in record { after = omega arith; said = omega arith }
 few-step r l b (resends h j) = record { after = omega arith; said = omega arith }
-few-step r l b (gives-up j h w) = record { after = omega arith; said = b }
+few-step r l b (abandons j h w) = record { after = omega arith; said = b }
 few-step r l b (shuts g j) = record { after = omega arith; said = omega arith }
 
 module _ (f : ℕ) (least : 1 ≤ f) (most : f ≤ greatestSent) (r : ℕ) where
-  few-after : (xs : List Doing) → within r xs ≡ true → afterOf (freshSender f) xs .sends ≤ r + 1
+  pub few-after : (xs : List Doing) → within r xs ≡ true → afterOf (freshSender f) xs .sends ≤ r + 1
   few-after [] h = omega arith
   few-after (does a ∷ xs) h =
       few-step r (leb-true (resendsOf a) r (and-left (leb (resendsOf a) r) (within r xs) h)) (few-after xs (and-right (leb (resendsOf a) r) (within r xs) h))
@@ -57,16 +57,16 @@ module _ (f : ℕ) (least : 1 ≤ f) (most : f ≤ greatestSent) (r : ℕ) where
   few-sends xs h a l = few-step r l (few-after xs h) (steps (afterOf (freshSender f) xs) (reachable-valid f least most xs) a) .said
 
 -- "while fewer than r + 1 sends were made of it, and otherwise gives up"
-up-step : {r n k : ℕ} {s t : Sender} {m : NumberedMessage} {e : Event} → Step r s n t m k e → givesUp e ≡ true → r + 1 ≤ k
+up-step : {r n k : ℕ} {s t : Sender} {m : NumberedMessage} {e : Event} → Step r s n t m k e → isAbandoned e ≡ true → r + 1 ≤ k
 up-step (refuses h) u = let z : _≡_ {A = ℕ} 0 1 = cc in absurd (omega arith)
 up-step (keeps w g j v) u = let z : _≡_ {A = ℕ} 0 1 = cc in absurd (omega arith)
 up-step (starts g j f) u = let z : _≡_ {A = ℕ} 0 1 = cc in absurd (omega arith)
 up-step (resends h j) u = let z : _≡_ {A = ℕ} 0 1 = cc in absurd (omega arith)
-up-step (gives-up j h w) u = h
+up-step (abandons j h w) u = h
 up-step (shuts g j) u = let z : _≡_ {A = ℕ} 0 1 = cc in absurd (omega arith)
 
-pub gives-up-late : (a : Act) (s : Sender) → validSender s ≡ true → givesUp (actOf a s .event) ≡ true → resendsOf a + 1 ≤ actOf a s .sends
-gives-up-late a s v u = up-step (steps s v a) u
+pub abandons-late : (a : Act) (s : Sender) → validSender s ≡ true → isAbandoned (actOf a s .event) ≡ true → resendsOf a + 1 ≤ actOf a s .sends
+abandons-late a s v u = up-step (steps s v a) u
 
 -- ---- as many as the history has
 -- the history's count of each message: of the one that waits it is the state's number, of others 0
@@ -104,20 +104,20 @@ counts-step {s = s} h i (starts {p = p} {w = w} g j f) m =
     first-count (is m (waitingMessage p w)) (is m (waitsOf s)) (counted m h) (s .sends) (firstSends w) (f m) (first-one p w m) (i m)
 counts-step {s = s} h i (resends l j) m =
     more-count (is m (waitsOf s)) (counted m h) (s .sends) (i m)
-counts-step h i (gives-up j l w) m = refl
+counts-step h i (abandons j l w) m = refl
 counts-step h i (shuts g j) m = refl
 
 -- the number in an answer is that of the state after it, or when giving up that of the state before
 data Tells (n m k : ℕ) (e : Event) : Type 0 where
-  tells-after : givesUp e ≡ false → k ≡ m → Tells n m k e
-  tells-before : givesUp e ≡ true → k ≡ n → Tells n m k e
+  tells-after : isAbandoned e ≡ false → k ≡ m → Tells n m k e
+  tells-before : isAbandoned e ≡ true → k ≡ n → Tells n m k e
 
 tells : {r n k : ℕ} {s t : Sender} {c : NumberedMessage} {e : Event} → Step r s n t c k e → Tells (s .sends) (t .sends) k e
 tells (refuses l) = tells-after refl refl
 tells (keeps w g j u) = tells-after g refl
 tells (starts g j f) = tells-after g refl
 tells (resends l j) = tells-after refl refl
-tells (gives-up j l w) = tells-before refl refl
+tells (abandons j l w) = tells-before refl refl
 tells (shuts g j) = tells-after g refl
 
 -- the state's number is the history's count of what waits

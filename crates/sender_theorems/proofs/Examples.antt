@@ -4,12 +4,12 @@ use mathlib.Core.List.{List, [], _∷_}
 use Rattle.numbers.specs.declared.SequenceNumber.the-variants.{MinusOne}
 use Rattle.sender.specs.Sender.{validSender, freshSender, openOf, endedOf, resetOf, timerOf}
 use Rattle.sender.specs.declared.Waiting.the-variants.{Resynchronizing}
-use Rattle.sender.specs.declared.Event.the-variants.{GaveUp}
+use Rattle.sender.specs.declared.Event.the-variants.{Abandoned}
 use Rattle.sender_theorems.specs.Acts.{opened, ended, reset, timer, actOf, Doing, does, crashes, afterOf}
 use Rattle.sender_theorems.specs.History.{historyOf, counted}
 
 -- case P11: "r = 0, one timer: gives up, count 1"
-p11-event : actOf (timer 0) (afterOf (freshSender 1) (does opened ∷ [])) .event ≡ GaveUp
+p11-event : actOf (timer 0) (afterOf (freshSender 1) (does opened ∷ [])) .event ≡ Abandoned
 unfolding validSender openOf timerOf
 p11-event = refl
 

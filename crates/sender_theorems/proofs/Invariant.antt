@@ -16,7 +16,7 @@ use Rattle.sender.specs.declared.NumberedMessage.{NumberedMessage}
 use Rattle.sender.specs.declared.Event.{Event}
 use Rattle.sender_theorems.specs.Acts.{Act, actOf, crashOf, Doing, does, crashes, doneOf, afterOf}
 use Rattle.sender_theorems.proofs.Valid.{Right, right-from, right-valid}
-use Rattle.sender_theorems.proofs.Steps.{Step, refuses, keeps, starts, resends, gives-up, shuts, steps}
+use Rattle.sender_theorems.proofs.Steps.{Step, refuses, keeps, starts, resends, abandons, shuts, steps}
 
 pub step-right : {r n k : ℕ} {s t : Sender} {m : NumberedMessage} {e : Event} → Right (s .persisted) (s .waiting) (s .sends) → Step r s n t m k e
     → Right (t .persisted) (t .waiting) (t .sends)
@@ -24,7 +24,7 @@ step-right i (refuses l) = i
 step-right i (keeps w g j u) = j
 step-right i (starts g j f) = j
 step-right i (resends l j) = j
-step-right i (gives-up j l w) = record { stored = j; waits = refl }
+step-right i (abandons j l w) = record { stored = j; waits = refl }
 step-right i (shuts g j) = record { stored = j; waits = refl }
 
 pub act-valid : (a : Act) (s : Sender) → validSender s ≡ true → validSender (actOf a s .sender) ≡ true
@@ -37,7 +37,7 @@ crash-valid s v = right-valid (crashOf s) (record { stored = right-from s v .sto
 pub fresh-valid : (f : ℕ) → 1 ≤ f → f ≤ greatestSent → validSender (freshSender f) ≡ true
 fresh-valid f l m =
     right-valid (freshSender f)
-    (record { stored = record { first-least = l; first-most = m; mark-least = omega arith; mark-most = omega arith; last-most = omega arith }; waits = refl })
+    (record { stored = record { first-least = l; first-most = m; delivered-least = omega arith; delivered-most = omega arith; last-most = omega arith; begun = λ (e : false ≡ false). omega arith }; waits = refl })
 
 pub made-valid : (f : ℕ) (s : Sender) → senderOf f ≡ Made s → validSender s ≡ true
 unfolding senderOf

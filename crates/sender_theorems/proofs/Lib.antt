@@ -4,3 +4,4 @@ pub mod Invariant
 pub mod Refused
 pub mod Counts
 pub mod Examples
+pub mod Due

@@ -12,14 +12,14 @@ use Rattle.sender.specs.declared.NumberedMessage.{NumberedMessage}
 use Rattle.sender.specs.declared.Event.{Event}
 use Rattle.sender.specs.declared.Acted.{Acted}
 use Rattle.sender_theorems.specs.Acts.{Act, opened, ended, reset, timer, block, submit, actOf}
-use Rattle.sender_theorems.proofs.Steps.{Step, refuses, keeps, starts, resends, gives-up, shuts, steps}
+use Rattle.sender_theorems.proofs.Steps.{Step, refuses, keeps, starts, resends, abandons, shuts, steps}
 
 step-same : {r n k : ℕ} {s t : Sender} {m : NumberedMessage} {e : Event} → Step r s n t m k e → 1 ≤ n → t ≡ s
 step-same (refuses h) l = refl
 step-same (keeps w g j u) l = absurd (omega arith)
 step-same (starts g j f) l = absurd (omega arith)
 step-same (resends h j) l = absurd (omega arith)
-step-same (gives-up j h w) l = absurd (omega arith)
+step-same (abandons j h w) l = absurd (omega arith)
 step-same (shuts g j) l = absurd (omega arith)
 
 -- words that are no state

@@ -1,5 +1,5 @@
 -- The ways in which an act of a valid sender ends.
-use mathlib.Core.Path.{_≡_, refl, ap, _∙_}
+use mathlib.Core.Path.{_≡_, refl, sym, ap, _∙_}
 use mathlib.Core.List.{List}
 use mathlib.Core.Bool.{Bool, true, false, cond}
 use Prim.Native.Nat.{ℕ, _+_, _≤_, _<_}
@@ -36,10 +36,10 @@ use Rattle.sender.specs.declared.NumberedMessage.{NumberedMessage}
 use Rattle.sender.specs.declared.NumberedMessage.the-variants.{Nothing, Numbered}
 use Rattle.sender.specs.declared.Sender.{Sender}
 use Rattle.sender.specs.declared.Event.{Event}
-use Rattle.sender.specs.declared.Event.the-variants.{NoEvent, GaveUp, Dropped}
+use Rattle.sender.specs.declared.Event.the-variants.{NoEvent, Abandoned, Dropped}
 use Rattle.sender.specs.declared.Acted.{Acted}
 use Rattle.sender_theorems.specs.Acts.{Act, opened, ended, reset, timer, block, submit, actOf, resendsOf}
-use Rattle.sender_theorems.specs.History.{is, givesUp}
+use Rattle.sender_theorems.specs.History.{is, isAbandoned}
 use Rattle.sender_theorems.proofs.Valid.{Stored, OnCircuit, Sent, WaitsRight, Right, right-from}
 
 -- what begins to wait did not wait before
@@ -49,15 +49,15 @@ Fresh before after = (m : SequenceNumber) → is m after ≡ true → is m befor
 pub data Step (r : ℕ) (s : Sender) : ℕ → Sender → NumberedMessage → ℕ → Event → Type 0 where
   refuses : {n : ℕ} → 1 ≤ n → Step r s n s Nothing (s .sends) NoEvent
   -- what waits goes on waiting, and nothing is sent
-  keeps : {p : Persisted} {w : Waiting} {e : Event} → s .waiting ≡ w → givesUp e ≡ false → Right p w (s .sends) → waitingMessage p w ≡ waitingMessage (s .persisted) w
+  keeps : {p : Persisted} {w : Waiting} {e : Event} → s .waiting ≡ w → isAbandoned e ≡ false → Right p w (s .sends) → waitingMessage p w ≡ waitingMessage (s .persisted) w
       → Step r s 0 (record { persisted = p; waiting = w; sends = s .sends }) Nothing (s .sends) e
-  starts : {p : Persisted} {w : Waiting} {e : Event} → givesUp e ≡ false → Right p w (firstSends w) → Fresh (waitingMessage (s .persisted) (s .waiting)) (waitingMessage p w)
+  starts : {p : Persisted} {w : Waiting} {e : Event} → isAbandoned e ≡ false → Right p w (firstSends w) → Fresh (waitingMessage (s .persisted) (s .waiting)) (waitingMessage p w)
       → Step r s 0 (record { persisted = p; waiting = w; sends = firstSends w }) (waitingMessage p w) (firstSends w) e
   resends : s .sends < r + 1 → Right (s .persisted) (s .waiting) (s .sends + 1)
       → Step r s 0 (record { persisted = s .persisted; waiting = s .waiting; sends = s .sends + 1 }) (waitingMessage (s .persisted) (s .waiting)) (s .sends + 1) NoEvent
-  gives-up : {v : SequenceNumber} → Stored (s .persisted) → r + 1 ≤ s .sends → waitingMessage (s .persisted) (s .waiting) ≡ Numbered v
-      → Step r s 0 (record { persisted = s .persisted; waiting = Closed; sends = 0 }) Nothing (s .sends) GaveUp
-  shuts : {p : Persisted} {e : Event} → givesUp e ≡ false → Stored p → Step r s 0 (record { persisted = p; waiting = Closed; sends = 0 }) Nothing 0 e
+  abandons : {v : SequenceNumber} → Stored (s .persisted) → r + 1 ≤ s .sends → waitingMessage (s .persisted) (s .waiting) ≡ Numbered v
+      → Step r s 0 (record { persisted = s .persisted; waiting = Closed; sends = 0 }) Nothing (s .sends) Abandoned
+  shuts : {p : Persisted} {e : Event} → isAbandoned e ≡ false → Stored p → Step r s 0 (record { persisted = p; waiting = Closed; sends = 0 }) Nothing 0 e
 
 abbrev pub StepOf : ℕ → Sender → Acted → Type 0
 StepOf r s a = Step r s (a .number) (a .sender) (a .send) (a .sends) (a .event)
@@ -77,22 +77,25 @@ after-number : (j k : ℕ) → j < k → Fresh (Numbered (Number j)) (Numbered (
 after-number j k l MinusOne e = let z : _≡_ {A = ℕ} 0 1 = cc in absurd (omega arith)
 after-number j k l (Number n) e = let f = eqb-true n k e in ne-eqb n j (λ (g : n ≡ j). omega arith)
 
+not-both : {P : Type 0} → true ≡ false → P
+not-both e = let z : _≡_ {A = ℕ} 0 1 = cc in absurd (omega arith)
+
 -- what is stored after a change
 module _ (p : Persisted) (i : Stored p) where
   frozen-stored : Stored (frozenOf p)
-  frozen-stored = record { first-least = i .first-least; first-most = i .first-most; mark-least = i .mark-least; mark-most = i .mark-most; last-most = i .last-most }
+  frozen-stored = record { first-least = i .first-least; first-most = i .first-most; delivered-least = i .delivered-least; delivered-most = i .delivered-most; last-most = i .last-most; begun = i .begun }
 
   thawed-stored : Stored (thawed p)
-  thawed-stored = record { first-least = i .first-least; first-most = i .first-most; mark-least = i .mark-least; mark-most = i .mark-most; last-most = i .last-most }
+  thawed-stored = record { first-least = i .first-least; first-most = i .first-most; delivered-least = i .delivered-least; delivered-most = i .delivered-most; last-most = i .last-most; begun = i .begun }
 
   resynchronized-stored : Stored (resynchronizedOf p)
-  resynchronized-stored = record { first-least = i .first-least; first-most = i .first-most; mark-least = i .mark-least; mark-most = i .mark-most; last-most = i .last-most }
+  resynchronized-stored = record { first-least = i .first-least; first-most = i .first-most; delivered-least = i .delivered-least; delivered-most = i .delivered-most; last-most = i .last-most; begun = λ (e : true ≡ false). not-both e }
 
-  delivered-stored : p .delivered < p .last → Stored (deliveredOf p)
-  delivered-stored l = record { first-least = i .first-least; first-most = i .first-most; mark-least = omega arith; mark-most = omega arith; last-most = i .last-most }
+  delivered-stored : p .resynchronized ≡ true → p .delivered < p .last → Stored (deliveredOf p)
+  delivered-stored y l = record { first-least = i .first-least; first-most = i .first-most; delivered-least = omega arith; delivered-most = omega arith; last-most = i .last-most; begun = λ (e : p .resynchronized ≡ false). not-both (sym y ∙ e) }
 
   submitted-stored : p .last + 1 ≤ 999999999999998 → Stored (submitted p)
-  submitted-stored l = record { first-least = i .first-least; first-most = i .first-most; mark-least = i .mark-least; mark-most = omega arith; last-most = l }
+  submitted-stored l = record { first-least = i .first-least; first-most = i .first-most; delivered-least = i .delivered-least; delivered-most = omega arith; last-most = l; begun = i .begun }
 
 one-sent : Sent 1
 one-sent = record { some = omega arith; few = omega arith }
@@ -102,7 +105,7 @@ module _ (r : ℕ) (s : Sender) (i : Stored (s .persisted)) where
   steps-freeze = shuts refl (frozen-stored (s .persisted) i)
 
   -- going on with p: the transaction after the mark, or nothing
-  steps-on : (p : Persisted) (e : Event) → givesUp e ≡ false → Stored p → OnCircuit p true
+  steps-on : (p : Persisted) (e : Event) → isAbandoned e ≡ false → Stored p → OnCircuit p true
       → Fresh (waitingMessage (s .persisted) (s .waiting)) (Numbered (Number (p .delivered + 1))) → StepOf r s (goesOn p e)
   steps-on p e g j o f =
       cond-ind (λ (w : Waiting). StepOf r s (begins p w e)) (ltb (p .delivered) (p .last)) _ _
@@ -162,7 +165,7 @@ module _ (s : Sender) (v : validSender s ≡ true) where
       let m = leb-true r 99 v in
       cond-ind (StepOf r s) (ltb (s .sends) (r + 1)) _ _
       (λ l. let k = ltb-true (s .sends) (r + 1) l in resends k (record { stored = now .stored; waits = f (s .sends + 1) (record { some = omega arith; few = omega arith }) }))
-      (λ l. gives-up (now .stored) (ltb-false (s .sends) (r + 1) l) e)
+      (λ l. abandons (now .stored) (ltb-false (s .sends) (r + 1) l) e)
 
   steps-due : (r : ℕ) → validResends r ≡ true → StepOf r s (dueIn r s (s .waiting))
   steps-due r v = go (s .waiting) refl
@@ -191,13 +194,13 @@ module _ (s : Sender) (v : validSender s ≡ true) where
   steps-timer r = steps-checked r _ (steps-due r)
 
   -- ---- answers
-  steps-stays : (r : ℕ) (e : Event) → givesUp e ≡ false → StepOf r s (stays s e)
+  steps-stays : (r : ℕ) (e : Event) → isAbandoned e ≡ false → StepOf r s (stays s e)
   steps-stays r e g = keeps refl g now refl
 
   steps-freezes : (r : ℕ) → StepOf r s (freezes s)
   steps-freezes r = steps-freeze r s (now .stored)
 
-  goes-on : (r : ℕ) (p : Persisted) (e : Event) → givesUp e ≡ false → Stored p → OnCircuit p true
+  goes-on : (r : ℕ) (p : Persisted) (e : Event) → isAbandoned e ≡ false → Stored p → OnCircuit p true
       → Fresh (waitingMessage (s .persisted) (s .waiting)) (Numbered (Number (p .delivered + 1))) → StepOf r s (goesOn p e)
   goes-on r = steps-on r s (now .stored)
 
@@ -215,10 +218,10 @@ module _ (s : Sender) (v : validSender s ≡ true) where
   on-same r e =
       goes-on r (s .persisted) NoEvent refl (now .stored) (at Querying e .0) (fresh-at Querying (Numbered (Number (s .persisted .delivered + 1))) e (after-number 0 (s .persisted .delivered + 1) (omega arith)))
 
-  on-moved : (r : ℕ) (w : Waiting) (k : ℕ) (e : Event) → givesUp e ≡ false → s .waiting ≡ w → waitingMessage (s .persisted) w ≡ Numbered (Number k) → k < s .persisted .delivered + 1 + 1
+  on-moved : (r : ℕ) (w : Waiting) (k : ℕ) (e : Event) → isAbandoned e ≡ false → s .waiting ≡ w → waitingMessage (s .persisted) w ≡ Numbered (Number k) → k < s .persisted .delivered + 1 + 1
       → OnCircuit (s .persisted) true → s .persisted .delivered < s .persisted .last → StepOf r s (goesOn (deliveredOf (s .persisted)) e)
   on-moved r w k e g a b l o m =
-      goes-on r (deliveredOf (s .persisted)) e g (delivered-stored (s .persisted) (now .stored) m) (record { thawed = o .thawed; synchronized = o .synchronized })
+      goes-on r (deliveredOf (s .persisted)) e g (delivered-stored (s .persisted) (now .stored) (o .synchronized) m) (record { thawed = o .thawed; synchronized = o .synchronized })
       (fresh-at w (Numbered (Number (s .persisted .delivered + 1 + 1))) a (λ (n : SequenceNumber) (h : is n (Numbered (Number (s .persisted .delivered + 1 + 1))) ≡ true).
       ap (λ (z : NumberedMessage). is n z) b ∙ after-number k (s .persisted .delivered + 1 + 1) l n h))
 
@@ -235,7 +238,7 @@ module _ (s : Sender) (v : validSender s ≡ true) where
   steps-querying r e AE n = steps-freezes r
   steps-querying r e AR n = steps-freezes r
 
-  moved : (r : ℕ) (e : Event) → givesUp e ≡ false → s .waiting ≡ Sending → StepOf r s (goesOn (deliveredOf (s .persisted)) e)
+  moved : (r : ℕ) (e : Event) → isAbandoned e ≡ false → s .waiting ≡ Sending → StepOf r s (goesOn (deliveredOf (s .persisted)) e)
   moved r e g a = on-moved r Sending (s .persisted .delivered + 1) e g a refl (omega arith) (at Sending a .0) (at Sending a .1 .more)
 
   steps-known : (r : ℕ) → s .waiting ≡ Sending → (c : Code) (n : ℕ) → StepOf r s (knownNumber s c n)

@@ -1,13 +1,13 @@
 -- What a valid state of the sender is, in numbers.
-use mathlib.Core.Path.{_≡_, refl}
-use mathlib.Core.Bool.{Bool, true, false, not, _&&_}
+use mathlib.Core.Path.{_≡_, refl, sym, ap, _∙_}
+use mathlib.Core.Bool.{Bool, true, false, not, _&&_, _||_}
 use Prim.Native.Nat.{ℕ, _+_, _≤_, _<_}
 use native.Mathlib.Omega.{arith}
 use lib.Dec.{leb, ltb, eqb}
 use borrow.Author.Tests.{le-leb, leb-true, lt-ltb, ltb-true, eq-eqb, eqb-true, not-true}
 use Rattle.lists.proofs.Tests.{and-left, and-right}
 use Rattle.numbers.specs.Numbers.{greatestSent}
-use Rattle.sender.specs.Sender.{validPersisted, validSends, validWaiting, validSender}
+use Rattle.sender.specs.Sender.{validNumbers, validPersisted, validSends, validWaiting, validSender}
 use Rattle.sender.specs.declared.Persisted.{Persisted}
 use Rattle.sender.specs.declared.Waiting.{Waiting}
 use Rattle.sender.specs.declared.Waiting.the-variants.{Closed, Idle, Resynchronizing, Querying, Sending}
@@ -16,9 +16,10 @@ use Rattle.sender.specs.declared.Sender.{Sender}
 pub record Stored (p : Persisted) : Type 0 where
   pub first-least : 1 ≤ p .first
   pub first-most : p .first ≤ 999999999999998
-  pub mark-least : p .first ≤ p .delivered + 1
-  pub mark-most : p .delivered ≤ p .last
+  pub delivered-least : p .first ≤ p .delivered + 1
+  pub delivered-most : p .delivered ≤ p .last
   pub last-most : p .last ≤ 999999999999998
+  pub begun : p .resynchronized ≡ false → p .delivered + 1 ≡ p .first
 
 -- an open circuit, resynchronized or not
 pub record OnCircuit (p : Persisted) (b : Bool) : Type 0 where
@@ -52,17 +53,22 @@ both : (a b : Bool) → a ≡ true → b ≡ true → (a && b) ≡ true
 both a b e f = rw (e, f)
 
 -- ---- from the tests
+start-from : (b : Bool) (d f : ℕ) → (b || eqb d f) ≡ true → b ≡ false → d ≡ f
+start-from b d f h e = eqb-true d f (sym (ap (λ (z : Bool). z || eqb d f) e) ∙ h)
+
 stored-from : (p : Persisted) → validPersisted p ≡ true → Stored p
-stored-from p v =
+stored-from p w =
+    let v = and-left (validNumbers p) (p .resynchronized || eqb (p .delivered + 1) (p .first)) w in
     let a = and-left (leb 1 (p .first) && leb (p .first) greatestSent) (leb (p .first) (p .delivered + 1) && (leb (p .delivered) (p .last) && leb (p .last) greatestSent)) v in
     let u = and-right (leb 1 (p .first) && leb (p .first) greatestSent) (leb (p .first) (p .delivered + 1) && (leb (p .delivered) (p .last) && leb (p .last) greatestSent)) v in
     let t = and-right (leb (p .first) (p .delivered + 1)) (leb (p .delivered) (p .last) && leb (p .last) greatestSent) u in
     record {
       first-least = leb-true 1 (p .first) (and-left (leb 1 (p .first)) (leb (p .first) greatestSent) a);
       first-most = leb-true (p .first) greatestSent (and-right (leb 1 (p .first)) (leb (p .first) greatestSent) a);
-      mark-least = leb-true (p .first) (p .delivered + 1) (and-left (leb (p .first) (p .delivered + 1)) (leb (p .delivered) (p .last) && leb (p .last) greatestSent) u);
-      mark-most = leb-true (p .delivered) (p .last) (and-left (leb (p .delivered) (p .last)) (leb (p .last) greatestSent) t);
+      delivered-least = leb-true (p .first) (p .delivered + 1) (and-left (leb (p .first) (p .delivered + 1)) (leb (p .delivered) (p .last) && leb (p .last) greatestSent) u);
+      delivered-most = leb-true (p .delivered) (p .last) (and-left (leb (p .delivered) (p .last)) (leb (p .last) greatestSent) t);
       last-most = leb-true (p .last) greatestSent (and-right (leb (p .delivered) (p .last)) (leb (p .last) greatestSent) t);
+      begun = start-from (p .resynchronized) (p .delivered + 1) (p .first) (and-right (validNumbers p) (p .resynchronized || eqb (p .delivered + 1) (p .first)) w);
     }
 
 sent-from : (n : ℕ) → validSends n ≡ true → Sent n
@@ -99,9 +105,17 @@ right-from s h =
     }
 
 -- ---- and back
+start-valid : (b : Bool) (d f : ℕ) → (b ≡ false → d ≡ f) → (b || eqb d f) ≡ true
+start-valid true d f h = refl
+start-valid false d f h = eq-eqb d f (h refl)
+
+numbers-valid : (p : Persisted) → Stored p → validNumbers p ≡ true
+numbers-valid p i =
+    rw (le-leb 1 (p .first) (i .first-least), le-leb (p .first) greatestSent (i .first-most), le-leb (p .first) (p .delivered + 1) (i .delivered-least), le-leb (p .delivered) (p .last) (i .delivered-most), le-leb (p .last) greatestSent (i .last-most))
+
 stored-valid : (p : Persisted) → Stored p → validPersisted p ≡ true
 stored-valid p i =
-    rw (le-leb 1 (p .first) (i .first-least), le-leb (p .first) greatestSent (i .first-most), le-leb (p .first) (p .delivered + 1) (i .mark-least), le-leb (p .delivered) (p .last) (i .mark-most), le-leb (p .last) greatestSent (i .last-most))
+    both (validNumbers p) (p .resynchronized || eqb (p .delivered + 1) (p .first)) (numbers-valid p i) (start-valid (p .resynchronized) (p .delivered + 1) (p .first) (i .begun))
 
 sent-valid : (n : ℕ) → Sent n → validSends n ≡ true
 sent-valid n i = rw (le-leb 1 n (i .some), le-leb n 100 (i .few))

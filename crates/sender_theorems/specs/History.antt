@@ -10,7 +10,7 @@ use Rattle.sender.specs.declared.Sender.{Sender}
 use Rattle.sender.specs.declared.NumberedMessage.{NumberedMessage}
 use Rattle.sender.specs.declared.NumberedMessage.the-variants.{Nothing, Numbered}
 use Rattle.sender.specs.declared.Event.{Event}
-use Rattle.sender.specs.declared.Event.the-variants.{NoEvent, Delivered, DeliveredUnknown, GaveUp, Froze, Dropped}
+use Rattle.sender.specs.declared.Event.the-variants.{NoEvent, Delivered, DeliveredUnknown, Abandoned, Froze, Dropped}
 use Rattle.sender.specs.declared.Acted.{Acted}
 use Rattle.sender_theorems.specs.Acts.{actOf, Doing, does, crashes, afterOf}
 
@@ -50,15 +50,15 @@ abbrev pub countedOf : NumberedMessage → List Entry → ℕ
 countedOf Nothing h = 0
 countedOf (Numbered m) h = counted m h
 
-abbrev pub givesUp : Event → Bool
-givesUp NoEvent = false
-givesUp (Delivered n c) = false
-givesUp (DeliveredUnknown n) = false
-givesUp GaveUp = true
-givesUp Froze = false
-givesUp Dropped = false
+abbrev pub isAbandoned : Event → Bool
+isAbandoned NoEvent = false
+isAbandoned (Delivered n c) = false
+isAbandoned (DeliveredUnknown n) = false
+isAbandoned Abandoned = true
+isAbandoned Froze = false
+isAbandoned Dropped = false
 
 -- "That is the message waiting after the act, or the one just given up; with neither, 0.": the sends to be told in the answer b,
 -- given in the state s with the history h
 abbrev pub sendsToTell : Sender → List Entry → Acted → ℕ
-sendsToTell s h b = cond (givesUp (b .event)) (countedOf (waitsOf s) h) (countedOf (waitsOf (b .sender)) (told b ∷ h))
+sendsToTell s h b = cond (isAbandoned (b .event)) (countedOf (waitsOf s) h) (countedOf (waitsOf (b .sender)) (told b ∷ h))

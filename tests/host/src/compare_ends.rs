@@ -77,6 +77,38 @@ impl Receiver {
     pub fn buffer_length(&self) -> usize {
         self.expected_buffer.len()
     }
+
+    /// What the model answers; the state and the expected buffer become what they must be then.
+    fn expected(&mut self, call: &ReceiveCall) -> ReceiverAnswer {
+        let memory = Memory {
+            buffer_length: call.buffer_length,
+            start: call.start,
+            report_words: call.report_words,
+        };
+        let received = receiver_model::receive(
+            &self.settings,
+            call.application,
+            &self.state[..call.state_words],
+            &call.block,
+            &memory,
+        );
+        match received {
+            Received::Refused(number) => ReceiverAnswer {
+                number,
+                report: [0; RECEIVED_WORDS],
+                reply: Vec::new(),
+            },
+            Received::Taken(state, report, reply) => {
+                self.state[0] = state;
+                self.expected_buffer[call.start..][..reply.len()].copy_from_slice(&reply);
+                ReceiverAnswer {
+                    number: 0,
+                    report,
+                    reply,
+                }
+            }
+        }
+    }
 }
 
 /// The bytes that a receiver's reply needs, whatever it is.
@@ -212,34 +244,10 @@ impl Compare {
             call.start,
             report.content_mut(),
         );
-        let memory = Memory {
-            buffer_length: call.buffer_length,
-            start: call.start,
-            report_words: call.report_words,
-        };
-        let answer = match receiver_model::receive(
-            &settings,
-            call.application,
-            &receiver.state[..call.state_words],
-            &call.block,
-            &memory,
-        ) {
-            Received::Refused(number) => ReceiverAnswer {
-                number,
-                report: [0; RECEIVED_WORDS],
-                reply: Vec::new(),
-            },
-            Received::Taken(state, report_words, reply) => {
-                receiver.state[0] = state;
-                expected_report[..RECEIVED_WORDS].copy_from_slice(&report_words);
-                receiver.expected_buffer[call.start..][..reply.len()].copy_from_slice(&reply);
-                ReceiverAnswer {
-                    number: 0,
-                    report: report_words,
-                    reply,
-                }
-            }
-        };
+        let answer = receiver.expected(call);
+        if answer.number == 0 {
+            expected_report[..RECEIVED_WORDS].copy_from_slice(&answer.report);
+        }
         same_number(found, answer.number)
             .and_then(|()| words.compare("state", &receiver.state))
             .and_then(|()| report.compare("report", &expected_report))
@@ -274,11 +282,6 @@ impl Compare {
     /// One call of a writer of control blocks; what was written is then read back.
     pub fn control_block(&mut self, call: &ControlBlockCall) -> Outcome {
         self.acts += 1;
-        let memory = Memory {
-            buffer_length: call.buffer.len(),
-            start: call.start,
-            report_words: call.report_words,
-        };
         let mut expected_report = self.random.words(call.report_words);
         let mut expected_buffer = call.buffer.to_vec();
         let mut report = Guarded::new(&expected_report, GUARD_WORD);
@@ -293,8 +296,7 @@ impl Compare {
             call.start,
             report.content_mut(),
         );
-        let message_type = call.message_type;
-        let written = sender_model::control_block(&settings, message_type, number, &memory);
+        let written = call.expected();
         if let Ok(block) = &written {
             expected_buffer[call.start..][..block.len()].copy_from_slice(block);
             expected_report[..2].copy_from_slice(&[block.len() as u64, 0]);
@@ -302,22 +304,24 @@ impl Compare {
         same_number(found, *written.as_ref().err().unwrap_or(&0))
             .and_then(|()| report.compare("report", &expected_report))
             .and_then(|()| buffer.compare("buffer", &expected_buffer))
-            .and_then(|()| given.compare("type", message_type))
+            .and_then(|()| given.compare("type", call.message_type))
             .and_then(|()| match &written {
                 Ok(block) => control_reads_back(&settings, number, block),
                 Err(_) => Ok(()),
             })
-            .map_err(|why| {
-                format!(
-                    "control block, {}, number {number}, start {}, {} buffer bytes, {} report \
-                     words: {why}; type {}",
-                    library::settings_text(&settings),
-                    call.start,
-                    call.buffer.len(),
-                    call.report_words,
-                    library::text(message_type)
-                )
-            })
+            .map_err(|why| control_text(call, &why))
+    }
+}
+
+impl ControlBlockCall<'_> {
+    /// What the model writes, or its refusal.
+    fn expected(&self) -> Result<Vec<u8>, u64> {
+        let memory = Memory {
+            buffer_length: self.buffer.len(),
+            start: self.start,
+            report_words: self.report_words,
+        };
+        sender_model::control_block(&self.settings, self.message_type, self.number, &memory)
     }
 }
 
@@ -406,5 +410,17 @@ fn receive_text(settings: &Settings, call: &ReceiveCall, state: &[u64], why: &st
         call.start,
         call.report_words,
         block_text(&call.block)
+    )
+}
+
+fn control_text(call: &ControlBlockCall, why: &str) -> String {
+    format!(
+        "control block, {}, number {}, start {}, {} buffer bytes, {} report words: {why}; type {}",
+        library::settings_text(&call.settings),
+        call.number,
+        call.start,
+        call.buffer.len(),
+        call.report_words,
+        library::text(call.message_type)
     )
 }

@@ -23,9 +23,20 @@ pub mod names {
     pub const SENDER_SENDS: usize = 6;
     pub const SENDER_WORDS: usize = 7;
 
+    pub const WAITING_CLOSED: u64 = 0;
+    pub const WAITING_IDLE: u64 = 1;
+    pub const WAITING_RESYNCHRONIZE: u64 = 2;
+    pub const WAITING_QUERY: u64 = 3;
+    pub const WAITING_TRANSACTION: u64 = 4;
+
+    pub const SEND_NOTHING: u64 = 0;
+    pub const SEND_RESYNCHRONIZE: u64 = 1;
+    pub const SEND_QUERY: u64 = 2;
+    pub const SEND_TRANSACTION: u64 = 3;
+
     pub const EVENT_NONE: u64 = 0;
     pub const EVENT_DELIVERED: u64 = 1;
-    pub const EVENT_GAVE_UP: u64 = 2;
+    pub const EVENT_ABANDONED: u64 = 2;
     pub const EVENT_FROZE: u64 = 3;
     pub const EVENT_DROPPED: u64 = 4;
 

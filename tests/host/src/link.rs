@@ -8,9 +8,11 @@ use crate::line::{damaged, Line, Reader};
 use host::ends_ffi;
 use host::ends_ffi::names::{
     ACT_CODE, ACT_DELIVERED, ACT_EVENT, ACT_SEND, ACT_SENDS, ACT_SEND_NUMBER, ACT_WORDS,
-    EVENT_DELIVERED, EVENT_FROZE, EVENT_GAVE_UP, RECEIVED_REPLY_LENGTH, RECEIVED_TRANSACTION,
+    EVENT_ABANDONED, EVENT_DELIVERED, EVENT_FROZE, RECEIVED_REPLY_LENGTH, RECEIVED_TRANSACTION,
     RECEIVED_WORDS, SENDER_DELIVERED, SENDER_FIRST, SENDER_FROZEN, SENDER_LAST,
-    SENDER_PERSISTED_WORDS, SENDER_WAITING, SENDER_WORDS,
+    SENDER_PERSISTED_WORDS, SENDER_WAITING, SENDER_WORDS, SEND_NOTHING, SEND_QUERY,
+    SEND_RESYNCHRONIZE, SEND_TRANSACTION, WAITING_CLOSED, WAITING_QUERY, WAITING_RESYNCHRONIZE,
+    WAITING_TRANSACTION,
 };
 use host::ffi::names::MINUS_ONE;
 use host::message_model;
@@ -20,7 +22,7 @@ use host::receiver_model::Incoming;
 use host::sender_model::Act;
 use std::collections::VecDeque;
 
-/// A message as a report names it: 1 for -1, 2 for 0, 3 and the number for a transaction.
+/// A message as a report names it, with the number of a transaction.
 type Message = [u64; 2];
 
 /// The sending end: its words, those persisted, what was named and not yet written, and all that
@@ -35,10 +37,11 @@ struct SendingEnd {
 
 impl SendingEnd {
     fn waiting(&self) -> Option<Message> {
+        let next = self.state[SENDER_DELIVERED].wrapping_add(1);
         match self.state[SENDER_WAITING] {
-            2 => Some([1, 0]),
-            3 => Some([2, 0]),
-            4 => Some([3, self.state[SENDER_DELIVERED].wrapping_add(1)]),
+            WAITING_RESYNCHRONIZE => Some([SEND_RESYNCHRONIZE, 0]),
+            WAITING_QUERY => Some([SEND_QUERY, 0]),
+            WAITING_TRANSACTION => Some([SEND_TRANSACTION, next]),
             _ => None,
         }
     }
@@ -49,7 +52,7 @@ impl SendingEnd {
     }
 
     fn has_circuit(&self) -> bool {
-        self.state[SENDER_WAITING] != 0
+        self.state[SENDER_WAITING] != WAITING_CLOSED
     }
 
     /// The index of a number in the log; far outside for one that is not of the log.
@@ -92,7 +95,7 @@ pub struct Happened {
     pub damaged: u64,
     pub crashes: u64,
     pub circuits: u64,
-    pub gave_up: u64,
+    pub abandoned: u64,
     pub resends: u64,
     pub delivered: [u64; 3],
     pub refused: u64,
@@ -109,11 +112,16 @@ pub struct Link<'a> {
     pub happened: &'a mut Happened,
 }
 
+/// The message that a report names to send now.
+fn named(report: &[u64; ACT_WORDS]) -> Option<Message> {
+    (report[ACT_SEND] != SEND_NOTHING).then_some([report[ACT_SEND], report[ACT_SEND_NUMBER]])
+}
+
 /// The control ID of a message.
 fn control_id(message: Message) -> String {
     match message {
-        [1, _] => "-1".to_string(),
-        [2, _] => "0".to_string(),
+        [SEND_RESYNCHRONIZE, _] => "-1".to_string(),
+        [SEND_QUERY, _] => "0".to_string(),
         [_, number] => number.to_string(),
     }
 }
@@ -182,6 +190,7 @@ impl<'a> Link<'a> {
     /// ran out, or an N block or a refused one came.
     fn sender_act(&mut self, act: &Act, due: bool) -> Result<[u64; ACT_WORDS], String> {
         let waited = self.sender.waiting();
+        let due = waited.filter(|_| due);
         let made = self.sender.sends(waited);
         let delivered = self.sender.state[SENDER_DELIVERED];
         let mut report = [0; ACT_WORDS];
@@ -193,43 +202,55 @@ impl<'a> Link<'a> {
         if matches!(act, Act::Open) {
             self.sender.history.clear();
         }
-        let sent = [report[ACT_SEND], report[ACT_SEND_NUMBER]];
-        if report[ACT_SEND] != 0 {
-            self.sender.named.push_back(sent);
-            self.sender.history.push(sent);
-        }
-        let gave_up = report[ACT_EVENT] == EVENT_GAVE_UP;
-        let waits = self.sender.waiting();
-        let ended = matches!(act, Act::Ended);
-        if gave_up != (due && waited.is_some() && made > self.resends) {
-            return Err(format!("{made} sends made, gave up: {gave_up}"));
-        }
-        if due && waited.is_some() && !gave_up && Some(sent) != waited {
-            return Err(format!("a resend of {waited:?} was due, sent {sent:?}"));
-        }
-        if gave_up || ended {
+        let sent = named(&report);
+        self.sender.named.extend(sent);
+        self.sender.history.extend(sent);
+        let abandoned = report[ACT_EVENT] == EVENT_ABANDONED;
+        let ended = abandoned || matches!(act, Act::Ended);
+        if ended {
             self.sender.named.clear();
-            self.happened.gave_up += u64::from(gave_up);
         }
-        self.happened.resends += u64::from(due && Some(sent) == waited);
-        let counted = waits.or(if gave_up { waited } else { None });
-        let sends = self.sender.sends(counted);
-        if report[ACT_SENDS] != sends {
-            return Err(format!(
-                "{sends} sends made, reported {}",
-                report[ACT_SENDS]
-            ));
-        }
-        if report[ACT_SEND] != 0 && Some(sent) != waits {
-            return Err(format!("sent {sent:?}, and {waits:?} waits"));
-        }
-        if waits != waited && waits.is_some() && Some(sent) != waits {
-            return Err(format!("{waits:?} began to wait and was not sent"));
-        }
-        self.nothing_forgotten(gave_up || ended)?;
+        self.happened.abandoned += u64::from(abandoned);
+        self.happened.resends += u64::from(due.is_some() && sent == due);
+        self.resent(due, made, &report)?;
+        self.counted(waited, &report)?;
+        self.nothing_forgotten(ended)?;
         self.moved(delivered, &report)?;
         self.holds()?;
         Ok(report)
+    }
+
+    /// What is due is sent again, and abandoned exactly if r + 1 sends were made.
+    fn resent(&self, due: Option<Message>, made: u64, report: &[u64; ACT_WORDS]) -> Outcome {
+        let abandoned = report[ACT_EVENT] == EVENT_ABANDONED;
+        if abandoned != (due.is_some() && made > self.resends) {
+            return Err(format!("{made} sends made, abandoned: {abandoned}"));
+        }
+        let sent = named(report);
+        if due.is_some() && !abandoned && sent != due {
+            return Err(format!("a resend of {due:?} was due, sent {sent:?}"));
+        }
+        Ok(())
+    }
+
+    /// The report counts the sends of what waits or was abandoned; what is sent waits, and what
+    /// begins to wait is sent.
+    fn counted(&self, waited: Option<Message>, report: &[u64; ACT_WORDS]) -> Outcome {
+        let abandoned = report[ACT_EVENT] == EVENT_ABANDONED;
+        let (sent, waits) = (named(report), self.sender.waiting());
+        let counted = waits.or(waited.filter(|_| abandoned));
+        let sends = self.sender.sends(counted);
+        if report[ACT_SENDS] != sends {
+            let reported = report[ACT_SENDS];
+            return Err(format!("{sends} sends made, reported {reported}"));
+        }
+        if sent.is_some() && sent != waits {
+            return Err(format!("sent {sent:?}, and {waits:?} waits"));
+        }
+        if waits.is_some() && waits != waited && sent != waits {
+            return Err(format!("{waits:?} began to wait and was not sent"));
+        }
+        Ok(())
     }
 
     /// On an open circuit something waits, or all that was submitted is delivered.
@@ -318,7 +339,7 @@ impl<'a> Link<'a> {
         let mut buffer = vec![0; self.settings.limit as usize + self.settings.overhead()];
         let mut report = [0; 2];
         let number = match message {
-            [3, number] => {
+            [SEND_TRANSACTION, number] => {
                 let kind = u64::from(b'D');
                 let Some(message) = self.log.get(self.sender.index(number)) else {
                     return Err(format!("{number} is to be sent, and is not in the log"));
@@ -327,7 +348,8 @@ impl<'a> Link<'a> {
             }
             [kind, _] => {
                 self.happened.acts += 1;
-                let number = if kind == 1 { MINUS_ONE } else { 0 };
+                let minus_one = kind == SEND_RESYNCHRONIZE;
+                let number = if minus_one { MINUS_ONE } else { 0 };
                 ends_ffi::control_block(&self.settings, b"ADT", number, &mut buffer, 0, &mut report)
             }
         };
@@ -368,7 +390,10 @@ impl<'a> Link<'a> {
         let id = answer.map_or(&b""[..], |answer| answer.control_id.bytes);
         let intact = id == control_id(waited).as_bytes();
         let delivered = report[ACT_EVENT] == EVENT_DELIVERED;
-        if intact && waited[0] == 3 && !(delivered && report[ACT_DELIVERED] == waited[1]) {
+        if intact
+            && waited[0] == SEND_TRANSACTION
+            && !(delivered && report[ACT_DELIVERED] == waited[1])
+        {
             return Err(format!("an answer to {waited:?} came, report {report:?}"));
         }
         if (self.sender.waiting() == Some(waited)) == intact {
@@ -401,21 +426,28 @@ impl<'a> Link<'a> {
         else {
             return Ok(());
         };
+        self.happened.refused += u64::from(number != 0);
         let block = Incoming {
             number,
             block_type,
             data: &data,
         };
+        let decision = self.decide(&block, application)?;
+        self.receiver.decision = Some(decision);
+        Ok(())
+    }
+
+    /// The receiver's act on a block; nothing of it is persisted yet.
+    fn decide(&mut self, block: &Incoming, application: u64) -> Result<Decision, String> {
         let mut buffer = vec![0; self.settings.limit as usize + self.settings.overhead()];
         let mut report = [0; RECEIVED_WORDS];
         self.happened.acts += 1;
-        self.happened.refused += u64::from(number != 0);
         let state = &mut self.receiver.state;
         let found = ends_ffi::receive(
             &self.settings,
             application,
             state,
-            &block,
+            block,
             &mut buffer,
             0,
             &mut report,
@@ -425,12 +457,11 @@ impl<'a> Link<'a> {
         }
         buffer.truncate(report[RECEIVED_REPLY_LENGTH] as usize);
         let taken = report[RECEIVED_TRANSACTION] != 0;
-        self.receiver.decision = Some(Decision {
-            transaction: taken.then_some((data, application)),
+        Ok(Decision {
+            transaction: taken.then_some((block.data.to_vec(), application)),
             reply: buffer,
             persisted: false,
-        });
-        Ok(())
+        })
     }
 
     /// Persists the state and a transaction in one; it must be the next one of the log.

@@ -373,6 +373,8 @@ impl Plan {
         bytes
     }
 
+    /// A refused block, an N block, data that is no answer, or an answer to what waits or to
+    /// something else, with any code and number.
     fn wild_block(&self, random: &mut Random, sender: &Sender) -> Planned {
         let message = match sender.circuit {
             Circuit::Waiting(message, _) => message,
@@ -383,40 +385,38 @@ impl Plan {
             ]),
         };
         let id = message.control_id().into_bytes();
-        match random.below(12) {
-            0..=2 => {
-                let number = random.between(3, 8) as u64;
-                let bytes = right_answer(random, sender, message);
-                Planned {
-                    number,
-                    block_type: random.pick(&[0, DATA_BLOCK, NAK_BLOCK]),
-                    ..Planned::data(self.resends, bytes)
-                }
-            }
-            3 | 4 => {
-                let bytes = if random.one_in(4) {
-                    right_answer(random, sender, message)
-                } else {
-                    vec![random.pick(b"CXBG")]
-                };
-                Planned {
-                    block_type: NAK_BLOCK,
-                    ..Planned::data(self.resends, bytes)
-                }
-            }
-            5 | 6 => {
-                let bytes = without_answer(random, &id);
-                Planned::data(self.resends, bytes)
-            }
+        let bytes = match random.below(12) {
+            0..=2 => return self.refused_block(random, sender, message),
+            3 | 4 => return self.nak_block(random, sender, message),
+            5 | 6 => without_answer(random, &id),
             7 | 8 => {
                 let foreign = foreign_id(random, &id, sender);
-                let bytes = any_answer(random, &foreign, sender);
-                Planned::data(self.resends, bytes)
+                any_answer(random, &foreign, sender)
             }
-            _ => {
-                let bytes = any_answer(random, &id, sender);
-                Planned::data(self.resends, bytes)
-            }
+            _ => any_answer(random, &id, sender),
+        };
+        Planned::data(self.resends, bytes)
+    }
+
+    fn refused_block(&self, random: &mut Random, sender: &Sender, message: Message) -> Planned {
+        let number = random.between(3, 8) as u64;
+        let bytes = right_answer(random, sender, message);
+        Planned {
+            number,
+            block_type: random.pick(&[0, DATA_BLOCK, NAK_BLOCK]),
+            ..Planned::data(self.resends, bytes)
+        }
+    }
+
+    fn nak_block(&self, random: &mut Random, sender: &Sender, message: Message) -> Planned {
+        let bytes = if random.one_in(4) {
+            right_answer(random, sender, message)
+        } else {
+            vec![random.pick(b"CXBG")]
+        };
+        Planned {
+            block_type: NAK_BLOCK,
+            ..Planned::data(self.resends, bytes)
         }
     }
 }

@@ -70,7 +70,7 @@ pub enum Event {
     /// A transaction is known to be delivered, with its verdict: AA, AE, or 0 where it is unknown.
     Delivered(u64, u64),
     /// After so many sends.
-    GaveUp(u64),
+    Abandoned(u64),
     Froze,
     Dropped,
 }
@@ -126,6 +126,9 @@ impl Sender {
             return None;
         }
         let (resynchronized, frozen) = (resynchronized == 1, frozen == 1);
+        if !resynchronized && delivered + 1 != first {
+            return None;
+        }
         let counted = (1..=MOST_RESENDS + 1).contains(&sends) && !frozen;
         let circuit = match waiting {
             0 if sends == 0 => Circuit::Closed,
@@ -270,7 +273,7 @@ impl Sender {
         self.circuit = Circuit::Closed;
         Told {
             send: None,
-            event: Event::GaveUp(sends),
+            event: Event::Abandoned(sends),
             block,
         }
     }
@@ -307,38 +310,41 @@ impl Sender {
             b"AR" => REJECT,
             _ => 0,
         };
-        match (message, code, expected) {
-            (Message::MinusOne, ACCEPT, Held::MinusOne) => {
+        match (message, code) {
+            (Message::MinusOne, ACCEPT) if expected == Held::MinusOne => {
                 self.resynchronized = true;
                 self.next_waits(Event::Nothing)
             }
-            (Message::Zero, ACCEPT, Held::MinusOne) if self.delivered + 1 == self.first => {
-                self.next_waits(Event::Nothing)
-            }
-            (Message::Zero, ACCEPT, Held::Number(next)) if next == self.delivered + 1 => {
-                self.next_waits(Event::Nothing)
-            }
-            (Message::Zero, ACCEPT, Held::Number(next))
-                if next == self.delivered + 2 && self.delivered < self.last =>
-            {
-                self.moves(next - 1, 0)
-            }
-            (Message::Transaction(number), ACCEPT | ERROR, Held::Number(said))
-                if said == number =>
-            {
+            (Message::Zero, ACCEPT) => self.told_expected(expected),
+            (Message::Transaction(number), ACCEPT | ERROR) if expected == Held::Number(number) => {
                 self.moves(number, code)
             }
-            (Message::Transaction(number), REJECT, Held::Number(said)) if said == number + 1 => {
+            (Message::Transaction(number), REJECT) if expected == Held::Number(number + 1) => {
                 self.moves(number, 0)
             }
-            _ => {
-                self.frozen = true;
-                self.circuit = Circuit::Closed;
-                Told {
-                    event: Event::Froze,
-                    ..NOTHING
-                }
-            }
+            _ => self.freezes(),
+        }
+    }
+
+    /// AA to 0: -1 goes on if nothing is delivered yet; e if e - 1 is the last one delivered, or the
+    /// next one and submitted.
+    fn told_expected(&mut self, expected: Held) -> Told {
+        let next = self.delivered + 1;
+        let submitted = self.delivered < self.last;
+        match expected {
+            Held::MinusOne if next == self.first => self.next_waits(Event::Nothing),
+            Held::Number(number) if number == next => self.next_waits(Event::Nothing),
+            Held::Number(number) if number == next + 1 && submitted => self.moves(next, 0),
+            _ => self.freezes(),
+        }
+    }
+
+    fn freezes(&mut self) -> Told {
+        self.frozen = true;
+        self.circuit = Circuit::Closed;
+        Told {
+            event: Event::Froze,
+            ..NOTHING
         }
     }
 
@@ -411,7 +417,7 @@ fn report(told: &Told, sends: u64) -> [u64; ACT_WORDS] {
     let (event, sends, delivered, code) = match told.event {
         Event::Nothing => (0, sends, 0, 0),
         Event::Delivered(number, code) => (1, sends, number, code),
-        Event::GaveUp(made) => (2, made, 0, 0),
+        Event::Abandoned(made) => (2, made, 0, 0),
         Event::Froze => (3, sends, 0, 0),
         Event::Dropped => (4, sends, 0, 0),
     };

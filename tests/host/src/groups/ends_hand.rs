@@ -75,8 +75,13 @@ const ZERO_AA_LAST: &[u8] =
 
 /// P9, P10, each row of the table, each refused number, and the largest numbers.
 pub fn receiver_by_hand(compare: &mut Compare) -> Outcome {
-    let hybrid = Settings::hybrid(0x0B, 0x1C, 128);
-    let minimal = Settings::minimal(128);
+    fresh_receivers(compare)?;
+    hybrid_receiver(compare)?;
+    largest_received(compare)?;
+    minimal_receiver(compare)
+}
+
+fn fresh_receivers(compare: &mut Compare) -> Outcome {
     let mut fresh = [77; 2];
     let number = ends_ffi::receiver_fresh(&mut fresh);
     same(
@@ -87,7 +92,17 @@ pub fn receiver_by_hand(compare: &mut Compare) -> Outcome {
     let number = ends_ffi::receiver_fresh(&mut []);
     same("a fresh receiver without a word", &[number], &[2])?;
     compare.acts += 2;
-    let numbered: &[Step] = &[
+    Ok(())
+}
+
+const NAK_G: &[u8] = b"\x0BN23\rG00006014\x1C\r";
+const NAK_B: &[u8] = b"\x0BN23\rB00006011\x1C\r";
+const NAK_C: &[u8] = b"\x0BN23\rC00006010\x1C\r";
+const NAK_X: &[u8] = b"\x0BN23\rX00006017\x1C\r";
+
+fn hybrid_receiver(compare: &mut Compare) -> Outcome {
+    let hybrid = Settings::hybrid(0x0B, 0x1C, 128);
+    let steps: &[Step] = &[
         (0, DATA, NO_NUMBER, 1, 0, [0, 57, 0], NO_NUMBER_AR),
         (0, DATA, CONTROL_0, 1, 0, [0, 57, 0], ZERO_AA_NONE),
         (0, DATA, REQUEST_5, 1, 6, [5, 56, 0], AA_5),
@@ -98,39 +113,38 @@ pub fn receiver_by_hand(compare: &mut Compare) -> Outcome {
         (0, DATA, REQUEST_5, 2, 6, [5, 56, 0], AE_5),
         (0, NAK, b"X", 1, 6, [0, 0, 0], b""),
         (0, NAK, REQUEST_5, 1, 6, [0, 0, 0], b""),
-        (0, DATA, b"", 1, 6, [0, 16, 9], b"\x0BN23\rG00006014\x1C\r"),
-        (3, 0, b"", 1, 6, [0, 16, 3], b"\x0BN23\rG00006014\x1C\r"),
-        (4, 0, b"", 1, 6, [0, 16, 4], b"\x0BN23\rB00006011\x1C\r"),
-        (5, 0, b"", 1, 6, [0, 16, 5], b"\x0BN23\rG00006014\x1C\r"),
-        (6, 0, b"", 1, 6, [0, 16, 6], b"\x0BN23\rC00006010\x1C\r"),
-        (7, 0, b"", 1, 6, [0, 16, 7], b"\x0BN23\rX00006017\x1C\r"),
-        (8, 0, b"", 1, 6, [0, 16, 8], b"\x0BN23\rG00006014\x1C\r"),
-        (
-            7,
-            DATA,
-            CONTROL_MINUS_1,
-            1,
-            6,
-            [0, 16, 7],
-            b"\x0BN23\rX00006017\x1C\r",
-        ),
+        (0, DATA, b"", 1, 6, [0, 16, 9], NAK_G),
+        (3, 0, b"", 1, 6, [0, 16, 3], NAK_G),
+        (4, 0, b"", 1, 6, [0, 16, 4], NAK_B),
+        (5, 0, b"", 1, 6, [0, 16, 5], NAK_G),
+        (6, 0, b"", 1, 6, [0, 16, 6], NAK_C),
+        (7, 0, b"", 1, 6, [0, 16, 7], NAK_X),
+        (8, 0, b"", 1, 6, [0, 16, 8], NAK_G),
+        (7, DATA, CONTROL_MINUS_1, 1, 6, [0, 16, 7], NAK_X),
         (0, DATA, CONTROL_0, 1, 6, [0, 56, 0], ZERO_AA_6),
     ];
-    receiver_steps(compare, &hybrid, 0, numbered)?;
-    receiver_steps(compare, &hybrid, 6, &numbered[3..])?;
-    receiver_steps(compare, &hybrid, 5, &numbered[2..])?;
-    let largest: &[Step] = &[
+    receiver_steps(compare, &hybrid, 0, steps)?;
+    receiver_steps(compare, &hybrid, 6, &steps[3..])?;
+    receiver_steps(compare, &hybrid, 5, &steps[2..])
+}
+
+fn largest_received(compare: &mut Compare) -> Outcome {
+    let hybrid = Settings::hybrid(0x0B, 0x1C, 128);
+    let steps: &[Step] = &[
         (0, DATA, REQUEST_LAST, 1, LAST + 1, [LAST, 98, 0], LAST_AA),
         (0, DATA, ONE_MORE, 1, LAST + 1, [0, 98, 0], ONE_MORE_AR),
         (0, DATA, CONTROL_0, 1, LAST + 1, [0, 70, 0], ZERO_AA_LAST),
         (0, DATA, CONTROL_MINUS_1, 1, 0, [0, 59, 0], MINUS_1_AA),
     ];
-    receiver_steps(compare, &hybrid, 0, largest)?;
-    receiver_steps(compare, &hybrid, LAST, largest)?;
+    receiver_steps(compare, &hybrid, 0, steps)?;
+    receiver_steps(compare, &hybrid, LAST, steps)
+}
+
+fn minimal_receiver(compare: &mut Compare) -> Outcome {
     let bare = |block: &'static [u8]| [b"\x0B", &block[5..block.len() - 10], b"\x1C\r"].concat();
     let (taken, rejected) = (bare(AA_5), bare(AR_6));
     let (none, zero) = (bare(MINUS_1_AA), bare(ZERO_AA_6));
-    let unframed: &[Step] = &[
+    let steps: &[Step] = &[
         (0, DATA, REQUEST_5, 1, 6, [5, 44, 0], &taken),
         (0, NAK, REQUEST_5, 1, 6, [0, 44, 0], &rejected),
         (0, NAK, b"C", 1, 6, [0, 0, 9], b""),
@@ -143,11 +157,45 @@ pub fn receiver_by_hand(compare: &mut Compare) -> Outcome {
         (0, DATA, CONTROL_MINUS_1, 1, 0, [0, 47, 0], &none),
         (0, DATA, REQUEST_5, 1, 6, [5, 44, 0], &taken),
     ];
-    receiver_steps(compare, &minimal, 0, unframed)
+    receiver_steps(compare, &Settings::minimal(128), 0, steps)
 }
 
 /// An act; the number, the state then, and the report.
 type Told<'a> = (Act<'a>, u64, [u64; 7], [u64; 8]);
+
+fn done(act: Act<'_>, state: [u64; 7], report: [u64; 8]) -> Told<'_> {
+    (act, 0, state, report)
+}
+
+fn refused(number: u64, act: Act<'_>, state: [u64; 7], report: [u64; 8]) -> Told<'_> {
+    (act, number, state, report)
+}
+
+/// A report that sends a message (1 for -1, 2 for 0, 3 and the number for a transaction) and
+/// counts its sends.
+fn sends(message: u64, number: u64, sends: u64) -> [u64; 8] {
+    [message, number, sends, 0, 0, 0, 0, 0]
+}
+
+/// A report that sends nothing while what waits was sent so often.
+fn waits(sends: u64) -> [u64; 8] {
+    [0, 0, sends, 0, 0, 0, 0, 0]
+}
+
+/// A report in which something happened, after so many sends of what waits or was abandoned.
+fn happens(event: u64, sends: u64) -> [u64; 8] {
+    [0, 0, sends, event, 0, 0, 0, 0]
+}
+
+/// A report on a refused block while nothing waits.
+fn refused_in(block: u64) -> [u64; 8] {
+    [0, 0, 0, 0, 0, 0, block, 0]
+}
+
+/// An act on an accepted data block, with 3 resends.
+fn reads(data: &[u8]) -> Act<'_> {
+    data_block(3, data)
+}
 
 /// The state after an act, and its report.
 type After = ([u64; 7], [u64; 8]);
@@ -156,10 +204,15 @@ type After = ([u64; 7], [u64; 8]);
 fn sender_steps(compare: &mut Compare, name: &str, first: u64, steps: &[Told]) -> Outcome {
     let mut state = compare.sender_fresh_with(first, 7)?;
     same("fresh", &state, &[first, first - 1, first - 1, 0, 0, 0, 0])?;
+    steps_from(compare, name, &mut state, steps)
+}
+
+/// A dialogue of a sender in this state.
+fn steps_from(compare: &mut Compare, name: &str, state: &mut [u64], steps: &[Told]) -> Outcome {
     for (index, (act, number, then, report)) in steps.iter().enumerate() {
-        let answer = compare.sender_act(act, &mut state)?;
+        let answer = compare.sender_act(act, state)?;
         same("number", &[answer.number], &[*number])
-            .and_then(|()| same("state", &state, then))
+            .and_then(|()| same("state", state, then))
             .and_then(|()| same("report", &answer.report, report))
             .map_err(|why| format!("{name}, step {index}: {why}"))?;
     }
@@ -187,269 +240,165 @@ const AA_1: &[u8] = b"MSH|^~\\&|||||||ACK|1|P|2.3.1\rMSA|AA|1||1\r";
 const AE_2: &[u8] = b"MSH|^~\\&|||||||ACK|2|P|2.3.1\rMSA|AE|2||2\r";
 const AR_3: &[u8] = b"MSH|^~\\&|||||||ACK|3|P|2.3.1\rMSA|AR|3||4\r";
 
-/// P11, and document 01's others: submitting f + 1 first, and the largest number and one more.
-fn cases(compare: &mut Compare) -> Outcome {
-    let p11: &[Told] = &[
-        (
-            Act::Open,
-            0,
-            [1, 0, 0, 0, 0, 2, 1],
-            [1, 0, 1, 0, 0, 0, 0, 0],
-        ),
-        (
+/// P11: r = 0, one timer.
+fn p11(compare: &mut Compare) -> Outcome {
+    let steps: &[Told] = &[
+        done(Act::Open, [1, 0, 0, 0, 0, 2, 1], sends(1, 0, 1)),
+        done(
             Act::Timer { resends: 0 },
-            0,
             [1, 0, 0, 0, 0, 0, 0],
-            [0, 0, 1, 2, 0, 0, 0, 0],
+            happens(2, 1),
         ),
-        (Act::Ended, 11, [1, 0, 0, 0, 0, 0, 0], NOTHING),
-        (
-            Act::Timer { resends: 0 },
+        refused(11, Act::Ended, [1, 0, 0, 0, 0, 0, 0], NOTHING),
+        refused(
             11,
+            Act::Timer { resends: 0 },
             [1, 0, 0, 0, 0, 0, 0],
             NOTHING,
         ),
-        (
-            Act::Open,
-            0,
-            [1, 0, 0, 0, 0, 2, 1],
-            [1, 0, 1, 0, 0, 0, 0, 0],
-        ),
+        done(Act::Open, [1, 0, 0, 0, 0, 2, 1], sends(1, 0, 1)),
     ];
-    sender_steps(compare, "P11", 1, p11)?;
-    let second_first: &[Told] = &[
-        (submit(SUBMIT_2), 10, [1, 0, 0, 0, 0, 0, 0], NOTHING),
-        (submit(SUBMIT_1), 0, [1, 0, 1, 0, 0, 0, 0], NOTHING),
-        (submit(SUBMIT_1), 10, [1, 0, 1, 0, 0, 0, 0], NOTHING),
-        (submit(SUBMIT_2), 0, [1, 0, 2, 0, 0, 0, 0], NOTHING),
-        (submit(SUBMIT_3), 0, [1, 0, 3, 0, 0, 0, 0], NOTHING),
+    sender_steps(compare, "P11", 1, steps)
+}
+
+/// Submitting f + 1 first.
+fn second_first(compare: &mut Compare) -> Outcome {
+    let steps: &[Told] = &[
+        refused(10, submit(SUBMIT_2), [1, 0, 0, 0, 0, 0, 0], NOTHING),
+        done(submit(SUBMIT_1), [1, 0, 1, 0, 0, 0, 0], NOTHING),
+        refused(10, submit(SUBMIT_1), [1, 0, 1, 0, 0, 0, 0], NOTHING),
+        done(submit(SUBMIT_2), [1, 0, 2, 0, 0, 0, 0], NOTHING),
+        done(submit(SUBMIT_3), [1, 0, 3, 0, 0, 0, 0], NOTHING),
     ];
-    sender_steps(compare, "f + 1 first", 1, second_first)?;
+    sender_steps(compare, "f + 1 first", 1, steps)
+}
+
+/// Submitting and delivering the largest number, and one more.
+fn largest_number(compare: &mut Compare) -> Outcome {
     let to_last = b"MSH|^~\\&|||||||ACK|1|P|2.3.1\rMSA|AR|999999999999998||999999999999999\r";
     let to_0 = b"MSH|^~\\&|||||||ACK|0|P|2.3.1\rMSA|AA|0||999999999999999\r";
     let before = LAST - 1;
-    let largest: &[Told] = &[
-        (
-            submit(ONE_MORE),
-            10,
-            [LAST, before, before, 0, 0, 0, 0],
-            NOTHING,
-        ),
-        (
-            submit(REQUEST_LAST),
-            0,
-            [LAST, before, LAST, 0, 0, 0, 0],
-            NOTHING,
-        ),
-        (
-            submit(REQUEST_LAST),
-            10,
-            [LAST, before, LAST, 0, 0, 0, 0],
-            NOTHING,
-        ),
-        (
-            submit(ONE_MORE),
-            10,
-            [LAST, before, LAST, 0, 0, 0, 0],
-            NOTHING,
-        ),
-        (
-            Act::Open,
-            0,
-            [LAST, before, LAST, 0, 0, 2, 1],
-            [1, 0, 1, 0, 0, 0, 0, 0],
-        ),
-        (
-            data_block(3, TO_MINUS_1),
-            0,
+    let fresh = [LAST, before, before, 0, 0, 0, 0];
+    let submitted = [LAST, before, LAST, 0, 0, 0, 0];
+    let delivered = [LAST, LAST, LAST, 1, 0, 1, 0];
+    let steps: &[Told] = &[
+        refused(10, submit(ONE_MORE), fresh, NOTHING),
+        done(submit(REQUEST_LAST), submitted, NOTHING),
+        refused(10, submit(REQUEST_LAST), submitted, NOTHING),
+        refused(10, submit(ONE_MORE), submitted, NOTHING),
+        done(Act::Open, [LAST, before, LAST, 0, 0, 2, 1], sends(1, 0, 1)),
+        done(
+            reads(TO_MINUS_1),
             [LAST, before, LAST, 1, 0, 4, 1],
-            [3, LAST, 1, 0, 0, 0, 0, 0],
+            sends(3, LAST, 1),
         ),
-        (
-            data_block(3, to_last),
-            0,
-            [LAST, LAST, LAST, 1, 0, 1, 0],
-            [0, 0, 0, 1, LAST, 0, 0, 0],
-        ),
-        (
-            submit(ONE_MORE),
-            10,
-            [LAST, LAST, LAST, 1, 0, 1, 0],
-            NOTHING,
-        ),
-        (Act::Ended, 0, [LAST, LAST, LAST, 1, 0, 0, 0], NOTHING),
-        (
-            Act::Open,
-            0,
-            [LAST, LAST, LAST, 1, 0, 3, 1],
-            [2, 0, 1, 0, 0, 0, 0, 0],
-        ),
-        (
-            data_block(3, to_0),
-            0,
-            [LAST, LAST, LAST, 1, 0, 1, 0],
-            NOTHING,
-        ),
+        done(reads(to_last), delivered, [0, 0, 0, 1, LAST, 0, 0, 0]),
+        refused(10, submit(ONE_MORE), delivered, NOTHING),
+        done(Act::Ended, [LAST, LAST, LAST, 1, 0, 0, 0], NOTHING),
+        done(Act::Open, [LAST, LAST, LAST, 1, 0, 3, 1], sends(2, 0, 1)),
+        done(reads(to_0), delivered, NOTHING),
     ];
-    sender_steps(compare, "the largest number", LAST, largest)
+    sender_steps(compare, "the largest number", LAST, steps)
 }
 
-/// A sender from its first circuit to its third: AA, AE and AR, a number learnt from the answer to
-/// 0, resends, an answer to something else, and nothing waiting.
+/// A sender from its first circuit to its third.
 fn dialogue(compare: &mut Compare) -> Outcome {
+    let mut state = compare.sender_fresh_with(1, 7)?;
+    resynchronizes(compare, &mut state)?;
+    delivers(compare, &mut state)?;
+    does_nothing(compare, &mut state)?;
+    freezes(compare, &mut state)
+}
+
+/// Sends -1 again by a timer, an N block and a refused block, until the answer to it comes.
+fn resynchronizes(compare: &mut Compare, state: &mut [u64]) -> Outcome {
     let steps: &[Told] = &[
-        (submit(SUBMIT_1), 0, [1, 0, 1, 0, 0, 0, 0], NOTHING),
-        (
-            Act::Open,
-            0,
-            [1, 0, 1, 0, 0, 2, 1],
-            [1, 0, 1, 0, 0, 0, 0, 0],
-        ),
-        (
-            Act::Open,
-            11,
-            [1, 0, 1, 0, 0, 2, 1],
-            [0, 0, 1, 0, 0, 0, 0, 0],
-        ),
-        (
+        done(submit(SUBMIT_1), [1, 0, 1, 0, 0, 0, 0], NOTHING),
+        done(Act::Open, [1, 0, 1, 0, 0, 2, 1], sends(1, 0, 1)),
+        refused(11, Act::Open, [1, 0, 1, 0, 0, 2, 1], waits(1)),
+        done(
             Act::Timer { resends: 3 },
-            0,
             [1, 0, 1, 0, 0, 2, 2],
-            [1, 0, 2, 0, 0, 0, 0, 0],
+            sends(1, 0, 2),
         ),
-        (
-            submit(SUBMIT_2),
-            0,
-            [1, 0, 2, 0, 0, 2, 2],
-            [0, 0, 2, 0, 0, 0, 0, 0],
-        ),
-        (
-            submit(SUBMIT_2),
-            10,
-            [1, 0, 2, 0, 0, 2, 2],
-            [0, 0, 2, 0, 0, 0, 0, 0],
-        ),
-        (
-            nak_block(3, b"C"),
-            0,
-            [1, 0, 2, 0, 0, 2, 3],
-            [1, 0, 3, 0, 0, 0, 0, 0],
-        ),
-        (
+        done(submit(SUBMIT_2), [1, 0, 2, 0, 0, 2, 2], waits(2)),
+        refused(10, submit(SUBMIT_2), [1, 0, 2, 0, 0, 2, 2], waits(2)),
+        done(nak_block(3, b"C"), [1, 0, 2, 0, 0, 2, 3], sends(1, 0, 3)),
+        done(
             refused_block(3, 7),
-            0,
             [1, 0, 2, 0, 0, 2, 4],
             [1, 0, 4, 0, 0, 0, 7, 0],
         ),
-        (
-            data_block(3, AA_1),
-            0,
-            [1, 0, 2, 0, 0, 2, 4],
-            [0, 0, 4, 4, 0, 0, 0, 0],
-        ),
-        (
-            data_block(3, TO_MINUS_1),
-            0,
-            [1, 0, 2, 1, 0, 4, 1],
-            [3, 1, 1, 0, 0, 0, 0, 0],
-        ),
-        (
-            data_block(3, TO_MINUS_1),
-            0,
-            [1, 0, 2, 1, 0, 4, 1],
-            [0, 0, 1, 4, 0, 0, 0, 0],
-        ),
-        (
-            data_block(3, AA_1),
-            0,
+        done(reads(AA_1), [1, 0, 2, 0, 0, 2, 4], happens(4, 4)),
+        done(reads(TO_MINUS_1), [1, 0, 2, 1, 0, 4, 1], sends(3, 1, 1)),
+    ];
+    steps_from(compare, "resynchronizing", state, steps)
+}
+
+/// AA and AE; an answer to something else, and data that is no answer.
+fn delivers(compare: &mut Compare, state: &mut [u64]) -> Outcome {
+    let steps: &[Told] = &[
+        done(reads(TO_MINUS_1), [1, 0, 2, 1, 0, 4, 1], happens(4, 1)),
+        done(
+            reads(AA_1),
             [1, 1, 2, 1, 0, 4, 1],
             [3, 2, 1, 1, 1, CODE_AA, 0, 0],
         ),
-        (
-            data_block(3, b""),
-            0,
-            [1, 1, 2, 1, 0, 4, 2],
-            [3, 2, 2, 0, 0, 0, 9, 0],
-        ),
-        (
-            data_block(3, AE_2),
-            0,
+        done(reads(b""), [1, 1, 2, 1, 0, 4, 2], [3, 2, 2, 0, 0, 0, 9, 0]),
+        done(
+            reads(AE_2),
             [1, 2, 2, 1, 0, 1, 0],
             [0, 0, 0, 1, 2, CODE_AE, 0, 0],
         ),
-        (Act::Timer { resends: 3 }, 0, [1, 2, 2, 1, 0, 1, 0], NOTHING),
-        (nak_block(3, b"G"), 0, [1, 2, 2, 1, 0, 1, 0], NOTHING),
-        (
-            refused_block(3, 4),
-            0,
-            [1, 2, 2, 1, 0, 1, 0],
-            [0, 0, 0, 0, 0, 0, 4, 0],
-        ),
-        (
-            data_block(3, b"MSH|"),
-            0,
-            [1, 2, 2, 1, 0, 1, 0],
-            [0, 0, 0, 0, 0, 0, 9, 0],
-        ),
-        (data_block(3, AE_2), 0, [1, 2, 2, 1, 0, 1, 0], NOTHING),
-        (
-            submit(SUBMIT_3),
-            0,
-            [1, 2, 3, 1, 0, 4, 1],
-            [3, 3, 1, 0, 0, 0, 0, 0],
-        ),
-        (
-            data_block(3, AR_3),
-            0,
-            [1, 3, 3, 1, 0, 1, 0],
-            [0, 0, 0, 1, 3, 0, 0, 0],
-        ),
-        (Act::Reset, 11, [1, 3, 3, 1, 0, 1, 0], NOTHING),
-        (Act::Ended, 0, [1, 3, 3, 1, 0, 0, 0], NOTHING),
-        (data_block(3, AR_3), 11, [1, 3, 3, 1, 0, 0, 0], NOTHING),
-        (
-            Act::Open,
-            0,
-            [1, 3, 3, 1, 0, 3, 1],
-            [2, 0, 1, 0, 0, 0, 0, 0],
-        ),
-        (
-            data_block(3, TO_0_NONE),
-            0,
-            [1, 3, 3, 1, 1, 0, 0],
-            [0, 0, 0, 3, 0, 0, 0, 0],
-        ),
-        (Act::Open, 11, [1, 3, 3, 1, 1, 0, 0], NOTHING),
-        (submit(SUBMIT_3), 11, [1, 3, 3, 1, 1, 0, 0], NOTHING),
-        (Act::Reset, 0, [1, 3, 3, 1, 0, 0, 0], NOTHING),
-        (Act::Reset, 11, [1, 3, 3, 1, 0, 0, 0], NOTHING),
     ];
-    sender_steps(compare, "a dialogue", 1, steps)
+    steps_from(compare, "delivering", state, steps)
+}
+
+/// Whatever comes with nothing waiting.
+fn does_nothing(compare: &mut Compare, state: &mut [u64]) -> Outcome {
+    let idle = [1, 2, 2, 1, 0, 1, 0];
+    let steps: &[Told] = &[
+        done(Act::Timer { resends: 3 }, idle, NOTHING),
+        done(nak_block(3, b"G"), idle, NOTHING),
+        done(refused_block(3, 4), idle, refused_in(4)),
+        done(reads(b"MSH|"), idle, refused_in(9)),
+        done(reads(AE_2), idle, NOTHING),
+    ];
+    steps_from(compare, "with nothing waiting", state, steps)
+}
+
+/// AR, a new circuit, and an answer to 0 that freezes the sender until it is reset.
+fn freezes(compare: &mut Compare, state: &mut [u64]) -> Outcome {
+    let (closed, frozen) = ([1, 3, 3, 1, 0, 0, 0], [1, 3, 3, 1, 1, 0, 0]);
+    let steps: &[Told] = &[
+        done(submit(SUBMIT_3), [1, 2, 3, 1, 0, 4, 1], sends(3, 3, 1)),
+        done(reads(AR_3), [1, 3, 3, 1, 0, 1, 0], [0, 0, 0, 1, 3, 0, 0, 0]),
+        refused(11, Act::Reset, [1, 3, 3, 1, 0, 1, 0], NOTHING),
+        done(Act::Ended, closed, NOTHING),
+        refused(11, reads(AR_3), closed, NOTHING),
+        done(Act::Open, [1, 3, 3, 1, 0, 3, 1], sends(2, 0, 1)),
+        done(reads(TO_0_NONE), frozen, happens(3, 0)),
+        refused(11, Act::Open, frozen, NOTHING),
+        refused(11, submit(SUBMIT_3), frozen, NOTHING),
+        done(Act::Reset, closed, NOTHING),
+        refused(11, Act::Reset, closed, NOTHING),
+    ];
+    steps_from(compare, "freezing", state, steps)
 }
 
 /// The answer to 0: -1 or f with nothing delivered, the number after the next one where that is
 /// submitted, and else frozen.
 fn answers_to_0(compare: &mut Compare) -> Outcome {
     let begin: [Told; 5] = [
-        (
-            Act::Open,
-            0,
-            [1, 0, 0, 0, 0, 2, 1],
-            [1, 0, 1, 0, 0, 0, 0, 0],
-        ),
-        (data_block(0, TO_MINUS_1), 0, [1, 0, 0, 1, 0, 1, 0], NOTHING),
-        (Act::Ended, 0, [1, 0, 0, 1, 0, 0, 0], NOTHING),
-        (submit(SUBMIT_1), 0, [1, 0, 1, 1, 0, 0, 0], NOTHING),
-        (
-            Act::Open,
-            0,
-            [1, 0, 1, 1, 0, 3, 1],
-            [2, 0, 1, 0, 0, 0, 0, 0],
-        ),
+        done(Act::Open, [1, 0, 0, 0, 0, 2, 1], sends(1, 0, 1)),
+        done(data_block(0, TO_MINUS_1), [1, 0, 0, 1, 0, 1, 0], NOTHING),
+        done(Act::Ended, [1, 0, 0, 1, 0, 0, 0], NOTHING),
+        done(submit(SUBMIT_1), [1, 0, 1, 1, 0, 0, 0], NOTHING),
+        done(Act::Open, [1, 0, 1, 1, 0, 3, 1], sends(2, 0, 1)),
     ];
     let goes_on = ([1, 0, 1, 1, 0, 4, 1], [3, 1, 1, 0, 0, 0, 0, 0]);
     let learnt = ([1, 1, 1, 1, 0, 1, 0], [0, 0, 0, 1, 1, 0, 0, 0]);
-    let frozen = ([1, 0, 1, 1, 1, 0, 0], [0, 0, 0, 3, 0, 0, 0, 0]);
+    let frozen = ([1, 0, 1, 1, 1, 0, 0], happens(3, 0));
     let zero = b"MSH|||||||||A\rMSA|AA|0||0\r";
     let missing = b"MSH|||||||||A\rMSA|AA|0\r";
     let error = b"MSH|||||||||A\rMSA|AE|0||1\r";
@@ -468,7 +417,7 @@ fn answers_to_0(compare: &mut Compare) -> Outcome {
     ];
     for (answer, (state, report)) in cases {
         let mut steps = begin.to_vec();
-        steps.push((data_block(0, answer), 0, state, report));
+        steps.push(done(data_block(0, answer), state, report));
         sender_steps(compare, "an answer to 0", 1, &steps)?;
     }
     Ok(())
@@ -477,8 +426,8 @@ fn answers_to_0(compare: &mut Compare) -> Outcome {
 /// Waiting on 5: "A late AR for 4 says 5", and the answers that look like a delivery and are none.
 fn late_answers(compare: &mut Compare) -> Outcome {
     let waiting = [5, 4, 5, 1, 0, 4, 1];
-    let dropped = (waiting, [0, 0, 1, 4, 0, 0, 0, 0]);
-    let frozen = ([5, 4, 5, 1, 1, 0, 0], [0, 0, 0, 3, 0, 0, 0, 0]);
+    let dropped = (waiting, happens(4, 1));
+    let frozen = ([5, 4, 5, 1, 1, 0, 0], happens(3, 0));
     let moved = |code: u64| ([5, 5, 5, 1, 0, 1, 0], [0, 0, 0, 1, 5, code, 0, 0]);
     let cases: [(&[u8], After); 17] = [
         (b"MSA|AR|4||5\r", dropped),
@@ -502,20 +451,10 @@ fn late_answers(compare: &mut Compare) -> Outcome {
     for (segment, (state, report)) in cases {
         let answer = [b"MSH|||||||||A\r", segment].concat();
         let steps: &[Told] = &[
-            (submit(REQUEST_5), 0, [5, 4, 5, 0, 0, 0, 0], NOTHING),
-            (
-                Act::Open,
-                0,
-                [5, 4, 5, 0, 0, 2, 1],
-                [1, 0, 1, 0, 0, 0, 0, 0],
-            ),
-            (
-                data_block(3, TO_MINUS_1),
-                0,
-                waiting,
-                [3, 5, 1, 0, 0, 0, 0, 0],
-            ),
-            (data_block(3, &answer), 0, state, report),
+            done(submit(REQUEST_5), [5, 4, 5, 0, 0, 0, 0], NOTHING),
+            done(Act::Open, [5, 4, 5, 0, 0, 2, 1], sends(1, 0, 1)),
+            done(reads(TO_MINUS_1), waiting, sends(3, 5, 1)),
+            done(reads(&answer), state, report),
         ];
         sender_steps(compare, &segment.escape_ascii().to_string(), 5, steps)?;
     }
@@ -529,24 +468,29 @@ fn refused_submits(compare: &mut Compare) -> Outcome {
     let long_and_forbidden = [b"\x01", &long[1..]].concat();
     let forbidden = [SUBMIT_2, b"\x7F\x00"].concat();
     let offset = SUBMIT_2.len() as u64;
-    let waits = |more: u64| [0, 0, 1, 0, 0, 0, 0, more];
+    let forbidden_at = |offset: u64| [0, 0, 1, 0, 0, 0, 0, offset];
     let state = [1, 0, 0, 0, 0, 2, 1];
     let steps: &[Told] = &[
-        (Act::Open, 0, state, [1, 0, 1, 0, 0, 0, 0, 0]),
-        (submit(&long), 4, state, waits(0)),
-        (submit(&long_and_forbidden), 4, state, waits(0)),
-        (submit(&forbidden), 3, state, waits(offset)),
-        (submit(b"\x1C"), 3, state, waits(0)),
-        (submit(b"MSH|||||||||1|||1\r\x0B"), 3, state, waits(18)),
-        (submit(b"MSH|||||||||2|||1"), 9, state, waits(0)),
-        (submit(b"MSH||||||||||||1\r"), 9, state, waits(0)),
-        (submit(b""), 9, state, waits(0)),
-        (submit(b"MSH|||||||||01|||1\r"), 10, state, waits(0)),
-        (submit(b"MSH|||||||||1|||2\r"), 10, state, waits(0)),
-        (submit(b"MSH|||||||||1\r"), 10, state, waits(0)),
-        (submit(b"MSH|||||||||-1|||-1\r"), 10, state, waits(0)),
-        (submit(b"MSH|||||||||0|||0\r"), 10, state, waits(0)),
-        (submit(&fits), 0, [1, 0, 1, 0, 0, 2, 1], waits(0)),
+        done(Act::Open, state, sends(1, 0, 1)),
+        refused(4, submit(&long), state, waits(1)),
+        refused(4, submit(&long_and_forbidden), state, waits(1)),
+        refused(3, submit(&forbidden), state, forbidden_at(offset)),
+        refused(3, submit(b"\x1C"), state, forbidden_at(0)),
+        refused(
+            3,
+            submit(b"MSH|||||||||1|||1\r\x0B"),
+            state,
+            forbidden_at(18),
+        ),
+        refused(9, submit(b"MSH|||||||||2|||1"), state, waits(1)),
+        refused(9, submit(b"MSH||||||||||||1\r"), state, waits(1)),
+        refused(9, submit(b""), state, waits(1)),
+        refused(10, submit(b"MSH|||||||||01|||1\r"), state, waits(1)),
+        refused(10, submit(b"MSH|||||||||1|||2\r"), state, waits(1)),
+        refused(10, submit(b"MSH|||||||||1\r"), state, waits(1)),
+        refused(10, submit(b"MSH|||||||||-1|||-1\r"), state, waits(1)),
+        refused(10, submit(b"MSH|||||||||0|||0\r"), state, waits(1)),
+        done(submit(&fits), [1, 0, 1, 0, 0, 2, 1], waits(1)),
     ];
     same("bytes of the longest message", &[fits.len()], &[128])?;
     sender_steps(compare, "refused submits", 1, steps)
@@ -554,11 +498,18 @@ fn refused_submits(compare: &mut Compare) -> Outcome {
 
 /// The cases of document 01 and dialogues.
 pub fn sender_by_hand(compare: &mut Compare) -> Outcome {
-    cases(compare)?;
+    p11(compare)?;
+    second_first(compare)?;
+    largest_number(compare)?;
     dialogue(compare)?;
     answers_to_0(compare)?;
     late_answers(compare)?;
     refused_submits(compare)?;
+    refused_firsts(compare)
+}
+
+/// 1 and 2 of a fresh sender, in this order.
+fn refused_firsts(compare: &mut Compare) -> Outcome {
     for (first, words, expected) in [
         (0, 7, 1),
         (LAST + 1, 7, 1),

@@ -11,6 +11,7 @@ use crate::make_ends::{self, Plan};
 use host::ends_ffi::{self, raw};
 use host::message_model::{Memory, LARGEST_SENT, MINUS_ONE};
 use host::model::Settings;
+use host::prng::Random;
 use host::receiver_model::{self, Incoming, Received, RECEIVED_WORDS};
 use host::sender_model::{self, Act, Acted, Sender, ACT_WORDS, SENDER_WORDS};
 use std::ptr::{dangling_mut, null_mut};
@@ -175,9 +176,19 @@ fn guarded_act(
     Ok(())
 }
 
-fn guarded_receive(compare: &mut Compare, guarded: &mut GuardPages, at_end: bool) -> Outcome {
-    compare.acts += 1;
-    let random = &mut compare.random;
+/// A receiver's act near what a state expects: its settings and state, the block, the buffer's length
+/// and where the reply starts in it.
+struct Receiving {
+    settings: Settings,
+    expected: u64,
+    number: u64,
+    block_type: u64,
+    message: Vec<u8>,
+    length: usize,
+    start: usize,
+}
+
+fn any_receiving(random: &mut Random) -> Receiving {
     let settings = if random.one_in(3) {
         Settings::minimal(128)
     } else {
@@ -189,85 +200,113 @@ fn guarded_receive(compare: &mut Compare, guarded: &mut GuardPages, at_end: bool
     if random.one_in(3) {
         message.truncate(random.below(message.len() + 1));
     }
-    let data = guarded.data.bytes(message.len(), at_end);
-    data.copy_from_slice(&message);
-    let state = guarded.state.words(1, at_end);
-    state[0] = expected;
-    let report = guarded.report.words(RECEIVED_WORDS, at_end);
-    report.fill(77);
     let start = random.below(5);
     let less = usize::from(random.one_in(10));
-    let length = start + 128 + settings.overhead() - less;
-    let buffer = guarded.buffer.bytes(length, at_end);
-    buffer.fill(0xEE);
-    let block = Incoming {
+    Receiving {
+        settings,
+        expected,
         number: random.pick(&[0, 0, 0, 0, 3, 6]),
         block_type: random.pick(&[68, 68, 68, 78]),
-        data,
-    };
-    let found = ends_ffi::receive(&settings, 2, state, &block, buffer, start, report);
-    let memory = Memory {
-        buffer_length: length,
+        message,
+        length: start + 128 + settings.overhead() - less,
         start,
-        report_words: RECEIVED_WORDS,
-    };
-    let mut bytes = vec![0xEE; length];
-    let (number, then, told) =
-        match receiver_model::receive(&settings, 2, &[expected], &block, &memory) {
-            Received::Refused(number) => (number, expected, [77; RECEIVED_WORDS]),
-            Received::Taken(then, told, reply) => {
-                bytes[start..][..reply.len()].copy_from_slice(&reply);
-                (0, then, told)
-            }
+    }
+}
+
+impl Receiving {
+    fn block<'a>(&self, data: &'a [u8]) -> Incoming<'a> {
+        Incoming {
+            number: self.number,
+            block_type: self.block_type,
+            data,
+        }
+    }
+
+    /// The number, the state then, the report and the buffer, which held 77 and EE before.
+    fn model(&self) -> (u64, u64, [u64; RECEIVED_WORDS], Vec<u8>) {
+        let memory = Memory {
+            buffer_length: self.length,
+            start: self.start,
+            report_words: RECEIVED_WORDS,
         };
+        let mut bytes = vec![0xEE; self.length];
+        let (state, block) = ([self.expected], self.block(&self.message));
+        match receiver_model::receive(&self.settings, 2, &state, &block, &memory) {
+            Received::Refused(number) => (number, self.expected, [77; RECEIVED_WORDS], bytes),
+            Received::Taken(then, told, reply) => {
+                bytes[self.start..][..reply.len()].copy_from_slice(&reply);
+                (0, then, told, bytes)
+            }
+        }
+    }
+}
+
+fn guarded_receive(compare: &mut Compare, guarded: &mut GuardPages, at_end: bool) -> Outcome {
+    compare.acts += 1;
+    let act = any_receiving(&mut compare.random);
+    let data = copied(&act.message, &mut guarded.data, at_end);
+    let state = guarded.state.words(1, at_end);
+    state[0] = act.expected;
+    let report = guarded.report.words(RECEIVED_WORDS, at_end);
+    report.fill(77);
+    let buffer = guarded.buffer.bytes(act.length, at_end);
+    buffer.fill(0xEE);
+    let (settings, block) = (act.settings, act.block(data));
+    let found = ends_ffi::receive(&settings, 2, state, &block, buffer, act.start, report);
+    let (number, then, told, bytes) = act.model();
     same("number", &[found], &[number])
         .and_then(|()| same("state", state, &[then]))
         .and_then(|()| same("report", report, &told))
         .and_then(|()| same("buffer", buffer, &bytes))
         .map_err(|why| {
             let settings = library::settings_text(&settings);
-            let text = library::text(&message);
+            let text = library::text(&act.message);
+            let expected = act.expected;
             format!("receive, {settings}, state {expected}: {why}; data {text}")
         })
 }
 
 fn guarded_control(compare: &mut Compare, guarded: &mut GuardPages, at_end: bool) -> Outcome {
     compare.acts += 1;
-    let settings = compare
-        .random
-        .pick(&[Settings::minimal(128), Settings::hybrid(0x0B, 0x1C, 128)]);
-    let number = compare.random.pick(&[0, MINUS_ONE]);
-    let message_type = guarded.data.bytes(3, at_end);
-    message_type.copy_from_slice(b"ORU");
-    let start = compare.random.below(5);
-    let length = start + compare.random.pick(&[33, 34, 35, 36, 45, 46, 47, 48]);
+    let random = &mut compare.random;
+    let settings = random.pick(&[Settings::minimal(128), Settings::hybrid(0x0B, 0x1C, 128)]);
+    let number = random.pick(&[0, MINUS_ONE]);
+    let start = random.below(5);
+    let length = start + random.pick(&[33, 34, 35, 36, 45, 46, 47, 48]);
+    let message_type = copied(b"ORU", &mut guarded.data, at_end);
     let buffer = guarded.buffer.bytes(length, at_end);
     buffer.fill(0xEE);
     let report = guarded.report.words(2, at_end);
     report.fill(77);
     let found = ends_ffi::control_block(&settings, message_type, number, buffer, start, report);
+    let (expected, told, bytes) = control_model(&settings, number, length, start);
+    same("number", &[found], &[expected])
+        .and_then(|()| same("report", report, &told))
+        .and_then(|()| same("buffer", buffer, &bytes))
+        .map_err(|why| {
+            let settings = library::settings_text(&settings);
+            format!("control block, {settings}: {why}")
+        })
+}
+
+/// The number, the report and the buffer, which held 77 and EE before.
+fn control_model(
+    settings: &Settings,
+    number: u64,
+    length: usize,
+    start: usize,
+) -> (u64, [u64; 2], Vec<u8>) {
     let memory = Memory {
         buffer_length: length,
         start,
         report_words: 2,
     };
     let mut bytes = vec![0xEE; length];
-    let mut told = [77; 2];
-    let expected = match sender_model::control_block(&settings, b"ORU", number, &memory) {
+    match sender_model::control_block(settings, b"ORU", number, &memory) {
         Ok(block) => {
             bytes[start..][..block.len()].copy_from_slice(&block);
-            told = [block.len() as u64, 0];
-            0
+            (0, [block.len() as u64, 0], bytes)
         }
-        Err(number) => number,
-    };
-    same("number", &[found], &[expected])
-        .and_then(|()| same("report", report, &told))
-        .and_then(|()| same("buffer", buffer, &bytes))
-        .map_err(|why| {
-            format!(
-                "control block, {}: {why}",
-                library::settings_text(&settings)
-            )
-        })
+        Err(number) => (number, [77; 2], bytes),
+    }
 }

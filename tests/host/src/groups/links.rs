@@ -90,7 +90,7 @@ pub fn links(compare: &mut Compare) -> Outcome {
         ("damaged blocks", happened.damaged),
         ("crashes", happened.crashes),
         ("circuits", happened.circuits),
-        ("circuits given up", happened.gave_up),
+        ("circuits abandoned", happened.abandoned),
         ("resends", happened.resends),
         ("refused blocks", happened.refused),
         ("transactions with unknown verdict", happened.delivered[0]),

@@ -114,6 +114,10 @@ pub const ALL: &[(&str, Group)] = &[
     ("corrupt_words", sender_words::corrupt_words),
     ("small_words", sender_words::small_words),
     ("random_words", sender_words::random_words),
+    (
+        "delivered_before_resynchronizing",
+        sender_words::delivered_before_resynchronizing,
+    ),
     ("sender_refusals", sender_words::sender_refusals),
     ("control_blocks", sender_words::control_blocks),
     ("links", links::links),

@@ -384,8 +384,6 @@ pub fn receiver_refusals(compare: &mut Compare) -> Outcome {
         Settings::minimal(0),
         Settings::minimal(u64::MAX),
     ];
-    let mut data = make_ends::request(&mut compare.random, b"5", Some(b"5"));
-    data.truncate(100);
     for settings in all_settings {
         let good = Settings {
             limit: 128,
@@ -395,20 +393,30 @@ pub fn receiver_refusals(compare: &mut Compare) -> Outcome {
         receiver.settings = settings;
         receiver.state.resize(2, 9);
         for state in [0, LARGEST_EXPECTED, LARGEST_EXPECTED + 1, u64::MAX] {
-            for application in [0, 1, 2, 3, 257, u64::MAX] {
-                for number in [0, 1, 2, 3, 8, 9, 11, 256, u64::MAX] {
-                    receiver.state[0] = state;
-                    let call = ReceiveCall {
-                        block: Incoming {
-                            number,
-                            block_type: DATA,
-                            data: &data,
-                        },
-                        ..whole_call_of(&good, application)
-                    };
-                    short_memory(compare, &mut receiver, &call)?;
-                }
-            }
+            receiver.state[0] = state;
+            wrong_numbers(compare, &mut receiver, &good)?;
+        }
+    }
+    Ok(())
+}
+
+/// Every application's verdict by every number of a block, right and wrong ones, in this state.
+fn wrong_numbers(compare: &mut Compare, receiver: &mut Receiver, good: &Settings) -> Outcome {
+    let mut data = make_ends::request(&mut compare.random, b"5", Some(b"5"));
+    data.truncate(100);
+    let state = receiver.state[0];
+    for application in [0, 1, 2, 3, 257, u64::MAX] {
+        for number in [0, 1, 2, 3, 8, 9, 11, 256, u64::MAX] {
+            receiver.state[0] = state;
+            let call = ReceiveCall {
+                block: Incoming {
+                    number,
+                    block_type: DATA,
+                    data: &data,
+                },
+                ..whole_call_of(good, application)
+            };
+            short_memory(compare, receiver, &call)?;
         }
     }
     Ok(())
@@ -430,49 +438,30 @@ fn whole_call_of(settings: &Settings, application: u64) -> ReceiveCall<'static> 
     }
 }
 
-/// The call as it is, and with each memory too short.
+/// The call as it is, and with each memory too short: words of the state, words of the report, the
+/// buffer's length and the start.
 fn short_memory(compare: &mut Compare, receiver: &mut Receiver, call: &ReceiveCall) -> Outcome {
+    let (length, start) = (call.buffer_length, call.start);
     let state = receiver.state[0];
-    let calls = [
-        *call,
-        ReceiveCall {
-            state_words: 0,
-            ..*call
-        },
-        ReceiveCall {
-            report_words: 2,
-            ..*call
-        },
-        ReceiveCall {
-            report_words: 0,
-            ..*call
-        },
-        ReceiveCall {
-            buffer_length: call.buffer_length - 1,
-            ..*call
-        },
-        ReceiveCall {
-            start: call.start + 1,
-            ..*call
-        },
-        ReceiveCall {
-            start: usize::MAX,
-            ..*call
-        },
-        ReceiveCall {
-            buffer_length: 0,
-            start: 0,
-            ..*call
-        },
-        ReceiveCall {
-            state_words: 0,
-            report_words: 0,
-            buffer_length: 0,
-            ..*call
-        },
-    ];
-    for call in calls {
+    for (state_words, report_words, buffer_length, start) in [
+        (1, 3, length, start),
+        (0, 3, length, start),
+        (1, 2, length, start),
+        (1, 0, length, start),
+        (1, 3, length - 1, start),
+        (1, 3, length, start + 1),
+        (1, 3, length, usize::MAX),
+        (1, 3, 0, 0),
+        (0, 0, 0, start),
+    ] {
         receiver.state[0] = state;
+        let call = ReceiveCall {
+            state_words,
+            report_words,
+            buffer_length,
+            start,
+            ..*call
+        };
         compare.receive(receiver, &call)?;
     }
     Ok(())

@@ -3,10 +3,13 @@
 
 use crate::compare::{Compare, Outcome, RESENDS};
 use crate::compare_ends::SenderAnswer;
+use crate::guarded::same;
 use crate::make_ends::{self, Plan};
 use host::ends_ffi::names::{
-    ACT_CODE, ACT_EVENT, ACT_SEND, ACT_SENDS, EVENT_DELIVERED, EVENT_DROPPED, EVENT_FROZE,
-    EVENT_GAVE_UP, SENDER_DELIVERED, SENDER_LAST, SENDER_SENDS, SENDER_WAITING,
+    ACT_CODE, ACT_EVENT, ACT_SEND, ACT_SENDS, EVENT_ABANDONED, EVENT_DELIVERED, EVENT_DROPPED,
+    EVENT_FROZE, SENDER_DELIVERED, SENDER_LAST, SENDER_RESYNCHRONIZED, SENDER_SENDS,
+    SENDER_WAITING, SEND_NOTHING, SEND_QUERY, SEND_RESYNCHRONIZE, SEND_TRANSACTION, WAITING_CLOSED,
+    WAITING_QUERY, WAITING_RESYNCHRONIZE, WAITING_TRANSACTION,
 };
 use host::message_model::LARGEST_SENT;
 use host::prng::Random;
@@ -21,7 +24,7 @@ struct Seen {
     done: u64,
     delivered: u64,
     unknown: u64,
-    gave_up: u64,
+    abandoned: u64,
     froze: u64,
     dropped: u64,
     resynchronized: u64,
@@ -56,12 +59,12 @@ pub(super) fn plan(random: &mut Random) -> Plan {
     }
 }
 
-/// The message that waits, as in a report: 1 for -1, 2 for 0, 3 and the number for a transaction.
+/// The message that waits, as a report names it, with the number of a transaction.
 fn waiting(state: &[u64]) -> Option<[u64; 2]> {
     match state[SENDER_WAITING] {
-        2 => Some([1, 0]),
-        3 => Some([2, 0]),
-        4 => Some([3, state[SENDER_DELIVERED] + 1]),
+        WAITING_RESYNCHRONIZE => Some([SEND_RESYNCHRONIZE, 0]),
+        WAITING_QUERY => Some([SEND_QUERY, 0]),
+        WAITING_TRANSACTION => Some([SEND_TRANSACTION, state[SENDER_DELIVERED] + 1]),
         _ => None,
     }
 }
@@ -96,11 +99,11 @@ impl History {
         if answer.number == 0 && matches!(act, Act::Open) {
             self.sent.clear();
         }
-        if report[ACT_SEND] != 0 {
+        if report[ACT_SEND] != SEND_NOTHING {
             self.sent.push([report[0], report[1]]);
         }
-        let gave_up = report[ACT_EVENT] == EVENT_GAVE_UP;
-        let counted = waiting(&self.state).or(if gave_up { before } else { None });
+        let abandoned = report[ACT_EVENT] == EVENT_ABANDONED;
+        let counted = waiting(&self.state).or(if abandoned { before } else { None });
         let sends = self.sent.iter().filter(|&&sent| Some(sent) == counted);
         if sends.count() as u64 != report[ACT_SENDS] {
             let (state, sent) = (&self.state, &self.sent);
@@ -115,7 +118,7 @@ impl History {
     /// Loses what is not persisted.
     pub(super) fn crash(&mut self) {
         self.state[..PERSISTED_WORDS].copy_from_slice(&self.persisted);
-        self.state[SENDER_WAITING] = 0;
+        self.state[SENDER_WAITING] = WAITING_CLOSED;
         self.state[SENDER_SENDS] = 0;
         self.sent.clear();
     }
@@ -141,7 +144,7 @@ impl Seen {
                 self.delivered += 1;
                 self.unknown += u64::from(answer.report[ACT_CODE] == 0);
             }
-            EVENT_GAVE_UP => self.gave_up += 1,
+            EVENT_ABANDONED => self.abandoned += 1,
             EVENT_FROZE => self.froze += 1,
             EVENT_DROPPED => self.dropped += 1,
             _ => {}
@@ -154,7 +157,7 @@ impl Seen {
             ("done", self.done),
             ("delivered", self.delivered),
             ("delivered with unknown verdict", self.unknown),
-            ("given up", self.gave_up),
+            ("abandoned", self.abandoned),
             ("frozen", self.froze),
             ("dropped", self.dropped),
             ("resynchronized", self.resynchronized),
@@ -250,20 +253,28 @@ pub fn sender_progress(compare: &mut Compare) -> Outcome {
     seen.enough(50)
 }
 
+/// Words without a circuit whose last number is one of the largest; before the resynchronizing
+/// exchange nothing is delivered.
+fn near_largest(random: &mut Random) -> Vec<u64> {
+    let last = LARGEST_SENT - random.below(20) as u64;
+    let delivered = last - random.below(4) as u64;
+    if random.one_in(3) {
+        let first = delivered.min(LARGEST_SENT - 1) + 1;
+        return vec![first, first - 1, last.max(first - 1), 0, 0, 0, 0];
+    }
+    let first = random.pick(&[1, 17, delivered, delivered + 1]);
+    vec![first.min(LARGEST_SENT), delivered, last, 1, 0, 0, 0]
+}
+
 /// Histories whose last numbers are the largest ones: from a first number near them, or from words
 /// that many acts have led there. Most of them come to where none is left.
 pub fn sender_largest_numbers(compare: &mut Compare) -> Outcome {
     let mut seen = Seen::default();
     for _ in 0..2_500 {
         let random = &mut compare.random;
-        let last = LARGEST_SENT - random.below(20) as u64;
-        let delivered = last - random.below(4) as u64;
-        let first = random.pick(&[1, 17, delivered, delivered + 1]);
-        let resynchronized = random.pick(&[0, 1, 1]);
+        let words = near_largest(random);
         let acts = random.between(20, 120);
         let one_wild_in = random.pick(&[2, 4, 12]);
-        let first = first.min(LARGEST_SENT);
-        let words = vec![first, delivered, last, resynchronized, 0, 0, 0];
         let history = History::from_words(words);
         go_on(compare, &mut seen, history, acts, one_wild_in)?;
     }
@@ -287,46 +298,52 @@ pub fn sender_sends(compare: &mut Compare) -> Outcome {
 }
 
 fn ends_after(compare: &mut Compare, resends: u64, message: u64, way: usize) -> Outcome {
-    let first = first_number(&mut compare.random);
-    let mut history = History::new(compare, first)?;
-    history.state[3] = u64::from(message > 0);
-    history.state[SENDER_LAST] += u64::from(message == 2);
-    let opened = history.act(compare, &Act::Open)?;
-    if message == 2 {
-        let expected = first.to_string().into_bytes();
-        let data = make_ends::answer(&mut compare.random, b"0", b"AA", b"0", Some(&expected));
-        history.act(compare, &make_ends::data_block(resends, &data))?;
-    }
+    let mut history = waits_on(compare, resends, message)?;
     for sends in 1..=resends + 1 {
-        if history.state[SENDER_WAITING] != 2 + message || history.state[SENDER_SENDS] != sends {
-            let (state, report) = (&history.state, opened.report);
-            return Err(format!("send {sends}: state {state:?}, opened {report:?}"));
-        }
+        let state = &history.state;
+        let found = [state[SENDER_WAITING], state[SENDER_SENDS]];
+        same("waiting and sends", &found, &[2 + message, sends])?;
         let number = compare.random.between(3, 8) as u64;
-        let act = match way {
-            0 => Act::Timer { resends },
-            1 => make_ends::nak_block(resends, b"X"),
-            2 => make_ends::refused_block(resends, number),
-            3 => make_ends::data_block(resends, b""),
-            _ if sends % 2 == 0 => Act::Timer { resends },
-            _ => make_ends::data_block(resends, b"MSH|"),
-        };
-        let answer = history.act(compare, &act)?;
+        let answer = history.act(compare, &due(resends, way, sends, number))?;
         let expected = if sends <= resends {
             [sends + 1, 0, 2 + message]
         } else {
-            [sends, EVENT_GAVE_UP, 0]
+            [sends, EVENT_ABANDONED, 0]
         };
         let found = [
             answer.report[ACT_SENDS],
             answer.report[ACT_EVENT],
             history.state[SENDER_WAITING],
         ];
-        if found != expected {
-            return Err(format!(
-                "r={resends}, act {sends}: sends, event, waiting {found:?}, expected {expected:?}"
-            ));
-        }
+        same("sends, event and waiting", &found, &expected)
+            .map_err(|why| format!("r={resends}, act {sends}: {why}"))?;
     }
     Ok(())
+}
+
+/// A sender that has sent a message once: 0 for -1, 1 for 0, 2 for a transaction.
+fn waits_on(compare: &mut Compare, resends: u64, message: u64) -> Result<History, String> {
+    let first = first_number(&mut compare.random);
+    let mut history = History::new(compare, first)?;
+    history.state[SENDER_RESYNCHRONIZED] = u64::from(message > 0);
+    history.state[SENDER_LAST] += u64::from(message == 2);
+    history.act(compare, &Act::Open)?;
+    if message == 2 {
+        let expected = first.to_string().into_bytes();
+        let data = make_ends::answer(&mut compare.random, b"0", b"AA", b"0", Some(&expected));
+        history.act(compare, &make_ends::data_block(resends, &data))?;
+    }
+    Ok(history)
+}
+
+/// An act by which a resend is due, in one of five ways.
+fn due(resends: u64, way: usize, sends: u64, number: u64) -> Act<'static> {
+    match way {
+        0 => Act::Timer { resends },
+        1 => make_ends::nak_block(resends, b"X"),
+        2 => make_ends::refused_block(resends, number),
+        3 => make_ends::data_block(resends, b""),
+        _ if sends % 2 == 0 => Act::Timer { resends },
+        _ => make_ends::data_block(resends, b"MSH|"),
+    }
 }

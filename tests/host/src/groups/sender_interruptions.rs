@@ -2,6 +2,7 @@
 //! history; acts go on from there, and each is compared with the model in everything.
 
 use super::sender::{first_number, plan, History};
+use super::sender_words::delivered_too_early;
 use crate::compare::{Compare, Outcome};
 use crate::guarded::same;
 use crate::make_ends::Plan;
@@ -113,14 +114,15 @@ pub fn crash_at_any_time(compare: &mut Compare) -> Outcome {
     })
 }
 
-/// Words that may well be another state: other numbers in order, another count of sends, or another
-/// thing that waits.
+/// Words that may well be another state: other numbers in order, resynchronized or not, another count
+/// of sends, or another thing that waits.
 fn shift(random: &mut Random, state: &mut [u64]) {
-    match random.below(5) {
+    match random.below(6) {
         0 => state[SENDER_FIRST] = 1,
         1 => state[SENDER_DELIVERED] = state[SENDER_DELIVERED].saturating_sub(1),
         2 => state[SENDER_LAST] = state[SENDER_LAST].wrapping_add(1 + random.below(3) as u64),
         3 => state[SENDER_SENDS] = random.between(1, 100) as u64,
+        4 => state[SENDER_RESYNCHRONIZED] ^= 1,
         _ => {
             state[SENDER_WAITING] = random.below(5) as u64;
             state[SENDER_SENDS] = u64::from(state[SENDER_WAITING] > 1);
@@ -149,11 +151,13 @@ fn corrupt(random: &mut Random, state: &mut [u64]) {
     }
 }
 
-/// What the corrupt histories came to: acts on words that are no state, acts that were done after a
-/// corruption, and words corrupted into another state.
+/// What the corrupt histories came to: acts on words that are no state, and of them those that have
+/// something delivered before resynchronizing; acts that were done after a corruption, and words
+/// corrupted into another state.
 #[derive(Default)]
 struct Seen {
     no_state: u64,
+    too_early: u64,
     done: u64,
     other_state: u64,
 }
@@ -161,16 +165,17 @@ struct Seen {
 /// Histories in which words are corrupted at any time; acts go on from whatever they hold then.
 pub fn corrupt_histories(compare: &mut Compare) -> Outcome {
     let mut seen = Seen::default();
-    for _ in 0..2_500 {
+    for _ in 0..3_500 {
         corrupt_history(compare, &mut seen)?;
     }
     let counts = [
-        ("acts on words that are no state", seen.no_state),
-        ("acts done after a corruption", seen.done),
-        ("words corrupted into a state", seen.other_state),
+        ("acts on words that are no state", seen.no_state, 5_000),
+        ("delivered before resynchronizing", seen.too_early, 400),
+        ("acts done after a corruption", seen.done, 5_000),
+        ("words corrupted into a state", seen.other_state, 5_000),
     ];
-    for (what, count) in counts {
-        if count < 5_000 {
+    for (what, count, least) in counts {
+        if count < least {
             return Err(format!("{what}: only {count}"));
         }
     }
@@ -196,6 +201,8 @@ fn corrupt_history(compare: &mut Compare, seen: &mut Seen) -> Outcome {
         let sender = sender.ok_or_else(|| format!("{last_good:?} is no state"))?;
         seen.other_state += u64::from(now.is_some() && sender.encode() != last_good);
         seen.no_state += u64::from(now.is_none());
+        let words = state.first_chunk::<SENDER_WORDS>();
+        seen.too_early += u64::from(words.is_some_and(delivered_too_early));
         let planned = plan.any(&mut compare.random, &sender, 3);
         let before = state.clone();
         let answer = compare.sender_act(&planned.act(), &mut state)?;

@@ -2,9 +2,7 @@
 use borrow.Author.Needs.{needs}
 use Rattle.sender.proofs.answers.go_on.Statement.{statement}
 use Rattle.sender.proofs.answers.go_on.Tie as tie
-use mathlib.Core.Path.{sym, ap, _∙_}
-use native.Mathlib.Omega.{arith}
-use borrow.Author.Tests.{not-true, not-false, lt-ltb, le-ltb, eq-eqb, ne-eqb}
+use mathlib.Core.Path.{_∙_}
 
 next-waiting-requires : tie.Need-next-waiting-requires
 next-waiting-requires c κs = search needs

@@ -1,10 +1,6 @@
 -- `sender::answers::next_waiting` meets its contract.
 use Rattle.sender.proofs.answers.next_waiting.Statement.{statement}
 use Rattle.sender.proofs.answers.next_waiting.Tie as tie
-use mathlib.Core.Path.{sym, ap, _∙_}
-use native.Mathlib.Omega.{arith}
-use borrow.Author.Tests.{not-true, not-false, lt-ltb, le-ltb, eq-eqb, ne-eqb}
-use borrow.Author.Needs.{needs}
 use Rattle.sender.proofs.Laws.{next-sending, next-idle}
 
 returns : tie.Need-returns

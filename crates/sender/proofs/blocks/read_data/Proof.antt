@@ -2,10 +2,9 @@
 use borrow.Author.Needs.{needs}
 use Rattle.sender.proofs.blocks.read_data.Statement.{statement}
 use Rattle.sender.proofs.blocks.read_data.Tie as tie
-use mathlib.Core.Path.{refl, sym, ap, _∙_}
-use native.Mathlib.Omega.{arith}
-use borrow.Author.Tests.{not-true, not-false, lt-ltb, le-ltb, eq-eqb, ne-eqb}
-use Rattle.sender.proofs.Laws.{data-as, answered-as, answered-other, answered-same}
+use mathlib.Core.Path.{sym, _∙_}
+use borrow.Author.Tests.{not-true, not-false}
+use Rattle.sender.proofs.Laws.{data-as, answered-as}
 use Rattle.sender.proofs.Laws.{data-dropped, data-heard}
 
 read-acknowledgment-requires : tie.Need-read-acknowledgment-requires

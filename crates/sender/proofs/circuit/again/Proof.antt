@@ -2,9 +2,7 @@
 use borrow.Author.Needs.{needs}
 use Rattle.sender.proofs.circuit.again.Statement.{statement}
 use Rattle.sender.proofs.circuit.again.Tie as tie
-use mathlib.Core.Path.{sym, ap, _∙_}
-use native.Mathlib.Omega.{arith}
-use borrow.Author.Tests.{not-true, not-false, lt-ltb, le-ltb, eq-eqb, ne-eqb}
+use mathlib.Core.Path.{_∙_}
 use Rattle.sender.proofs.Laws.{again-sends, again-none}
 
 add-if1 : tie.Need-add-if1

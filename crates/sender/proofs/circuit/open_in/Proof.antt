@@ -2,9 +2,7 @@
 use borrow.Author.Needs.{needs}
 use Rattle.sender.proofs.circuit.open_in.Statement.{statement}
 use Rattle.sender.proofs.circuit.open_in.Tie as tie
-use mathlib.Core.Path.{sym, ap, _∙_}
-use native.Mathlib.Omega.{arith}
-use borrow.Author.Tests.{not-true, not-false, lt-ltb, le-ltb, eq-eqb, ne-eqb}
+use mathlib.Core.Path.{_∙_}
 use Rattle.sender.specs.Sender.{openIn}
 use Rattle.sender.proofs.Laws.{at, open-frozen, open-thawed}
 

@@ -2,9 +2,8 @@
 use borrow.Author.Needs.{needs}
 use Rattle.sender.proofs.circuit.operator_reset.Statement.{statement}
 use Rattle.sender.proofs.circuit.operator_reset.Tie as tie
-use mathlib.Core.Path.{sym, ap, _∙_}
-use native.Mathlib.Omega.{arith}
-use borrow.Author.Tests.{not-true, not-false, lt-ltb, le-ltb, eq-eqb, ne-eqb}
+use mathlib.Core.Path.{sym, _∙_}
+use borrow.Author.Tests.{not-true, not-false}
 use Rattle.sender.proofs.Laws.{reset-none, reset-thawed, reset-frozen}
 
 is-state-requires : tie.Need-is-state-requires

@@ -2,9 +2,7 @@
 use borrow.Author.Needs.{needs}
 use Rattle.sender.proofs.state.begin.Statement.{statement}
 use Rattle.sender.proofs.state.begin.Tie as tie
-use mathlib.Core.Path.{sym, ap, _∙_}
-use native.Mathlib.Omega.{arith}
-use borrow.Author.Tests.{not-true, not-false, lt-ltb, le-ltb, eq-eqb, ne-eqb}
+use mathlib.Core.Path.{_∙_}
 
 first-sends-requires : tie.Need-first-sends-requires
 first-sends-requires c κs = search needs

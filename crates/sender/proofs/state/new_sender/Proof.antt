@@ -1,10 +1,6 @@
 -- `sender::state::new_sender` meets its contract.
 use Rattle.sender.proofs.state.new_sender.Statement.{statement}
 use Rattle.sender.proofs.state.new_sender.Tie as tie
-use mathlib.Core.Path.{sym, ap, _∙_}
-use native.Mathlib.Omega.{arith}
-use borrow.Author.Tests.{not-true, not-false, lt-ltb, le-ltb, eq-eqb, ne-eqb}
-use borrow.Author.Needs.{needs}
 use Rattle.sender.proofs.Laws.{made-none, made-over, made-fresh}
 
 returns : tie.Need-returns

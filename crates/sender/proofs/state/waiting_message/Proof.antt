@@ -2,9 +2,6 @@
 use borrow.Author.Needs.{needs}
 use Rattle.sender.proofs.state.waiting_message.Statement.{statement}
 use Rattle.sender.proofs.state.waiting_message.Tie as tie
-use mathlib.Core.Path.{sym, ap, _∙_}
-use native.Mathlib.Omega.{arith}
-use borrow.Author.Tests.{not-true, not-false, lt-ltb, le-ltb, eq-eqb, ne-eqb}
 
 enum-told : tie.Need-enum-told
 enum-told c = search needs

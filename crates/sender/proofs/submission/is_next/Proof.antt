@@ -2,7 +2,7 @@
 use borrow.Author.Needs.{needs}
 use Rattle.sender.proofs.submission.is_next.Statement.{statement}
 use Rattle.sender.proofs.submission.is_next.Tie as tie
-use mathlib.Core.Path.{sym, ap, _∙_}
+use mathlib.Core.Path.{_∙_}
 use Rattle.sender.proofs.Laws.{takes-as}
 
 enum-told : tie.Need-enum-told

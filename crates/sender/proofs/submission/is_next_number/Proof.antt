@@ -2,7 +2,6 @@
 use borrow.Author.Needs.{needs}
 use Rattle.sender.proofs.submission.is_next_number.Statement.{statement}
 use Rattle.sender.proofs.submission.is_next_number.Tie as tie
-use mathlib.Core.Path.{sym, ap, _∙_}
 
 enum-told : tie.Need-enum-told
 enum-told c = search needs

@@ -2,9 +2,8 @@
 use borrow.Author.Needs.{needs}
 use Rattle.sender.proofs.submission.submit_header.Statement.{statement}
 use Rattle.sender.proofs.submission.submit_header.Tie as tie
-use mathlib.Core.Path.{refl, sym, ap, _∙_}
-use native.Mathlib.Omega.{arith}
-use borrow.Author.Tests.{not-true, not-false, lt-ltb, le-ltb, eq-eqb, ne-eqb}
+use mathlib.Core.Path.{sym, _∙_}
+use borrow.Author.Tests.{not-true, not-false}
 use Rattle.sender.proofs.Laws.{header-as, header-other, header-next}
 
 read-header-requires : tie.Need-read-header-requires

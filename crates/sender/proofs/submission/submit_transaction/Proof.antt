@@ -2,9 +2,8 @@
 use borrow.Author.Needs.{needs}
 use Rattle.sender.proofs.submission.submit_transaction.Statement.{statement}
 use Rattle.sender.proofs.submission.submit_transaction.Tie as tie
-use mathlib.Core.Path.{refl, sym, ap, _∙_}
-use native.Mathlib.Omega.{arith}
-use borrow.Author.Tests.{not-true, not-false, lt-ltb, le-ltb, eq-eqb, ne-eqb}
+use mathlib.Core.Path.{sym, _∙_}
+use borrow.Author.Tests.{not-true, not-false}
 use Rattle.sender.proofs.Laws.{bounded, submit-low, submit-high, submit-none, submit-frozen, submit-long, submit-byte, submit-header}
 
 refuse-requires : tie.Need-refuse-requires

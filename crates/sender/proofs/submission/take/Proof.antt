@@ -2,9 +2,8 @@
 use borrow.Author.Needs.{needs}
 use Rattle.sender.proofs.submission.take.Statement.{statement}
 use Rattle.sender.proofs.submission.take.Tie as tie
-use mathlib.Core.Path.{refl, sym, ap, _∙_}
+use mathlib.Core.Path.{_∙_}
 use native.Mathlib.Omega.{arith}
-use borrow.Author.Tests.{not-true, not-false, lt-ltb, le-ltb, eq-eqb, ne-eqb}
 use Rattle.sender.specs.Sender.{takenIn}
 use Rattle.sender.proofs.Laws.{at}
 
