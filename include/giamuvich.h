@@ -1,7 +1,7 @@
-/* giamuvich.h: HL7 lower layer blocks, the header fields of their messages, and the two ends of a
- * link with sequence numbers, for a C line driver.
+/* giamuvich.h: HL7 lower layer blocks, the header fields of their messages, the two ends of a link
+ * with sequence numbers, and the X3.28 receiving station, for a C line driver.
  *
- * The parts, each built on those before it:
+ * The parts, each built on those before it but for the last, which stands by itself:
  *   - Blocks. Hybrid blocks (HL7 implementation guide, appendix C.2.2) and minimal blocks (C.4.2)
  *     are read from a line in parts of any length, checked whole, and written.
  *   - Messages. Of the messages in the blocks the header fields are read that sequence numbers need,
@@ -10,6 +10,8 @@
  *     block.
  *   - The sender of sequence numbers. It says what to send now, counts the sends, and says which
  *     transactions are delivered. The messages stay in the host's log.
+ *   - The X3.28 receiving station (appendix C.3.1.5 and C.3.3.2). It says what to reply to each
+ *     block, and appends the blocks' texts to messages.
  *
  * Every function is proved to return the one answer that its definition gives, for every input, and
  * to change no memory but what is said here. Nothing is allocated, nothing is kept between calls, and
@@ -20,7 +22,7 @@
  *   - each pointer has memory of the length that is passed with it (a length of 0 may come with
  *     any pointer, also a null pointer),
  *   - memory that a function may change overlaps nothing else that is passed in the same call,
- *   - for the receiver and the sender, the duties about storing and order in their two sections.
+ *   - for the receiver, the sender and the station, the duties in their sections.
  *
  * Settings are plain numbers and are checked in every call that takes them:
  *   start_block, end_block  the bytes SB and EB of a hybrid link. They differ, each is at most
@@ -38,8 +40,8 @@
  *
  * Refusals come in the order 1, 2, 11, and then those of the block: reading 8, 4, 5, 3, 6, 7;
  * writing 4, 5, 3. Minimal reading has 8, 4, 5, 3 only, and 5 there means only EB without CR. For
- * messages: reading 2, 9; writing 1, 2, 3, 9, 10. A receiver has 1, 2, 11 only, and so has a sender
- * but for gmv_sender_submit: 1, 2, 11, 4, 3, 9, 10.
+ * messages: reading 2, 9; writing 1, 2, 3, 9, 10. A receiver and a station have 1, 2, 11 only, and so
+ * has a sender but for gmv_sender_submit: 1, 2, 11, 4, 3, 9, 10.
  */
 #ifndef GIAMUVICH_H
 #define GIAMUVICH_H
@@ -73,8 +75,9 @@ enum {
                             gmv_sender_submit: not the next sequence number, a control ID that is not
                             this number, or no number is left */
     GMV_STATE = 11       /* a reader's words encode no state, or the stream's offsets are used up; a
-                            receiver's or a sender's words encode no state; a sender's act does not
-                            apply now (no circuit is open, or one is, or frozen, or not frozen) */
+                            receiver's, a sender's or a station's words encode no state; a sender's
+                            act does not apply now (no circuit is open, or one is, or frozen, or not
+                            frozen) */
 };
 
 /* Block types: the byte after SB of a hybrid block. A minimal block counts as a data block. */
@@ -515,6 +518,108 @@ uint64_t gmv_minimal_control_block(uint64_t data_limit,
                                    const uint8_t *type, size_t type_length, uint64_t number,
                                    uint8_t *buffer, size_t buffer_length, size_t start,
                                    uint64_t *report, size_t report_words);
+
+/* ---- The X3.28 receiving station ----
+ *
+ * The station is closed until the driver opens it. Open, it expects a block number, 1 at first and
+ * 0 after 7, and holds the text of the message that is not yet complete.
+ *
+ * The driver's duties besides memory:
+ *   - it frames the units that come from the line, checks each block (TERM, BCC, text length, the
+ *     character that ends it), and reports each unit once, in the order in which they came,
+ *   - it opens the station when it has become slave (the ACK0 of that is its own affair), and may
+ *     open it again at any time,
+ *   - it lends the same message buffer, unaltered, in every call of gmv_station_block,
+ *   - it takes a complete message out of the buffer before it reports the next block. */
+
+/* The words of a station's state. Keep them from call to call; they need not survive a crash. */
+enum {
+    GMV_STATION_OPEN = 0,     /* 0 closed, 1 open; closed, the words below are 0 */
+    GMV_STATION_EXPECTED = 1, /* the expected block number, 0 to 7 */
+    GMV_STATION_HELD = 2,     /* the length of the text held; it stands at the buffer's start */
+    GMV_STATION_WORDS = 3
+};
+
+/* What ends a good block: the ASCII characters. */
+enum { GMV_ETX = 3 /* the message's last block */, GMV_ETB = 23 /* a block before its last */ };
+
+/* What to reply. */
+enum {
+    GMV_REPLY_NONE = 0,
+    GMV_REPLY_ACK = 1, /* ACK with the number GMV_STATION_REPLY_NUMBER */
+    GMV_REPLY_NAK = 2,
+    GMV_REPLY_EOT = 3  /* EOT; the station has closed */
+};
+
+/* The words of a station's report. */
+enum {
+    GMV_STATION_REPLY = 0,          /* GMV_REPLY_.. */
+    GMV_STATION_REPLY_NUMBER = 1,   /* with GMV_REPLY_ACK its number, 0 to 7; else 0 */
+    GMV_STATION_COMPLETE = 2,       /* 1: a message is complete; else 0 */
+    GMV_STATION_MESSAGE_LENGTH = 3, /* a complete message's length; it stands at the buffer's start;
+                                       else 0 */
+    GMV_STATION_REPORT_WORDS = 4
+};
+
+/* The station's acts are the five functions after gmv_station_fresh. Each returns 0 with state and
+ * report written; or, in this order and with nothing changed (nor the report), 1, 2 or 11. Words
+ * from GMV_STATION_WORDS and GMV_STATION_REPORT_WORDS on are not changed.
+ *
+ * 2: state_words below GMV_STATION_WORDS or report_words below GMV_STATION_REPORT_WORDS. The buffer
+ * has no least length.
+ * 11: the words encode no state. They encode one exactly if open is 1, expected is 0 to 7 and, at
+ * gmv_station_block, held is at most buffer_length; or if all three are 0. gmv_station_open takes
+ * any words. That the station is closed is no refusal: it then drops what is reported, replies
+ * nothing and stays closed until it is opened. */
+
+/* A station before its first opening: closed. Returns 0, or 2 (state_words below GMV_STATION_WORDS)
+ * with nothing changed. Words from GMV_STATION_WORDS on are not changed. */
+uint64_t gmv_station_fresh(uint64_t *state, size_t state_words);
+
+/* The driver opens the station, at any time and whatever the words are: block 1 is expected, and no
+ * text is held. No reply. */
+uint64_t gmv_station_open(uint64_t *state, size_t state_words,
+                          uint64_t *report, size_t report_words);
+
+/* A good block was received: its number, the character that ended it and its text. For an open
+ * station, where E is the expected number, by the first line that applies:
+ *     number over 7                    NAK; dropped
+ *     number lower than E              ACK number; dropped as a duplicate, also one ended by ETX
+ *     number higher than E             NAK; dropped
+ *     E, and the text does not fit     EOT; the station closes and forgets the text held
+ *     E, ended by ETB                  ACK E; the text is appended
+ *     E, ended by ETX                  ACK E; the text is appended, and the message is complete
+ * Lower and higher compare plain digits: where 0 is expected, 7 is higher. After a block that was
+ * appended, the next number is expected. A text fits if it and the text held have at most
+ * buffer_length bytes together: one that just fills the buffer fits, and so does an empty one.
+ *
+ * The text goes into the buffer behind the text held before the call, and these text_length bytes
+ * are all that changes of the buffer. A block that is dropped or does not fit changes no byte of
+ * it, and text that is forgotten stays in it as it is. A complete message is the first
+ * report[GMV_STATION_MESSAGE_LENGTH] bytes of the buffer. It stays there until the next block is
+ * appended, which starts a new message at the buffer's start.
+ *
+ * number is any number, as the driver read it. 1: ending is neither GMV_ETX nor GMV_ETB (a block
+ * ended by ENQ is for gmv_station_enquiry, any other for gmv_station_bad). */
+uint64_t gmv_station_block(uint64_t number, uint64_t ending,
+                           const uint8_t *text, size_t text_length,
+                           uint8_t *buffer, size_t buffer_length,
+                           uint64_t *state, size_t state_words,
+                           uint64_t *report, size_t report_words);
+
+/* A bad block was received: one that fails the driver's checks. An open station drops it and
+ * replies NAK; its state stays equal. */
+uint64_t gmv_station_bad(uint64_t *state, size_t state_words,
+                         uint64_t *report, size_t report_words);
+
+/* A block ended by ENQ was received. An open station drops it and replies NAK; its state stays
+ * equal. */
+uint64_t gmv_station_enquiry(uint64_t *state, size_t state_words,
+                             uint64_t *report, size_t report_words);
+
+/* EOT was received: the station closes and forgets the text held. No reply. */
+uint64_t gmv_station_end(uint64_t *state, size_t state_words,
+                         uint64_t *report, size_t report_words);
 
 #ifdef __cplusplus
 }

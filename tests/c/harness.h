@@ -85,6 +85,7 @@ void test_messages(void);
 void test_receiver(void);
 void test_sender(void);
 void test_link(void);
+void test_station(void);
 void test_stack(void);
 
 #endif

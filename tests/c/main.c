@@ -20,6 +20,7 @@ static void run_all(enum memory_kind kind)
     test_receiver();
     test_sender();
     test_link();
+    test_station();
 }
 
 int main(void)

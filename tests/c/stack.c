@@ -171,6 +171,47 @@ static void minimal_control_block(void)
                               report, GMV_REPORT_WORDS);
 }
 
+/* The station; the block's number is block_number. */
+static uint64_t station[GMV_STATION_WORDS], station_before[GMV_STATION_WORDS];
+static uint64_t station_report[GMV_STATION_REPORT_WORDS];
+static size_t text_length;
+
+static void station_fresh(void)
+{
+    gmv_station_fresh(station, GMV_STATION_WORDS);
+}
+
+static void station_open(void)
+{
+    memcpy(station, station_before, sizeof station);
+    gmv_station_open(station, GMV_STATION_WORDS, station_report, GMV_STATION_REPORT_WORDS);
+}
+
+static void station_block(void)
+{
+    memcpy(station, station_before, sizeof station);
+    gmv_station_block(block_number, GMV_ETX, content, text_length, buffer, LIMIT, station,
+                      GMV_STATION_WORDS, station_report, GMV_STATION_REPORT_WORDS);
+}
+
+static void station_bad(void)
+{
+    memcpy(station, station_before, sizeof station);
+    gmv_station_bad(station, GMV_STATION_WORDS, station_report, GMV_STATION_REPORT_WORDS);
+}
+
+static void station_enquiry(void)
+{
+    memcpy(station, station_before, sizeof station);
+    gmv_station_enquiry(station, GMV_STATION_WORDS, station_report, GMV_STATION_REPORT_WORDS);
+}
+
+static void station_end(void)
+{
+    memcpy(station, station_before, sizeof station);
+    gmv_station_end(station, GMV_STATION_WORDS, station_report, GMV_STATION_REPORT_WORDS);
+}
+
 /* The bytes of the stack that were touched while the call ran. */
 static size_t touched_by(void (*call)(void))
 {
@@ -384,12 +425,47 @@ static void good_and_damaged_ends(void)
     ends_do_their_work();
 }
 
+static void station_takes_little_stack(void)
+{
+    takes_little_stack(station_fresh);
+    takes_little_stack(station_open);
+    takes_little_stack(station_block);
+    takes_little_stack(station_bad);
+    takes_little_stack(station_enquiry);
+    takes_little_stack(station_end);
+}
+
+/* Closed, open, full, and words that encode no state; each block lower, expected, higher and over
+ * 7, with a text that fits or does not. */
+static void every_kind_of_station(void)
+{
+    const uint64_t states[][GMV_STATION_WORDS] = {
+        {0, 0, 0}, {1, 1, 0}, {1, 3, 96}, {1, 0, LIMIT}, {1, 3, LIMIT + 1}, {1, 8, 0}, {2, 0, 0}};
+    const size_t lengths[] = {0, LIMIT - 96, LIMIT};
+
+    memset(content, 'A', sizeof content);
+    for (size_t i = 0; i < sizeof states / sizeof states[0]; i++)
+        for (block_number = 0; block_number < 9; block_number++)
+            for (size_t j = 0; j < sizeof lengths / sizeof lengths[0]; j++) {
+                memcpy(station_before, states[i], sizeof station_before);
+                text_length = lengths[j];
+                station_takes_little_stack();
+            }
+    memcpy(station_before, states[2], sizeof station_before);
+    block_number = 3;
+    text_length = LIMIT - 96;
+    station_block();
+    CHECK(station_report[GMV_STATION_COMPLETE] == 1);
+    CHECK(station_report[GMV_STATION_MESSAGE_LENGTH] == LIMIT);
+}
+
 void test_stack(void)
 {
     begin_test("no function takes over 1 KiB of stack");
     good_and_damaged_blocks();
     good_and_damaged_messages();
     good_and_damaged_ends();
+    every_kind_of_station();
 }
 
 #endif

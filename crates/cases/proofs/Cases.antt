@@ -11,13 +11,14 @@ use Rattle.numbers.specs.Numbers.{decimal}
 use Rattle.messages.specs.Messages.{answerMessage, controlMessage}
 use Rattle.receiver.specs.Receiver.{rowOf}
 use Rattle.sender.specs.Sender.{validSender, openOf, timerOf}
+use Rattle.station.specs.Station.{isDuplicate, validStation, blockOf}
 use Rattle.cases.specs.Cases.{Each, none, _and_, cases}
 
 -- "The P cases are proved of the definitions as one list under one claim"
 pub all-cases : Each cases
-unfolding fiveDigits threeDigits countField checksumOf hybridBody hybridBlock same typeMatches headerOk checksumMatches judgeParts dataOf judgeHybrid judge valid contentOf outcome move run wholeOf checkOf decimal answerMessage controlMessage rowOf validSender openOf timerOf
+unfolding fiveDigits threeDigits countField checksumOf hybridBody hybridBlock same typeMatches headerOk checksumMatches judgeParts dataOf judgeHybrid judge valid contentOf outcome move run wholeOf checkOf decimal answerMessage controlMessage rowOf validSender openOf timerOf isDuplicate validStation blockOf
 all-cases =
     refl and refl and refl and refl and refl and refl and refl and refl and refl and refl and
     refl and refl and refl and refl and refl and refl and refl and refl and refl and refl and
     refl and refl and refl and refl and refl and refl and refl and refl and refl and refl and
-    refl and refl and refl and refl and refl and refl and none
+    refl and refl and refl and refl and refl and refl and refl and refl and none

@@ -23,6 +23,10 @@ use Rattle.message_theorems.specs.Examples.{AnswerFor17, ControlFor0, ControlFo
 use Rattle.whole_block.specs.Whole.{checkOf}
 use Rattle.whole_block.specs.declared.Checked.{Checked}
 use Rattle.whole_block.specs.declared.Checked.the-variants.{Judged}
+use Rattle.station.specs.Station.{blockOf, outcome, drops}
+use Rattle.station.specs.declared.Station.the-variants.{Open}
+use Rattle.station.specs.declared.Ending.the-variants.{Etb}
+use Rattle.station.specs.declared.Reply.the-variants.{Ack, Nak}
 
 infixr 2 _and_
 -- "with default settings and D of 4,096"
@@ -133,6 +137,9 @@ cases =
     ∷ (rowOf Accepts (Next 6) (Present (Number 5)) ≡ row AR (Number 6) NoTransaction (Next 6))
     -- "P11 r = 0, one timer: gives up, count 1.": on a circuit that has just been opened
     ∷ (abandoned (timerOf 0 (openOf (freshSender 1) .sender)) ≡ given Abandoned 1)
+    -- "P12 station expects 3, gets 2: ACK 2; gets 4: NAK."
+    ∷ (blockOf (Open 3 0) 2 Etb [] [] ≡ outcome (drops (Open 3 0) (Ack 2)) [])
+    ∷ (blockOf (Open 3 0) 4 Etb [] [] ≡ outcome (drops (Open 3 0) Nak) [])
     -- 'Header fields': the answer for request 17 and the control messages for 0 and -1, byte for byte
     ∷ AnswerFor17
     ∷ ControlFor0

@@ -1,6 +1,7 @@
 //! Each function here makes one or more calls of the library and compares the answer, and every
 //! word and byte of the memory, with the model.
 
+use crate::compare_station::StationCounts;
 use crate::guarded::{same, Guarded};
 use crate::library;
 use host::model::{self, Block, Settings};
@@ -14,7 +15,7 @@ pub const GUARD_BYTE: u8 = 0xC3;
 /// Draws random numbers for a group and counts what was compared: calls of the functions for
 /// blocks, and messages that were read or written. Of the messages read, those with a header that
 /// the model reads are counted too, and those with an answer. Acts are calls of the functions for
-/// the receiver and the sender, those on simulated links apart.
+/// the receiver and the sender, those on simulated links apart; acts of stations are counted apart too.
 pub struct Compare {
     pub random: Random,
     pub inputs: u64,
@@ -24,6 +25,7 @@ pub struct Compare {
     pub acts: u64,
     pub link_acts: u64,
     pub kinds: Kinds,
+    pub station: StationCounts,
 }
 
 /// Acts by what every run promises: the receiver's by layer, the sender's by r (`RESENDS`), and those
@@ -111,6 +113,7 @@ impl Compare {
             acts: 0,
             link_acts: 0,
             kinds: Kinds::default(),
+            station: StationCounts::default(),
         }
     }
 

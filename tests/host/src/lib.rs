@@ -1,6 +1,7 @@
 //! What the tests stand on: the rules of document 01 (`model` for blocks, `message_model` for header
-//! fields and messages, `receiver_model` and `sender_model` for the two ends of a link), the C
-//! interface (`ffi`, `ends_ffi`) and a seeded generator (`prng`).
+//! fields and messages, `receiver_model` and `sender_model` for the two ends of a link,
+//! `station_model` for the X3.28 receiving station), the C interface (`ffi`, `ends_ffi`,
+//! `station_ffi`) and a seeded generator (`prng`).
 
 pub mod ends_ffi;
 pub mod ffi;
@@ -9,3 +10,5 @@ pub mod model;
 pub mod prng;
 pub mod receiver_model;
 pub mod sender_model;
+pub mod station_ffi;
+pub mod station_model;

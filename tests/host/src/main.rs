@@ -3,6 +3,7 @@
 mod compare;
 mod compare_ends;
 mod compare_messages;
+mod compare_station;
 mod faults;
 mod groups;
 mod guarded;
@@ -12,6 +13,7 @@ mod link;
 mod make;
 mod make_ends;
 mod make_messages;
+mod make_station;
 mod real;
 
 use compare::Compare;
@@ -20,12 +22,12 @@ use std::time::Instant;
 
 const SEED: u64 = 20_261_115;
 
-const COUNTS: usize = 14;
+const COUNTS: usize = 20;
 
 /// How many inputs a whole run compares at least: calls of the functions for blocks; messages read
 /// or written; of the messages read, those whose header can be read, and those that are answers;
-/// acts of the receiver and the sender compared with the model; acts on simulated links; and of the
-/// acts compared, those of each kind.
+/// acts of the receiver and the sender compared with the model; acts on simulated links; of the acts
+/// compared, those of each kind; and acts of stations, with what happened in them.
 const LEAST: [(&str, u64); COUNTS] = [
     ("inputs", 1_000_000),
     ("messages", 2_000_000),
@@ -41,11 +43,17 @@ const LEAST: [(&str, u64); COUNTS] = [
     ("acts with r of 99", 50_000),
     ("acts on numbers up to 100", 200_000),
     ("acts on the last 100 numbers", 200_000),
+    ("acts of stations", 1_000_000),
+    ("messages completed by stations", 100_000),
+    ("duplicate blocks", 50_000),
+    ("texts that just fit", 50_000),
+    ("texts one byte too long", 20_000),
+    ("refused acts of stations", 50_000),
 ];
 
 /// What a group compared, in the order of `LEAST`.
 fn counts(compare: &Compare) -> [u64; COUNTS] {
-    let kinds = &compare.kinds;
+    let (kinds, station) = (&compare.kinds, &compare.station);
     let [none, one, three, most] = kinds.resends;
     [
         compare.inputs,
@@ -62,6 +70,12 @@ fn counts(compare: &Compare) -> [u64; COUNTS] {
         most,
         kinds.small,
         kinds.large,
+        station.acts,
+        station.messages,
+        station.duplicates,
+        station.just_fit,
+        station.one_byte_over,
+        station.refused,
     ]
 }
 
@@ -91,6 +105,7 @@ fn tally(compare: &Compare) -> String {
         (compare.messages, "messages"),
         (compare.acts, "acts"),
         (compare.link_acts, "acts on links"),
+        (compare.station.acts, "acts of stations"),
     ];
     let counted = counts.iter().filter(|(count, _)| *count > 0);
     let texts: Vec<String> = counted

@@ -17,6 +17,10 @@ mod sender;
 mod sender_interruptions;
 mod sender_words;
 mod states;
+mod station;
+mod station_hand;
+mod station_memory;
+mod station_words;
 mod streams;
 mod writers;
 
@@ -123,4 +127,25 @@ pub const ALL: &[(&str, Group)] = &[
     ("links", links::links),
     ("ends_null_pointers", ends_memory::ends_null_pointers),
     ("ends_guard_pages", ends_memory::ends_guard_pages),
+    ("station_by_hand", station_hand::station_by_hand),
+    ("station_fresh", station_words::station_fresh),
+    ("station_numbers", station_words::station_numbers),
+    ("station_lengths", station_words::station_lengths),
+    ("station_histories", station::station_histories),
+    ("station_progress", station::station_progress),
+    ("station_large_buffers", station::station_large_buffers),
+    ("station_opened_again", station::station_opened_again),
+    ("station_other_lengths", station::station_other_lengths),
+    (
+        "station_corrupt_words",
+        station_words::station_corrupt_words,
+    ),
+    ("station_small_words", station_words::station_small_words),
+    ("station_refusals", station_words::station_refusals),
+    ("station_short_words", station_words::station_short_words),
+    (
+        "station_null_pointers",
+        station_memory::station_null_pointers,
+    ),
+    ("station_guard_pages", station_memory::station_guard_pages),
 ];

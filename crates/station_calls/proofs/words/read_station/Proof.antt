@@ -1,0 +1,46 @@
+-- `station_calls::words::read_station` meets its contract.
+use borrow.Author.Needs.{needs}
+use Rattle.station_calls.proofs.Laws.{in-open, in-closed, in-none}
+use Rattle.station_calls.proofs.words.read_station.Statement.{statement}
+use Rattle.station_calls.proofs.words.read_station.Tie as tie
+
+shared-slice-read-if1 : tie.Need-shared-slice-read-if1
+shared-slice-read-if1 c = search needs
+
+shared-slice-read-t7 : tie.Need-shared-slice-read-t7
+shared-slice-read-t7 c = search needs
+
+shared-slice-read-t9 : tie.Need-shared-slice-read-t9
+shared-slice-read-t9 c = search needs
+
+returns : tie.Need-returns
+returns c = in-open (c .before .before .before .before .args .words .now) (c .before .before .if1 .taken)
+
+shared-slice-read-closed : tie.Need-shared-slice-read-closed
+shared-slice-read-closed c = search needs
+
+shared-slice-read-closed-2 : tie.Need-shared-slice-read-closed-2
+shared-slice-read-closed-2 c = search needs
+
+shared-slice-read-closed-3 : tie.Need-shared-slice-read-closed-3
+shared-slice-read-closed-3 c = search needs
+
+returns-2 : tie.Need-returns-2
+returns-2 c = in-closed (c .before .before .before .before .before .before .args .words .now) (c .before .before .before .before .if1 .left) (c .if2 .taken)
+
+returns-3 : tie.Need-returns-3
+returns-3 c = in-none (c .before .before .before .before .before .before .args .words .now) (c .before .before .before .before .if1 .left) (c .if2 .left)
+
+pub read-station-spec : {M : Type 1} → statement M
+read-station-spec =
+    tie.close
+    (tie.spec
+    shared-slice-read-if1
+    shared-slice-read-t7
+    shared-slice-read-t9
+    returns
+    shared-slice-read-closed
+    shared-slice-read-closed-2
+    shared-slice-read-closed-3
+    returns-2
+    returns-3)

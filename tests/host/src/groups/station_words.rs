@@ -1,0 +1,242 @@
+//! Single acts of a station, from any words: all block numbers and endings, texts of every length
+//! around the space left, words that encode no state, memory that is too short.
+
+use crate::compare::{Compare, Outcome};
+use crate::compare_station::{StationCall, StationMemory};
+use crate::make_station::{any_length, any_unit, block, expected_and_left, large_numbers};
+use host::prng::Random;
+use host::station_model::{Station, Unit, ETB, ETX, STATION_REPORT_WORDS, STATION_WORDS};
+
+/// The units without a text.
+const OTHER_UNITS: [Unit; 4] = [Unit::Opened, Unit::Bad, Unit::Enquiry, Unit::End];
+
+/// One act, in new memory.
+fn act_once(
+    compare: &mut Compare,
+    words: [u64; STATION_WORDS],
+    space: usize,
+    unit: &Unit,
+) -> Outcome {
+    let mut memory = StationMemory::new(compare, words, space);
+    compare.station_act(&mut memory, unit).map(|_| ())
+}
+
+/// Words of every number below and above those needed.
+pub fn station_fresh(compare: &mut Compare) -> Outcome {
+    for length in 0..12 {
+        for _ in 0..200 {
+            let mut state = compare.random.words(length);
+            compare.station_fresh(&mut state)?;
+        }
+    }
+    Ok(())
+}
+
+/// Every block number of a byte and larger ones, at every expected number and closed, with texts that
+/// fit and texts that don't.
+pub fn station_numbers(compare: &mut Compare) -> Outcome {
+    let mut states: Vec<[u64; STATION_WORDS]> = vec![[0, 0, 0]];
+    for expected in 0..8 {
+        states.push([1, expected, 0]);
+        states.push([1, expected, 7]);
+    }
+    for words in states {
+        let mut numbers: Vec<u64> = (0..=255).collect();
+        numbers.extend((0..8).flat_map(large_numbers));
+        for number in numbers {
+            let left = 10 - words[2] as usize;
+            for length in [0, 1, left, left + 1] {
+                let text = compare.random.bytes(length);
+                for ending in [ETB, ETX] {
+                    act_once(compare, words, 10, &block(number, ending, &text))?;
+                }
+            }
+        }
+    }
+    Ok(())
+}
+
+/// Every buffer of up to 24 bytes, every length of text held, and every text up to two bytes over.
+pub fn station_lengths(compare: &mut Compare) -> Outcome {
+    for space in 0..=24 {
+        for held in 0..=space {
+            for length in 0..=space - held + 2 {
+                let text = compare.random.bytes(length);
+                let expected = compare.random.below(8) as u64;
+                for ending in [ETB, ETX] {
+                    let words = [1, expected, held as u64];
+                    let unit = block(expected, ending, &text);
+                    act_once(compare, words, space, &unit)?;
+                }
+            }
+        }
+    }
+    for _ in 0..40_000 {
+        let space = compare.random.below(700);
+        let held = compare.random.below(space + 1);
+        let length = (space - held + compare.random.below(5)).saturating_sub(2);
+        let text = compare.random.bytes(length);
+        let expected = compare.random.below(8) as u64;
+        let unit = block(expected, compare.random.pick(&[ETB, ETX]), &text);
+        act_once(compare, [1, expected, held as u64], space, &unit)?;
+    }
+    Ok(())
+}
+
+/// Words with one or more of them wrong.
+fn corrupt(random: &mut Random, space: usize) -> [u64; STATION_WORDS] {
+    let small = |random: &mut Random| random.below(4) as u64;
+    let open = match random.below(6) {
+        0 | 1 => 1,
+        2 => 0,
+        3 => small(random),
+        4 => random.pick(&[256, 257, (1 << 32) + 1, 1 << 63, u64::MAX]),
+        _ => random.draw(),
+    };
+    let expected = match random.below(6) {
+        0 | 1 => random.below(8) as u64,
+        2 => 8 + small(random),
+        3 => 0,
+        4 => random.pick(&[256, (1 << 32) + 1, (1 << 63) + 1, u64::MAX]),
+        _ => random.draw(),
+    };
+    let held = match random.below(6) {
+        0 => random.below(space + 1) as u64,
+        1 => space as u64 + small(random),
+        2 => 0,
+        3 => u64::MAX - small(random),
+        4 => random.pick(&[1 << 32, 1 << 63, (1 << 32) + 1, u64::MAX - space as u64]),
+        _ => random.draw(),
+    };
+    [open, expected, held]
+}
+
+/// Acts on words that need not encode a state, and a history after each opening of such words.
+pub fn station_corrupt_words(compare: &mut Compare) -> Outcome {
+    for _ in 0..60_000 {
+        let space = compare.random.below(60);
+        let words = corrupt(&mut compare.random, space);
+        let near = Station::decode(&words).unwrap_or(Station::Closed);
+        let planned = any_unit(&mut compare.random, &near, space);
+        act_once(compare, words, space, &planned.unit())?;
+    }
+    for _ in 0..4_000 {
+        let space = compare.random.below(60);
+        let words = corrupt(&mut compare.random, space);
+        let mut memory = StationMemory::new(compare, words, space);
+        compare.station_act(&mut memory, &Unit::Opened)?;
+        for _ in 0..8 {
+            let planned = any_unit(&mut compare.random, &memory.station()?, space);
+            compare.station_act(&mut memory, &planned.unit())?;
+        }
+        let words = corrupt(&mut compare.random, space);
+        memory.set_words(words);
+        let unit = compare.random.pick(&[Unit::Bad, Unit::Enquiry, Unit::End]);
+        compare.station_act(&mut memory, &unit)?;
+    }
+    Ok(())
+}
+
+/// Every small content of the words, with each act.
+pub fn station_small_words(compare: &mut Compare) -> Outcome {
+    for open in 0..4 {
+        for expected in 0..10 {
+            for held in 0..6 {
+                let words = [open, expected, held];
+                for unit in OTHER_UNITS {
+                    act_once(compare, words, 0, &unit)?;
+                }
+                for space in 0..6 {
+                    for length in 0..4 {
+                        let text = compare.random.bytes(length);
+                        let number = expected.min(7);
+                        act_once(compare, words, space, &block(number, ETX, &text))?;
+                        act_once(compare, words, space, &block(number, ETB, &text))?;
+                    }
+                }
+            }
+        }
+    }
+    Ok(())
+}
+
+/// An ending that a good block may or may not have.
+fn any_ending(random: &mut Random) -> u64 {
+    match random.below(6) {
+        0 => ETX,
+        1 => ETB,
+        2 => u64::from(random.byte()),
+        3 => random.pick(&[0, 1, 2, 4, 5, 22, 24, 256 + ETX, (1 << 32) + ETB]),
+        4 => random.pick(&[u64::MAX, (1 << 63) + ETX, !ETX, !ETB]),
+        _ => random.draw(),
+    }
+}
+
+/// 1, 2 and 11 together and apart: every ending of a byte, short state and report, wrong words.
+pub fn station_refusals(compare: &mut Compare) -> Outcome {
+    for ending in 0..=255 {
+        for words in [[0, 0, 0], [1, 1, 0], [1, 1, 4], [2, 1, 0]] {
+            act_once(compare, words, 5, &block(1, ending, b"AB"))?;
+        }
+    }
+    for _ in 0..60_000 {
+        let space = compare.random.below(40);
+        let words = match compare.random.below(4) {
+            0 => [0, 0, 0],
+            1 | 2 => {
+                let held = compare.random.below(space + 1) as u64;
+                [1, compare.random.below(8) as u64, held]
+            }
+            _ => corrupt(&mut compare.random, space),
+        };
+        let near = Station::decode(&words).unwrap_or(Station::Closed);
+        let (number, left) = expected_and_left(&near, space);
+        let length = any_length(&mut compare.random, left);
+        let text = compare.random.bytes(length);
+        let ending = any_ending(&mut compare.random);
+        let unit = match compare.random.below(8) {
+            index @ 0..=3 => OTHER_UNITS[index],
+            _ => block(number, ending, &text),
+        };
+        let mut memory = StationMemory::new(compare, words, space);
+        let call = StationCall {
+            unit,
+            state_words: compare.random.pick(&[0, 1, 2, 3, 3, 3, memory.state.len()]),
+            buffer_length: compare.random.below(space + 1),
+            report_words: compare.random.pick(&[0, 1, 2, 3, 4, 4, 4, 5, 6]),
+        };
+        compare.station_call(&mut memory, &call)?;
+    }
+    Ok(())
+}
+
+/// A report and a state of every length up to two words more than needed, with each act.
+pub fn station_short_words(compare: &mut Compare) -> Outcome {
+    let units = [
+        Unit::Opened,
+        Unit::Bad,
+        Unit::Enquiry,
+        Unit::End,
+        block(1, ETX, b"AB"),
+        block(1, ETB, b"ABC"),
+        block(1, 0, b"A"),
+    ];
+    for words in [[0, 0, 0], [1, 1, 0], [1, 9, 0]] {
+        for unit in units {
+            for state_words in 0..=STATION_WORDS + 2 {
+                for report_words in 0..=STATION_REPORT_WORDS + 2 {
+                    let mut memory = StationMemory::new(compare, words, 2);
+                    memory.state.resize(STATION_WORDS + 2, 77);
+                    let call = StationCall {
+                        unit,
+                        state_words,
+                        buffer_length: 2,
+                        report_words,
+                    };
+                    compare.station_call(&mut memory, &call)?;
+                }
+            }
+        }
+    }
+    Ok(())
+}
