@@ -288,7 +288,8 @@ uint64_t gmv_control_write(const uint8_t *type, size_t type_length, uint64_t num
  *   - one block at a time: the reply to a block is decided after the state of the block before it
  *     is persisted,
  *   - when a circuit ends, a reply that was not yet sent is dropped, and the reader starts afresh
- *     (gmv_reader_fresh). */
+ *     (gmv_reader_fresh),
+ *   - no byte of an earlier circuit, and none of an earlier tenant, comes in on a new circuit. */
 
 /* The words of a receiver's state. All of it is persisted. */
 enum {
@@ -364,6 +365,8 @@ uint64_t gmv_minimal_receive(uint64_t data_limit,
  *     written may be dropped for a newer one,
  *   - when a circuit ends, sends named and not yet written are dropped; at a new circuit the reader
  *     starts afresh (gmv_reader_fresh),
+ *   - each tenant begins with a new sender (gmv_sender_fresh), and the line is empty in both
+ *     directions then, at each new circuit and after a crash of either end (docs/LINK.md),
  *   - resends is the same in every call of one sender (else a count may exceed resends + 1). */
 
 /* How often a message is sent again, where nothing else is agreed. */

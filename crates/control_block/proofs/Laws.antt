@@ -10,8 +10,7 @@ use borrow.Author.Tests.{le-leb, leb-true}
 use Rattle.lists.proofs.Tests.{and-left, and-right}
 use Rattle.settings.specs.Settings.{valid, validLink}
 use Rattle.settings.specs.declared.Settings.{Settings}
-use Rattle.block.specs.Format.{blockOf}
-use Rattle.writer.specs.Write.{needOf, wrote, writeOf}
+use Rattle.writer.specs.Write.{needOf, writeOf}
 use Rattle.writer.specs.declared.Written.the-variants.{Setting}
 use Rattle.messages.specs.Messages.{controlMessage, validType}
 use Rattle.messages.specs.Write.{writeControlOf, wrote as messageWrote}

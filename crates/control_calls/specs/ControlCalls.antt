@@ -5,12 +5,9 @@ use Prim.Native.Nat.{ℕ}
 use lib.ListN.{length}
 use lib.Dec.{ltb}
 use Rattle.settings.specs.Settings.{validLink}
-use Rattle.settings.specs.declared.Settings.{Settings}
 use Rattle.settings.specs.declared.Made.{Made}
 use Rattle.settings.specs.declared.Made.the-variants.{Valid, Refused}
 use Rattle.messages.specs.Messages.{typeOf}
-use Rattle.messages.specs.declared.Control.{Control}
-use Rattle.messages.specs.declared.MessageType.{MessageType}
 use Rattle.messages.specs.declared.TypeMade.{TypeMade}
 use Rattle.messages.specs.declared.TypeMade.the-variants.{Refused as NoType, Valid as AType}
 use Rattle.message_calls.specs.MessageCalls.{controlOf}

@@ -75,16 +75,16 @@ number-few Query = let h = number-most 0 (omega arith) in omega (arith, h)
 
 module _ (t : MessageType) (n : SequenceNumber) (v : validType t ≡ true) where
   -- the fields after MSH, and the whole message
-  abbrev fields : List (List ℕ)
+  abbrev pub fields : List (List ℕ)
   fields = headerFields (typeText t) (textOf n) (textOf n ∷ [])
 
-  abbrev whole : List ℕ
+  abbrev pub whole : List ℕ
   whole = joined 124 mshText fields ++ 13 ∷ []
 
   each : Each 124 (mshText ∷ fields)
   each = each-of (mshText ∷ fields) (rw (type-free t v, text-no-end n))
 
-  whole-reads : isWithin greatestSent n ≡ true → length (textOf n) ≤ 20 → ReadsControl whole n
+  pub whole-reads : isWithin greatestSent n ≡ true → length (textOf n) ≤ 20 → ReadsControl whole n
   whole-reads s l =
       record {
         readable = header-readable whole (textOf n) refl (first-ended mshText fields [] each) (first-field mshText fields [] each 9) (text-least n) l;
@@ -92,7 +92,7 @@ module _ (t : MessageType) (n : SequenceNumber) (v : validType t ≡ true) where
         number-read = ap (λ (z : List ℕ). numberField greatestSent z) (first-field mshText fields [] each 12) ∙ text-back greatestSent (omega arith) n s;
       }
 
-  whole-allowed : allAllowed whole ≡ true
+  pub whole-allowed : allAllowed whole ≡ true
   whole-allowed = segment-allowed mshText fields [] (rw (type-allowed t v, text-allowed n)) refl
 
 -- "The sender's control message for 0 .. For -1, both fields with 0 read -1"

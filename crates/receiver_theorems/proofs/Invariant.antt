@@ -1,6 +1,6 @@
 -- Document 01, 'Receiver of sequence numbers': an act leaves a state that is one, and a refused act the state that it was given.
 use mathlib.Core.Path.{_≡_, refl, sym, ap, _∙_}
-use mathlib.Core.Bool.{Bool, true, false, cond, _&&_}
+use mathlib.Core.Bool.{true, false}
 use mathlib.Core.List.{List}
 use Prim.Native.Nat.{ℕ, _+_, _≤_}
 use native.Mathlib.Omega.{arith}
@@ -17,7 +17,6 @@ use Rattle.verdict.specs.declared.Verdict.{Verdict}
 use Rattle.verdict.specs.declared.Verdict.the-variants.{Accepted, Byte, Long, Shape, Count, Check, Interrupted}
 use Rattle.fields.specs.Fields.{bytesOf}
 use Rattle.numbers.specs.Numbers.{numberField, greatestSent, greatestExpected}
-use Rattle.numbers.specs.declared.SequenceNumber.{SequenceNumber}
 use Rattle.numbers.specs.declared.SequenceNumber.the-variants.{MinusOne, Number}
 use Rattle.numbers.specs.declared.NumberField.{NumberField}
 use Rattle.numbers.specs.declared.NumberField.the-variants.{Missing, NotNumber, Present}
@@ -25,7 +24,7 @@ use Rattle.numbers.proofs.Reading.{field-number-bound}
 use Rattle.header.specs.Header.{headerOf}
 use Rattle.header.specs.declared.Header.{Header}
 use Rattle.header.specs.declared.Header.the-variants.{Unreadable, Readable}
-use Rattle.receiver.specs.Receiver.{validExpected, row, stores, unknownRow, nextRow, numberRow, rowOf, refusedBy, headerDecision, isNak, decisionOf, Outcome, outcome, unchanged, repliedOf, replySpace, receiveOf}
+use Rattle.receiver.specs.Receiver.{validExpected, stores, unknownRow, nextRow, numberRow, rowOf, refusedBy, headerDecision, isNak, decisionOf, Outcome, repliedOf, replySpace, receiveOf}
 use Rattle.receiver.specs.declared.Application.{Application}
 use Rattle.receiver.specs.declared.Expected.{Expected}
 use Rattle.receiver.specs.declared.Expected.the-variants.{Unknown, Next}

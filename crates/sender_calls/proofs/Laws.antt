@@ -1,20 +1,20 @@
 -- The ways in which the sender's C functions return.
 use mathlib.Core.Path.{_≡_, refl, sym, ap, _∙_}
-use mathlib.Core.List.{List, [], _∷_}
+use mathlib.Core.List.{List, []}
 use mathlib.Core.Bool.{Bool, true, false, cond, _&&_}
 use Prim.Native.Nat.{ℕ, _≤_, _<_}
 use lib.ListN.{length, getD}
-use lib.Dec.{ltb, leb, eqb}
+use lib.Dec.{leb, eqb}
 use borrow.Author.Tests.{lt-ltb, le-ltb, le-leb, lt-leb, eq-eqb, ne-eqb}
 use Rattle.lists.specs.Bytes.{over}
-use Rattle.sender.specs.Sender.{freshSender, senderOf, openOf, endedOf, resetOf, timerOf, blockReadOf, submitOf, validResends, validLimit}
+use Rattle.sender.specs.Sender.{freshSender, senderOf, openOf, endedOf, resetOf, timerOf, submitOf}
 use Rattle.sender.specs.declared.Sender.{Sender}
 use Rattle.sender.specs.declared.SenderMade.{SenderMade}
 use Rattle.sender.specs.declared.SenderMade.the-variants.{Made}
 use Rattle.sender.specs.declared.Acted.{Acted}
 use Rattle.words.specs.Words.{verdictOf}
 use Rattle.words.specs.declared.VerdictMade.{VerdictMade}
-use Rattle.sender_calls.specs.SenderCalls.{senderWords, goodWords, waitingOf, senderIn, actWords, Called, called, finished, actCall, openCall, endedCall, resetCall, timerCall, blockWith, blockCall, submitCall, freshWith, freshCall}
+use Rattle.sender_calls.specs.SenderCalls.{senderWords, goodWords, waitingOf, senderIn, actWords, called, finished, actCall, openCall, endedCall, resetCall, timerCall, blockWith, blockCall, submitCall, freshWith, freshCall}
 
 pub no-sender : (ws : List ℕ) → goodWords ws ≡ false → freshSender 0 ≡ senderIn ws
 unfolding senderIn

@@ -13,7 +13,7 @@ use Rattle.sender.specs.declared.Waiting.{Waiting}
 use Rattle.sender.specs.declared.Waiting.the-variants.{Closed, Idle, Resynchronizing, Querying, Sending}
 use Rattle.sender.specs.declared.Sender.{Sender}
 use Rattle.sender.specs.declared.Acted.{Acted}
-use Rattle.sender_calls.specs.SenderCalls.{flagWord, waitingWord, waitingOf, persistedWords, circuitWords, senderWords, goodWords, senderIn, actWords, Called, called, finished, actCall}
+use Rattle.sender_calls.specs.SenderCalls.{flagWord, waitingWord, waitingOf, persistedWords, circuitWords, senderWords, senderIn, actWords, Called, called, finished, actCall}
 use Rattle.sender_calls.proofs.Laws.{act-done}
 
 over-is : (l ws : List ℕ) → length ws ≤ length l → over l ws ≡ ws ++ drop (length ws) l

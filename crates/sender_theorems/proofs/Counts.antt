@@ -32,11 +32,11 @@ first-few Resynchronizing = omega arith
 first-few Querying = omega arith
 first-few Sending = omega arith
 
-record Few (r n k : ℕ) : Type 0 where
-  after : n ≤ r + 1
-  said : k ≤ r + 1
+pub record Few (r n k : ℕ) : Type 0 where
+  pub after : n ≤ r + 1
+  pub said : k ≤ r + 1
 
-few-step : {q n k : ℕ} {s t : Sender} {m : NumberedMessage} {e : Event} (r : ℕ) → q ≤ r → s .sends ≤ r + 1 → Step q s n t m k e → Few r (t .sends) k
+pub few-step : {q n k : ℕ} {s t : Sender} {m : NumberedMessage} {e : Event} (r : ℕ) → q ≤ r → s .sends ≤ r + 1 → Step q s n t m k e → Few r (t .sends) k
 few-step r l b (refuses h) = record { after = b; said = b }
 few-step r l b (keeps w g j u) = record { after = b; said = b }
 few-step r l b (starts {w = w} g j f) = let o = first-few w in record { after = omega arith; said = omega arith }
@@ -57,7 +57,7 @@ module _ (f : ℕ) (least : 1 ≤ f) (most : f ≤ greatestSent) (r : ℕ) where
   few-sends xs h a l = few-step r l (few-after xs h) (steps (afterOf (freshSender f) xs) (reachable-valid f least most xs) a) .said
 
 -- "while fewer than r + 1 sends were made of it, and otherwise gives up"
-up-step : {r n k : ℕ} {s t : Sender} {m : NumberedMessage} {e : Event} → Step r s n t m k e → isAbandoned e ≡ true → r + 1 ≤ k
+pub up-step : {r n k : ℕ} {s t : Sender} {m : NumberedMessage} {e : Event} → Step r s n t m k e → isAbandoned e ≡ true → r + 1 ≤ k
 up-step (refuses h) u = let z : _≡_ {A = ℕ} 0 1 = cc in absurd (omega arith)
 up-step (keeps w g j v) u = let z : _≡_ {A = ℕ} 0 1 = cc in absurd (omega arith)
 up-step (starts g j f) u = let z : _≡_ {A = ℕ} 0 1 = cc in absurd (omega arith)
@@ -70,7 +70,7 @@ abandons-late a s v u = up-step (steps s v a) u
 
 -- ---- as many as the history has
 -- the history's count of each message: of the one that waits it is the state's number, of others 0
-abbrev Counts : Sender → List Entry → Type 0
+abbrev pub Counts : Sender → List Entry → Type 0
 Counts s h = (m : SequenceNumber) → counted m h ≡ cond (is m (waitsOf s)) (s .sends) 0
 
 same-count : (b c : Bool) (x y : ℕ) → b ≡ c → x ≡ cond c y 0 → cond b (0 + x) 0 ≡ cond b y 0
@@ -94,7 +94,7 @@ first-one p Resynchronizing m e = refl
 first-one p Querying m e = refl
 first-one p Sending m e = refl
 
-counts-step : {r n k : ℕ} {s t : Sender} {c : NumberedMessage} {e : Event} (h : List Entry) → Counts s h → Step r s n t c k e → (m : SequenceNumber)
+pub counts-step : {r n k : ℕ} {s t : Sender} {c : NumberedMessage} {e : Event} (h : List Entry) → Counts s h → Step r s n t c k e → (m : SequenceNumber)
     → cond (is m (waitsOf t)) (cond (is m c) 1 0 + counted m h) 0 ≡ cond (is m (waitsOf t)) (t .sends) 0
 counts-step {s = s} h i (refuses l) m = same-count (is m (waitsOf s)) (is m (waitsOf s)) (counted m h) (s .sends) refl (i m)
 counts-step {s = s} h i (keeps {p = p} {w = w} e g j u) m =
@@ -140,7 +140,7 @@ module _ (s : Sender) (h : List Entry) (b : Acted) (v : Right (s .persisted) (s 
       e ∙ count-is (s .persisted) (s .waiting) (s .sends) h (v .waits) c
       ∙ sym (ap (λ (z : Bool). cond z (countedOf (waitsOf s) h) (countedOf (waitsOf (b .sender)) (told b ∷ h))) g)
 
-  told-right : (r : ℕ) → StepOf r s b → b .sends ≡ sendsToTell s h b
+  pub told-right : (r : ℕ) → StepOf r s b → b .sends ≡ sendsToTell s h b
   told-right r t = told-by (step-right v t) (counts-step h c t) (tells t)
 
 module _ (f : ℕ) (least : 1 ≤ f) (most : f ≤ greatestSent) where

@@ -4,15 +4,22 @@ use mathlib.Core.Bool.{Bool, true, false, cond}
 use mathlib.Core.List.{List}
 use Prim.Native.Nat.{ℕ, _+_, _≤_, _<_}
 use native.Mathlib.Omega.{arith}
+use lib.ListN.{length}
 use lib.Dec.{ltb, leb, eqb}
 use borrow.Author.Tests.{le-leb, lt-ltb, le-ltb}
+use Rattle.lists.proofs.Tests.{cond-ind}
+use Rattle.data_bytes.specs.DataBytes.{allAllowed}
+use Rattle.fields.specs.Fields.{bytesOf}
+use Rattle.numbers.specs.Numbers.{numberField, greatestSent}
 use Rattle.verdict.specs.Verdict.{numberOf}
 use Rattle.verdict.specs.declared.Verdict.{Verdict}
 use Rattle.verdict.specs.declared.Verdict.the-variants.{Accepted, Byte, Long, Shape, Count, Check, Interrupted}
 use Rattle.numbers.specs.declared.SequenceNumber.{SequenceNumber}
-use Rattle.header.specs.Header.{acknowledgmentOf}
+use Rattle.header.specs.Header.{headerOf, acknowledgmentOf}
+use Rattle.header.specs.declared.Header.{Header}
+use Rattle.header.specs.declared.Header.the-variants.{Unreadable, Readable}
 use Rattle.header.specs.declared.Acknowledgment.the-variants.{Unreadable as NoAnswer}
-use Rattle.sender.specs.Sender.{validSender, waitingMessage, acted, closes, isOpen, againOf, dueIn, checked, timerOf, withBlock, dataBlock, blockIn, blockReadOf, refused}
+use Rattle.sender.specs.Sender.{validSender, waitingMessage, acted, closes, isOpen, openIn, openOf, endedOf, resetOf, againOf, dueIn, checked, timerOf, withBlock, dataBlock, blockIn, blockReadOf, refused, takesNumber, takenIn, submittedHeader, validLimit, submitOf}
 use Rattle.sender.specs.declared.Persisted.{Persisted}
 use Rattle.sender.specs.declared.Waiting.{Waiting}
 use Rattle.sender.specs.declared.Waiting.the-variants.{Closed, Idle, Resynchronizing, Querying, Sending}
@@ -21,7 +28,8 @@ use Rattle.sender.specs.declared.NumberedMessage.{NumberedMessage}
 use Rattle.sender.specs.declared.NumberedMessage.the-variants.{Nothing, Numbered}
 use Rattle.sender.specs.declared.Event.the-variants.{NoEvent, Abandoned}
 use Rattle.sender.specs.declared.Acted.{Acted}
-use Rattle.sender_theorems.specs.History.{waitsOf}
+use Rattle.sender_theorems.specs.Acts.{Act, opened, ended, reset, timer, block, submit, actOf}
+use Rattle.sender_theorems.specs.History.{waitsOf, isAbandoned}
 
 abbrev isSome : NumberedMessage → Bool
 isSome Nothing = false
@@ -98,3 +106,68 @@ module _ (r : ℕ) (s : Sender) (l : r ≤ 99) (v : validSender s ≡ true) (m :
       ∙ ap (λ (b : Bool). cond b (dueIn r s (s .waiting)) (dataBlock r s d (acknowledgmentOf d))) h
       ∙ ap (dataBlock r s d) e
       ∙ ap (withBlock 9) (sym timer-due)
+
+-- ---- and nothing else gives up
+abbrev pub IsDue : Act → Type 0
+IsDue opened = ⊥
+IsDue ended = ⊥
+IsDue reset = ⊥
+IsDue (timer r) = r ≡ r
+IsDue (block r v d) = r ≡ r
+IsDue (submit limit d) = ⊥
+
+goes-on-so : {P : Type 0} → true ≡ false → P
+goes-on-so e = let z : _≡_ {A = ℕ} 0 1 = cc in absurd (omega arith)
+
+abbrev Quiet : Acted → Type 0
+Quiet a = isAbandoned (a .event) ≡ false
+
+module _ (s : Sender) where
+  open-quiet-in : (w : Waiting) → Quiet (openIn s w)
+  open-quiet-in Closed = cond-ind Quiet (s .persisted .frozen) _ _ (λ z. refl) (λ z. refl)
+  open-quiet-in Idle = refl
+  open-quiet-in Resynchronizing = refl
+  open-quiet-in Querying = refl
+  open-quiet-in Sending = refl
+
+  open-quiet : Quiet (openOf s)
+  unfolding openOf
+  open-quiet = cond-ind Quiet (validSender s) _ _ (λ z. open-quiet-in (s .waiting)) (λ z. refl)
+
+  ended-quiet : Quiet (endedOf s)
+  unfolding endedOf
+  ended-quiet = cond-ind Quiet (validSender s) _ _ (λ z. cond-ind Quiet (isOpen (s .waiting)) _ _ (λ y. refl) (λ y. refl)) (λ z. refl)
+
+  reset-quiet : Quiet (resetOf s)
+  unfolding resetOf
+  reset-quiet = cond-ind Quiet (validSender s) _ _ (λ z. cond-ind Quiet (s .persisted .frozen) _ _ (λ y. refl) (λ y. refl)) (λ z. refl)
+
+  taken-quiet : (w : Waiting) → Quiet (takenIn s w)
+  taken-quiet Closed = refl
+  taken-quiet Idle = refl
+  taken-quiet Resynchronizing = refl
+  taken-quiet Querying = refl
+  taken-quiet Sending = refl
+
+  header-quiet : (d : List ℕ) (h : Header) → Quiet (submittedHeader s d h)
+  header-quiet d Unreadable = refl
+  header-quiet d (Readable id n) = cond-ind Quiet (takesNumber (s .persisted) (bytesOf id d) (numberField greatestSent (bytesOf n d))) _ _ (λ z. taken-quiet (s .waiting)) (λ z. refl)
+
+  submit-quiet : (limit : ℕ) (d : List ℕ) → Quiet (submitOf limit s d)
+  unfolding submitOf
+  submit-quiet limit d =
+      cond-ind Quiet (validLimit limit) _ _
+      (λ a. cond-ind Quiet (validSender s) _ _
+      (λ b. cond-ind Quiet (s .persisted .frozen) _ _ (λ c. refl)
+      (λ c. cond-ind Quiet (leb (length d) limit) _ _ (λ e. cond-ind Quiet (allAllowed d) _ _ (λ f. header-quiet d (headerOf d)) (λ f. refl)) (λ e. refl)))
+      (λ b. refl))
+      (λ a. refl)
+
+-- "gives up exactly when a resend falls due": only the timer and a block that was read give up
+pub only-due : (a : Act) (s : Sender) → isAbandoned (actOf a s .event) ≡ true → IsDue a
+only-due opened s h = goes-on-so (sym h ∙ open-quiet s)
+only-due ended s h = goes-on-so (sym h ∙ ended-quiet s)
+only-due reset s h = goes-on-so (sym h ∙ reset-quiet s)
+only-due (timer r) s h = refl
+only-due (block r v d) s h = refl
+only-due (submit limit d) s h = goes-on-so (sym h ∙ submit-quiet s limit d)

@@ -2,24 +2,22 @@
 use mathlib.Core.Path.{_≡_, refl, sym, ap, _∙_}
 use mathlib.Core.List.{List}
 use mathlib.Core.Bool.{Bool, true, false, cond, _&&_}
-use Prim.Native.Nat.{ℕ, _+_, _-_, _≤_, _<_}
+use Prim.Native.Nat.{ℕ, _+_, _≤_, _<_, _-_}
 use native.Mathlib.Omega.{arith}
 use lib.ListN.{length, drop, length-drop}
 use lib.Seq.{length-take-le}
-use lib.Dec.{leb, ltb, eqb}
+use lib.Dec.{leb, ltb}
 use borrow.Author.Tests.{le-leb, lt-leb, leb-true, lt-ltb, le-ltb, eq-eqb, ne-eqb}
 use borrow.Rule.Slice.PartMut.{midOf, putMid}
 use Rattle.lists.specs.Bytes.{put, overwritten}
 use Rattle.lists.proofs.Put.{over-fits, back}
 use Rattle.lists.proofs.Tests.{and-left, and-right}
-use Rattle.station.specs.Station.{nextNumber, isDuplicate, validNumber, validStation, acted, drops, noState, Outcome, outcome, heldAfter, messageAfter, appends, expectedBlock, openBlock, stationBlock, blockOf, naks, nakOf, endOf, openedOf, opened}
+use Rattle.station.specs.Station.{nextNumber, isDuplicate, validNumber, validStation, drops, noState, outcome, heldAfter, messageAfter, appends, expectedBlock, openBlock, stationBlock, blockOf, naks, nakOf, endOf, openedOf, opened}
 use Rattle.station.specs.declared.Station.{Station}
 use Rattle.station.specs.declared.Station.the-variants.{Closed, Open}
 use Rattle.station.specs.declared.Ending.{Ending}
-use Rattle.station.specs.declared.Reply.{Reply}
 use Rattle.station.specs.declared.Reply.the-variants.{NoReply, Ack, Nak, Eot}
 use Rattle.station.specs.declared.Message.{Message}
-use Rattle.station.specs.declared.Acted.{Acted}
 
 pub next-wraps : (n : ℕ) → n ≡ 7 → 0 ≡ nextNumber n
 unfolding nextNumber
@@ -69,9 +67,6 @@ module _ (e h : ℕ) (x : Ending) (text b : List ℕ) where
   fits l m = sym (ap (λ (z : Bool). cond z (appends e h x text b) (outcome (drops Closed Eot) b)) (le-leb (h + length text) (length b) (omega arith)))
 
   module _ (n : ℕ) where
-    others : Outcome
-    others = cond (isDuplicate e n) (outcome (drops (Open e h) (Ack n)) b) (outcome (drops (Open e h) Nak) b)
-
     pub over-seven : 7 < n → outcome (drops (Open e h) Nak) b ≡ openBlock e h n x text b
     over-seven l = sym (rw (lt-ltb 7 n l))
 

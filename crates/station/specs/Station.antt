@@ -1,6 +1,6 @@
 -- Document 01, 'X3.28 receiving station' (000, C.3.1.5 and C.3.3.2): what it replies, appends and hands over.
 use mathlib.Core.List.{List}
-use mathlib.Core.Bool.{Bool, true, false, cond, _&&_}
+use mathlib.Core.Bool.{Bool, true, cond, _&&_}
 use Prim.Native.Nat.{ℕ, _+_}
 use lib.ListN.{length}
 use lib.Dec.{leb, ltb, eqb}

@@ -1,6 +1,6 @@
 -- What the C functions of the X3.28 station return and leave in what was passed, for every input (include/giamuvich.h).
 use mathlib.Core.List.{List, [], _∷_}
-use mathlib.Core.Bool.{Bool, true, false, cond, _&&_}
+use mathlib.Core.Bool.{cond, _&&_}
 use Prim.Native.Nat.{ℕ}
 use lib.ListN.{length, getD}
 use lib.Dec.{ltb, eqb}
@@ -8,7 +8,6 @@ use Rattle.lists.specs.Bytes.{over}
 use Rattle.station.specs.Station.{Outcome, blockOf, nakOf, endOf, openedOf}
 use Rattle.station.specs.declared.Station.{Station}
 use Rattle.station.specs.declared.Station.the-variants.{Closed, Open}
-use Rattle.station.specs.declared.Ending.{Ending}
 use Rattle.station.specs.declared.Ending.the-variants.{Etb, Etx}
 use Rattle.station.specs.declared.Reply.{Reply}
 use Rattle.station.specs.declared.Reply.the-variants.{NoReply, Ack, Nak, Eot}

@@ -1,16 +1,16 @@
 -- The station is what its history says.
 use mathlib.Core.Path.{_≡_, refl, sym, ap, _∙_, subst}
-use mathlib.Core.List.{List, [], _∷_, _++_}
-use mathlib.Core.Bool.{Bool, true, false, cond, _&&_}
+use mathlib.Core.List.{List, [], _∷_}
+use mathlib.Core.Bool.{Bool, true, false, cond}
 use Prim.Native.Nat.{ℕ, _+_, _≤_}
 use native.Mathlib.Omega.{arith}
 use lib.ListN.{length, take, length-append}
 use lib.Dec.{leb, ltb, eqb}
-use borrow.Author.Tests.{le-leb, le-ltb, leb-true, eqb-true, ltb-true}
+use borrow.Author.Tests.{le-leb, leb-true, eqb-true, ltb-true}
 use Rattle.lists.specs.Bytes.{put}
 use Rattle.lists.proofs.Put.{length-put}
 use Rattle.lists.proofs.Tests.{cond-ind}
-use Rattle.station.specs.Station.{opened, nextNumber, isDuplicate, validNumber, validStation, drops, noState, outcome, heldAfter, messageAfter, appends, expectedBlock, openBlock, stationBlock, blockOf, naks, nakOf, endOf, Outcome}
+use Rattle.station.specs.Station.{nextNumber, isDuplicate, validNumber, validStation, drops, noState, outcome, appends, stationBlock, blockOf, naks, nakOf, endOf, Outcome}
 use Rattle.station.specs.declared.Station.{Station}
 use Rattle.station.specs.declared.Station.the-variants.{Closed, Open}
 use Rattle.station.specs.declared.Ending.{Ending}
@@ -18,7 +18,7 @@ use Rattle.station.specs.declared.Ending.the-variants.{Etb, Etx}
 use Rattle.station.specs.declared.Acted.{Acted}
 use Rattle.station.specs.declared.Reply.{Reply}
 use Rattle.station.specs.declared.Reply.the-variants.{NoReply, Ack, Nak, Eot}
-use Rattle.station_theorems.specs.History.{Unit, good, bad, enquiry, end, Block, block, expectedAfter, joined, textOf, completed, messagesOf, Past, past, fits, goodAfter, unitAfter, pastOf, stationOf, goodReply, openReply, replyOf, Run, outcomeOf, handed, goesOn, runOf}
+use Rattle.station_theorems.specs.History.{Unit, good, bad, enquiry, end, Block, block, expectedAfter, textOf, messagesOf, Past, past, fits, goodAfter, unitAfter, pastOf, stationOf, goodReply, openReply, replyOf, Run, outcomeOf, goesOn, runOf}
 use Rattle.station_theorems.proofs.Texts.{goes-round, appended-text}
 
 -- a run r stands where the history p says, with a buffer of c bytes

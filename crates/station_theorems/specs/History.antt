@@ -13,7 +13,6 @@ use Rattle.station.specs.declared.Reply.{Reply}
 use Rattle.station.specs.declared.Reply.the-variants.{NoReply, Ack, Nak, Eot}
 use Rattle.station.specs.declared.Message.{Message}
 use Rattle.station.specs.declared.Message.the-variants.{Incomplete, Complete}
-use Rattle.station.specs.declared.Acted.{Acted}
 
 -- what the driver reports: a good block with number, ending and text, a bad block, one ended by ENQ, EOT
 pub data Unit : Type 0 where

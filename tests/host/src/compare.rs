@@ -15,7 +15,8 @@ pub const GUARD_BYTE: u8 = 0xC3;
 /// Draws random numbers for a group and counts what was compared: calls of the functions for
 /// blocks, and messages that were read or written. Of the messages read, those with a header that
 /// the model reads are counted too, and those with an answer. Acts are calls of the functions for
-/// the receiver and the sender, those on simulated links apart; acts of stations are counted apart too.
+/// the receiver and the sender, those on simulated links apart, with the runs of such links; acts of
+/// stations are counted apart too.
 pub struct Compare {
     pub random: Random,
     pub inputs: u64,
@@ -24,6 +25,7 @@ pub struct Compare {
     pub answers: u64,
     pub acts: u64,
     pub link_acts: u64,
+    pub link_runs: u64,
     pub kinds: Kinds,
     pub station: StationCounts,
 }
@@ -112,6 +114,7 @@ impl Compare {
             answers: 0,
             acts: 0,
             link_acts: 0,
+            link_runs: 0,
             kinds: Kinds::default(),
             station: StationCounts::default(),
         }

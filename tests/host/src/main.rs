@@ -10,6 +10,11 @@ mod guarded;
 mod library;
 mod line;
 mod link;
+mod link_checks;
+mod link_counts;
+mod link_deviation;
+mod link_ends;
+mod link_schedule;
 mod make;
 mod make_ends;
 mod make_messages;
@@ -22,19 +27,20 @@ use std::time::Instant;
 
 const SEED: u64 = 20_261_115;
 
-const COUNTS: usize = 20;
+const COUNTS: usize = 21;
 
 /// How many inputs a whole run compares at least: calls of the functions for blocks; messages read
 /// or written; of the messages read, those whose header can be read, and those that are answers;
-/// acts of the receiver and the sender compared with the model; acts on simulated links; of the acts
-/// compared, those of each kind; and acts of stations, with what happened in them.
+/// acts of the receiver and the sender compared with the model; acts on simulated links, and runs of
+/// such links; of the acts compared, those of each kind; and acts of stations, with what happened in them.
 const LEAST: [(&str, u64); COUNTS] = [
     ("inputs", 1_000_000),
     ("messages", 2_000_000),
     ("readable headers", 500_000),
     ("readable answers", 250_000),
     ("acts", 1_000_000),
-    ("acts on links", 500_000),
+    ("acts on links", 20_000_000),
+    ("link runs", 100_000),
     ("acts of hybrid receivers", 200_000),
     ("acts of minimal receivers", 100_000),
     ("acts with r of 0", 50_000),
@@ -62,6 +68,7 @@ fn counts(compare: &Compare) -> [u64; COUNTS] {
         compare.answers,
         compare.acts,
         compare.link_acts,
+        compare.link_runs,
         kinds.hybrid,
         kinds.minimal,
         none,
@@ -116,9 +123,11 @@ fn tally(compare: &Compare) -> String {
 
 /// What a whole run compared besides inputs.
 fn print_counts(compared: &[u64; COUNTS]) {
-    let [_, messages, headers, answers, acts, link_acts, kinds @ ..] = compared;
+    let [_, messages, headers, answers, acts, link_acts, link_runs, kinds @ ..] = compared;
     println!("{messages} messages, of them {headers} readable headers, {answers} readable answers");
-    println!("{acts} acts of the receiver and the sender, and {link_acts} on links");
+    println!(
+        "{acts} acts of the receiver and the sender, and {link_acts} in {link_runs} link runs"
+    );
     for (count, (what, _)) in kinds.iter().zip(&LEAST[COUNTS - kinds.len()..]) {
         println!("  {count} {what}");
     }

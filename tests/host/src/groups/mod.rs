@@ -125,6 +125,8 @@ pub const ALL: &[(&str, Group)] = &[
     ("sender_refusals", sender_words::sender_refusals),
     ("control_blocks", sender_words::control_blocks),
     ("links", links::links),
+    ("link_deviations", links::link_deviations),
+    ("answer_of_earlier_run", links::answer_of_earlier_run),
     ("ends_null_pointers", ends_memory::ends_null_pointers),
     ("ends_guard_pages", ends_memory::ends_guard_pages),
     ("station_by_hand", station_hand::station_by_hand),

@@ -1,0 +1,156 @@
+-- What stands in the queues of a link: requests that can be read in order, and answers that the receiver gave.
+use mathlib.Core.Path.{_≡_, refl, sym, subst}
+use mathlib.Core.List.{List, [], _∷_, _++_}
+use mathlib.Core.Bool.{Bool, false}
+use mathlib.Core.Logic.{_⊎_}
+use Prim.Native.Nat.{ℕ, _+_, _≤_}
+use native.Mathlib.Omega.{arith}
+use Rattle.numbers.specs.declared.SequenceNumber.{SequenceNumber}
+use Rattle.numbers.specs.declared.SequenceNumber.the-variants.{MinusOne, Number}
+use Rattle.header.specs.declared.Code.{Code}
+use Rattle.header.specs.declared.Code.the-variants.{AA, AE, AR}
+use Rattle.receiver.specs.Receiver.{expectedNumber}
+use Rattle.receiver.specs.declared.Expected.{Expected}
+
+-- ---- every one, and some of them in their order
+pub data All {A : Type 0} (P : A → Type 0) : List A → Type 0 where
+  none : All P []
+  more : {x : A} {xs : List A} → P x → All P xs → All P (x ∷ xs)
+
+pub data Sub {A : Type 0} : List A → List A → Type 0 where
+  empty : Sub [] []
+  skip : {y : A} {xs ys : List A} → Sub xs ys → Sub xs (y ∷ ys)
+  keep : {x : A} {xs ys : List A} → Sub xs ys → Sub (x ∷ xs) (x ∷ ys)
+
+pub sub-all : {A : Type 0} (xs : List A) → Sub xs xs
+sub-all [] = empty
+sub-all (x ∷ xs) = keep (sub-all xs)
+
+pub all-sub : {A : Type 0} {P : A → Type 0} {xs ys : List A} → Sub xs ys → All P ys → All P xs
+all-sub empty none = none
+all-sub (skip s) (more p ps) = all-sub s ps
+all-sub (keep s) (more p ps) = more p (all-sub s ps)
+
+pub all-map : {A : Type 0} {P Q : A → Type 0} {xs : List A} → ((x : A) → P x → Q x) → All P xs → All Q xs
+all-map f none = none
+all-map f (more {x = x} p ps) = more (f x p) (all-map f ps)
+
+pub all-append : {A : Type 0} {P : A → Type 0} {xs ys : List A} → All P xs → All P ys → All P (xs ++ ys)
+all-append none qs = qs
+all-append (more p ps) qs = more p (all-append ps qs)
+
+pub all-left : {A : Type 0} {P : A → Type 0} (xs ys : List A) → All P (xs ++ ys) → All P xs
+all-left [] ys ps = none
+all-left (x ∷ xs) ys (more p ps) = more p (all-left xs ys ps)
+
+pub all-right : {A : Type 0} {P : A → Type 0} (xs ys : List A) → All P (xs ++ ys) → All P ys
+all-right [] ys ps = ps
+all-right (x ∷ xs) ys (more p ps) = all-right xs ys ps
+
+pub all-end : {A : Type 0} {P : A → Type 0} {xs : List A} {y : A} → All P xs → P y → All P (xs ++ y ∷ [])
+all-end ps q = all-append ps (more q none)
+
+pub all-head : {A : Type 0} {P : A → Type 0} {x : A} {xs : List A} → All P (x ∷ xs) → P x
+all-head (more p ps) = p
+
+pub all-tail : {A : Type 0} {P : A → Type 0} {x : A} {xs : List A} → All P (x ∷ xs) → All P xs
+all-tail (more p ps) = ps
+
+-- ---- requests
+abbrev pub IsMinusOne : SequenceNumber → Type 0
+IsMinusOne v = v ≡ MinusOne
+
+abbrev pub IsZero : SequenceNumber → Type 0
+IsZero v = v ≡ Number 0
+
+abbrev pub NotOver : ℕ → SequenceNumber → Type 0
+NotOver k MinusOne = 0 ≤ k
+NotOver k (Number m) = m ≤ k
+
+pub not-over-more : (j k : ℕ) → j ≤ k → (v : SequenceNumber) → NotOver j v → NotOver k v
+not-over-more j k l MinusOne h = omega arith
+not-over-more j k l (Number m) h = omega arith
+
+-- a receiver that has the numbers up to h can read these in order: each -1 before any transaction, and transactions that go up by at most one from what it has
+pub data Good (f : ℕ) : ℕ → List SequenceNumber → Type 0 where
+  good-none : {h : ℕ} → Good f h []
+  good-minus : {h : ℕ} {p : List SequenceNumber} → h ≡ f → Good f h p → Good f h (MinusOne ∷ p)
+  good-zero : {h n : ℕ} {p : List SequenceNumber} → n ≡ 0 → Good f h p → Good f h (Number n ∷ p)
+  good-number : {h n : ℕ} {p : List SequenceNumber} → 1 ≤ n → f ≤ n → h ≤ n + 1 → Good f (n + 1) p → Good f h (Number n ∷ p)
+
+module _ (f : ℕ) where
+  pub good-lower : {h : ℕ} {p : List SequenceNumber} (k : ℕ) → f ≤ k → k ≤ h → Good f h p → Good f k p
+  good-lower k a b good-none = good-none
+  good-lower k a b (good-minus e g) = good-minus {h = k} (omega (arith, e)) (good-lower k a b g)
+  good-lower k a b (good-zero e g) = good-zero e (good-lower k a b g)
+  good-lower k a b (good-number l m n g) = good-number {h = k} l m (omega arith) g
+
+  pub good-skip : {h : ℕ} {v : SequenceNumber} {p : List SequenceNumber} → f ≤ h → Good f h (v ∷ p) → Good f h p
+  good-skip a (good-minus e g) = g
+  good-skip a (good-zero e g) = g
+  good-skip {h = h} a (good-number l m n g) = good-lower h a n g
+
+  pub good-sub : {h : ℕ} {xs ys : List SequenceNumber} (p : List SequenceNumber) → f ≤ h → Sub xs ys → Good f h (ys ++ p) → Good f h (xs ++ p)
+  good-sub p a empty g = g
+  good-sub p a (skip s) g = good-sub p a s (good-skip a g)
+  good-sub p a (keep s) (good-minus e g) = good-minus e (good-sub p a s g)
+  good-sub p a (keep s) (good-zero e g) = good-zero e (good-sub p a s g)
+  good-sub p a (keep s) (good-number l m n g) = good-number l m n (good-sub p (omega arith) s g)
+
+  -- what stands behind others, for a receiver that has no more
+  pub good-behind : {h : ℕ} (xs p : List SequenceNumber) (k : ℕ) → f ≤ k → k ≤ h → Good f h (xs ++ p) → Good f k p
+  good-behind [] p k a b g = good-lower k a b g
+  good-behind (v ∷ xs) p k a b (good-minus e g) = good-behind xs p k a b g
+  good-behind (v ∷ xs) p k a b (good-zero e g) = good-behind xs p k a b g
+  good-behind (v ∷ xs) p k a b (good-number l m n g) = good-behind xs p k a (omega arith) g
+
+  pub good-minus-ones : {h : ℕ} {p : List SequenceNumber} → h ≡ f → All IsMinusOne p → Good f h p
+  good-minus-ones e none = good-none
+  good-minus-ones {h = h} e (more {x = x} {xs = xs} q qs) = subst (λ (v : SequenceNumber). Good f h (v ∷ xs)) (sym q) (good-minus e (good-minus-ones e qs))
+
+  pub good-end-zero : {h : ℕ} {p : List SequenceNumber} → Good f h p → Good f h (p ++ Number 0 ∷ [])
+  good-end-zero good-none = good-zero refl good-none
+  good-end-zero (good-minus e g) = good-minus e (good-end-zero g)
+  good-end-zero (good-zero e g) = good-zero e (good-end-zero g)
+  good-end-zero (good-number l m n g) = good-number l m n (good-end-zero g)
+
+  pub good-end : {h : ℕ} {p : List SequenceNumber} (k : ℕ) → 1 ≤ k → f ≤ k → h ≤ k + 1 → All (NotOver k) p → Good f h p → Good f h (p ++ Number k ∷ [])
+  good-end k a b c none good-none = good-number a b c good-none
+  good-end k a b c (more o os) (good-minus e g) = good-minus e (good-end k a b c os g)
+  good-end k a b c (more o os) (good-zero e g) = good-zero e (good-end k a b c os g)
+  good-end k a b c (more o os) (good-number l m n g) = good-number l m n (good-end k a b (omega arith) os g)
+
+-- ---- replies: an answer to the message with a number, or an N block
+pub data Answer : Type 0 where
+  replies : SequenceNumber → Code → SequenceNumber → Answer
+  refuses : ℕ → Answer
+
+-- the answer to a number k, from a receiver that has the numbers up to h
+pub data ToNumber (h k : ℕ) (c : Code) (n : SequenceNumber) : Type 0 where
+  to-zero : k ≡ 0 → c ≡ AA → ToNumber h k c n
+  to-stored : 1 ≤ k → (c ≡ AA) ⊎ (c ≡ AE) → n ≡ Number k → k + 1 ≤ h → ToNumber h k c n
+  to-repeat : 1 ≤ k → c ≡ AR → n ≡ Number (k + 1) → k + 1 ≤ h → ToNumber h k c n
+
+pub record ToMinusOne (o : Bool) (c : Code) (n : SequenceNumber) : Type 0 where
+  pub code : c ≡ AA
+  pub number : n ≡ MinusOne
+  pub new : o ≡ false
+
+-- o: the receiver may still expect a number that an earlier tenant left
+abbrev pub True : Bool → ℕ → Answer → Type 0
+True o h (replies MinusOne c n) = ToMinusOne o c n
+True o h (replies (Number k) c n) = ToNumber h k c n
+True o h (refuses r) = 0 ≤ h
+
+pub true-more : (o q : Bool) (h k : ℕ) → (o ≡ false → q ≡ false) → h ≤ k → (a : Answer) → True o h a → True q k a
+true-more o q h k f l (replies MinusOne c n) t = record { code = t .code; number = t .number; new = f (t .new) }
+true-more o q h k f l (replies (Number m) c n) (to-zero a b) = to-zero a b
+true-more o q h k f l (replies (Number m) c n) (to-stored a b d e) = to-stored a b d (omega arith)
+true-more o q h k f l (replies (Number m) c n) (to-repeat a b d e) = to-repeat a b d (omega arith)
+true-more o q h k f l (refuses r) t = omega arith
+
+-- an answer to 0 says what is expected
+abbrev pub SaysExpected : Expected → Answer → Type 0
+SaysExpected e (replies MinusOne c n) = n ≡ n
+SaysExpected e (replies (Number k) c n) = k ≡ 0 → n ≡ expectedNumber e
+SaysExpected e (refuses r) = r ≡ r

@@ -1,0 +1,5 @@
+pub mod Line
+pub mod System
+pub mod Promise
+pub mod Nights
+pub mod Example

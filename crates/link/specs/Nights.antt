@@ -1,0 +1,58 @@
+-- The night of slot 7: "The card still held an answer to that clinic's number 1. The next tenant's sender opened, sent its own number 1, and the line dropped it. Then the old answer came out."
+use mathlib.Core.List.{List, []}
+use mathlib.Core.Bool.{true, false}
+use Prim.Native.Nat.{ℕ, _+_, _-_}
+use Rattle.block.specs.Format.{blockOf}
+use Rattle.numbers.specs.Numbers.{textOf}
+use Rattle.numbers.specs.declared.SequenceNumber.the-variants.{MinusOne, Number}
+use Rattle.header.specs.declared.Code.the-variants.{AA}
+use Rattle.messages.specs.Messages.{answerMessage}
+use Rattle.receiver.specs.declared.Expected.{Expected}
+use Rattle.receiver.specs.declared.Expected.the-variants.{Next}
+use Rattle.sender.specs.declared.Persisted.{Persisted}
+use Rattle.sender.specs.declared.Waiting.the-variants.{Closed, Resynchronizing, Sending}
+use Rattle.link.specs.Line.{newReader}
+use Rattle.link.specs.System.{Link, System}
+
+-- the new tenant's sender takes the line for resynchronised, though no exchange was made on it; its first transaction waits
+abbrev pub believing : Link → Persisted
+believing l = record { first = l .first; delivered = l .first - 1; last = l .first; resynchronized = true; frozen = false }
+
+-- and the line back, not empty, has the earlier tenant's answer to that number
+abbrev pub oldAnswer : Link → List ℕ
+oldAnswer l = blockOf (l .settings) 68 (answerMessage (textOf (Number (l .first))) AA (Number (l .first)))
+
+abbrev pub nightOf : Link → Expected → System
+nightOf l e =
+    record {
+      sending = record { sender = record { persisted = believing l; waiting = Sending; sends = 1 }; persisted = believing l; named = []; reader = newReader; history = [] };
+      receiving = record { expected = e; has = []; keptExpected = e; keptHas = []; owed = []; reader = newReader };
+      forward = [];
+      back = oldAnswer l;
+    }
+
+-- the empty line, but no exchange: the sender takes the line for resynchronised, and the receiver still expects what the earlier tenant left, the number after the new tenant's first
+abbrev pub withoutExchange : Link → System
+withoutExchange l =
+    record {
+      sending = record { sender = record { persisted = believing l; waiting = Closed; sends = 0 }; persisted = believing l; named = []; reader = newReader; history = [] };
+      receiving = record { expected = Next (l .first + 1); has = []; keptExpected = Next (l .first + 1); keptHas = []; owed = []; reader = newReader };
+      forward = [];
+      back = [];
+    }
+
+-- the exchange, but not the empty line: -1 was sent and lost, and the line back has the earlier tenant's answer to its own -1
+abbrev pub beginning : Link → Persisted
+beginning l = record { first = l .first; delivered = l .first - 1; last = l .first; resynchronized = false; frozen = false }
+
+abbrev pub oldExchange : Link → List ℕ
+oldExchange l = blockOf (l .settings) 68 (answerMessage (textOf MinusOne) AA MinusOne)
+
+abbrev pub withOldAnswer : Link → System
+withOldAnswer l =
+    record {
+      sending = record { sender = record { persisted = beginning l; waiting = Resynchronizing; sends = 1 }; persisted = beginning l; named = []; reader = newReader; history = [] };
+      receiving = record { expected = Next (l .first + 1); has = []; keptExpected = Next (l .first + 1); keptHas = []; owed = []; reader = newReader };
+      forward = [];
+      back = oldExchange l;
+    }

@@ -1,0 +1,55 @@
+-- Demand 3: what is assumed of a link, and what holds at every moment of every run.
+use mathlib.Core.Path.{_≡_}
+use mathlib.Core.List.{List, [], _∷_, _++_}
+use mathlib.Core.Bool.{true, false}
+use Prim.Native.Nat.{ℕ, zero, suc, _+_, _≤_}
+use lib.ListN.{length}
+use Rattle.settings.specs.Settings.{validLink}
+use Rattle.settings.specs.declared.Settings.{Settings}
+use Rattle.data_bytes.specs.DataBytes.{allAllowed}
+use Rattle.numbers.specs.Numbers.{greatestSent}
+use Rattle.numbers.specs.declared.SequenceNumber.the-variants.{Number}
+use Rattle.messages.specs.Messages.{validType}
+use Rattle.message_theorems.specs.ReadBack.{ReadsControl}
+use Rattle.receiver.specs.Receiver.{replySpace}
+use Rattle.link.specs.System.{Link, System}
+
+-- a message that the sender takes as the transaction n: it fits a block, and its MSH-10 and MSH-13 are n
+pub record Logged (g : Settings) (n : ℕ) (message : List ℕ) : Type 0 where
+  pub fits : length message ≤ g .«data_limit»
+  pub allowed : allAllowed message ≡ true
+  pub reads : ReadsControl message (Number n)
+
+-- settings within their ranges, a log of such messages, and a buffer for replies
+pub record Ready (l : Link) : Type 0 where
+  pub settings : validLink (l .settings) ≡ true
+  pub first-least : 1 ≤ l .first
+  pub first-most : l .first ≤ greatestSent
+  pub resends : l .resends ≤ 99
+  pub name : validType (l .name) ≡ true
+  pub logged : (n : ℕ) → l .first ≤ n → n ≤ greatestSent → Logged (l .settings) n (l .log n)
+  pub reply : replySpace (l .settings) ≤ length (l .reply)
+
+-- the first n transactions of the log, in order
+unfoldable pub transactions : Link → ℕ → List (List ℕ)
+transactions l zero = []
+transactions l (suc n) = transactions l n ++ l .log (l .first + n) ∷ []
+
+-- "the receiver has the first k transactions, each once, in order, and the sender's mark covers k or k less one": both as it is held and as it is stored.
+-- The mark covers j transactions where it is f - 1 + j.
+pub record Covers (l : Link) (delivered k : ℕ) : Type 0 where
+  pub at-most : delivered + 1 ≤ l .first + k
+  pub at-least : l .first + k ≤ delivered + 2
+
+pub record Safe (l : Link) (y : System) : Type 0 where
+  pub held : ℕ
+  pub kept : ℕ
+  pub has : y .receiving .has ≡ transactions l held
+  pub kept-has : y .receiving .keptHas ≡ transactions l kept
+  pub covers : Covers l (y .sending .sender .persisted .delivered) kept
+  pub kept-covers : Covers l (y .sending .persisted .delivered) kept
+  pub held-covers : Covers l (y .sending .sender .persisted .delivered) held
+  pub kept-held-covers : Covers l (y .sending .persisted .delivered) held
+  -- "The sender never freezes."
+  pub thawed : y .sending .sender .persisted .frozen ≡ false
+  pub kept-thawed : y .sending .persisted .frozen ≡ false

@@ -1,0 +1,135 @@
+//! The two ends of a simulated link: what each holds and what of it is persisted.
+
+use crate::line::{Arrived, Reader};
+use crate::link_counts::Kind;
+use host::ends_ffi::names::{
+    ACT_EVENT, ACT_SEND, ACT_SEND_NUMBER, ACT_WORDS, EVENT_ABANDONED, SENDER_DELIVERED,
+    SENDER_PERSISTED_WORDS, SENDER_WAITING, SENDER_WORDS, SEND_NOTHING, SEND_QUERY,
+    SEND_RESYNCHRONIZE, SEND_TRANSACTION, WAITING_CLOSED, WAITING_QUERY, WAITING_RESYNCHRONIZE,
+    WAITING_TRANSACTION,
+};
+use host::model::Settings;
+use std::collections::VecDeque;
+
+/// A message as a report names it, with the number of a transaction.
+pub type Message = [u64; 2];
+
+/// An act of the sender, or a crash of it, in the history: what it sent and what waited then.
+pub struct Entry {
+    pub sent: Option<Message>,
+    pub waits: Option<Message>,
+}
+
+/// The sending end: its words, those persisted, what was named and not yet written, its reader, a
+/// block that was read and not yet reported, and the history.
+pub struct SendingEnd {
+    pub state: [u64; SENDER_WORDS],
+    pub persisted: [u64; SENDER_PERSISTED_WORDS],
+    pub named: VecDeque<Message>,
+    pub reader: Reader,
+    pub arrived: Option<Arrived>,
+    pub history: Vec<Entry>,
+}
+
+impl SendingEnd {
+    pub fn new(state: [u64; SENDER_WORDS], settings: &Settings) -> SendingEnd {
+        let mut persisted = [0; SENDER_PERSISTED_WORDS];
+        persisted.copy_from_slice(&state[..SENDER_PERSISTED_WORDS]);
+        SendingEnd {
+            state,
+            persisted,
+            named: VecDeque::new(),
+            reader: Reader::new(settings),
+            arrived: None,
+            history: Vec::new(),
+        }
+    }
+
+    pub fn waiting(&self) -> Option<Message> {
+        let next = self.state[SENDER_DELIVERED].wrapping_add(1);
+        match self.state[SENDER_WAITING] {
+            WAITING_RESYNCHRONIZE => Some([SEND_RESYNCHRONIZE, 0]),
+            WAITING_QUERY => Some([SEND_QUERY, 0]),
+            WAITING_TRANSACTION => Some([SEND_TRANSACTION, next]),
+            _ => None,
+        }
+    }
+
+    /// The sends made of a message since it began to wait on this circuit.
+    pub fn sends_made(&self, message: Option<Message>) -> u64 {
+        let entries = self.history.iter().rev();
+        let since = entries.take_while(|entry| entry.waits.is_some() && entry.waits == message);
+        since.filter(|entry| entry.sent == message).count() as u64
+    }
+
+    pub fn has_circuit(&self) -> bool {
+        self.state[SENDER_WAITING] != WAITING_CLOSED
+    }
+
+    pub fn is_persisted(&self) -> bool {
+        self.persisted == self.state[..SENDER_PERSISTED_WORDS]
+    }
+}
+
+/// The receiving end: its word and the transactions with their verdicts, as they are held and as
+/// they are persisted; the replies not yet sent; its reader, and a block that was read and not yet
+/// acted on.
+pub struct ReceivingEnd {
+    pub state: [u64; 1],
+    pub transactions: Vec<(Vec<u8>, u64)>,
+    pub persisted: [u64; 1],
+    pub persisted_count: usize,
+    pub owed: VecDeque<Vec<u8>>,
+    pub reader: Reader,
+    pub arrived: Option<Arrived>,
+}
+
+impl ReceivingEnd {
+    pub fn new(expected: u64, settings: &Settings) -> ReceivingEnd {
+        ReceivingEnd {
+            state: [expected],
+            transactions: Vec::new(),
+            persisted: [expected],
+            persisted_count: 0,
+            owed: VecDeque::new(),
+            reader: Reader::new(settings),
+            arrived: None,
+        }
+    }
+
+    pub fn is_persisted(&self) -> bool {
+        self.state == self.persisted && self.transactions.len() == self.persisted_count
+    }
+}
+
+/// An act of the sender: its kind, its number, the words before it, what waited and how many sends were made
+/// of it, what was due to be sent again, and the report.
+pub struct Report {
+    pub kind: Kind,
+    pub number: u64,
+    pub before: [u64; SENDER_WORDS],
+    pub waited: Option<Message>,
+    pub made: u64,
+    pub due: Option<Message>,
+    pub words: [u64; ACT_WORDS],
+}
+
+impl Report {
+    pub fn is_abandoned(&self) -> bool {
+        self.words[ACT_EVENT] == EVENT_ABANDONED
+    }
+}
+
+/// The message that a report names to send now.
+pub fn named(report: &[u64; ACT_WORDS]) -> Option<Message> {
+    (report[ACT_SEND] != SEND_NOTHING).then_some([report[ACT_SEND], report[ACT_SEND_NUMBER]])
+}
+
+/// The control ID of a message.
+pub fn control_id(message: Message) -> String {
+    match message {
+        [SEND_RESYNCHRONIZE, _] => "-1".to_string(),
+        [SEND_QUERY, _] => "0".to_string(),
+        [_, number] => number.to_string(),
+    }
+}
