@@ -21,3 +21,4 @@ pub mod Progress
 pub mod Resuming
 pub mod Example
 pub mod Breaks
+pub mod OldRequest

@@ -12,7 +12,7 @@ use Rattle.receiver.specs.declared.Expected.the-variants.{Next}
 use Rattle.sender.specs.declared.Persisted.{Persisted}
 use Rattle.sender.specs.declared.Waiting.the-variants.{Closed, Resynchronizing, Sending}
 use Rattle.link.specs.Line.{newReader}
-use Rattle.link.specs.System.{Link, System}
+use Rattle.link.specs.System.{Link, System, startOf, requestOf}
 
 -- the new tenant's sender takes the line for resynchronised, though no exchange was made on it; its first transaction waits
 abbrev pub believing : Link → Persisted
@@ -55,4 +55,17 @@ withOldAnswer l =
       receiving = record { expected = Next (l .first + 1); has = []; keptExpected = Next (l .first + 1); keptHas = []; owed = []; reader = newReader };
       forward = [];
       back = oldExchange l;
+    }
+
+-- the line to the receiver is not empty: the earlier tenant, with a log of its own, left its request for the number that the receiver expects
+abbrev pub earlierLink : Link → (ℕ → List ℕ) → Link
+earlierLink l log = record { settings = l .settings; first = l .first; resends = l .resends; name = l .name; log = log; reply = l .reply }
+
+abbrev pub withOldRequest : Link → (ℕ → List ℕ) → System
+withOldRequest l log =
+    record {
+      sending = startOf l (Next (l .first)) .sending;
+      receiving = startOf l (Next (l .first)) .receiving;
+      forward = blockOf (l .settings) 68 (requestOf (earlierLink l log) (Number (l .first)));
+      back = [];
     }
