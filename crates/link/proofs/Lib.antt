@@ -22,3 +22,4 @@ pub mod Resuming
 pub mod Example
 pub mod Breaks
 pub mod OldRequest
+pub mod Twice
