@@ -118,6 +118,21 @@ module _ (l : Link) where
         go (abandons j q u) z = none-waits z
         go (shuts g j) z = none-waits z
 
+    -- the other way: what an act names is what waits after it
+    pub named-waits : (ds : List Do) (a : Act) (m : SequenceNumber) → actOf a (at ds .sending .sender) .send ≡ Numbered m → waitsOf (actOf a (at ds .sending .sender) .sender) ≡ Numbered m
+    named-waits ds a m w = go (steps (at ds .sending .sender) (run-valid ds) a) w
+      where
+        none-named : {P : Type 0} → Nothing ≡ Numbered m → P
+        none-named z = let y : _≡_ {A = ℕ} 0 1 = cc in absurd (omega arith)
+
+        go : {r n k : ℕ} {s t : Sender} {c : NumberedMessage} {x : Event} → Step r s n t c k x → c ≡ Numbered m → waitsOf t ≡ Numbered m
+        go (refuses q) z = none-named z
+        go (keeps q g j y) z = none-named z
+        go (starts g j f) z = z
+        go (resends q j) z = z
+        go (abandons j q u) z = none-named z
+        go (shuts g j) z = none-named z
+
     -- and where nothing waits on an open circuit, all that was submitted is delivered
     pub nothing-left : (ds : List Do) → at ds .sending .sender .waiting ≡ Idle → at ds .sending .sender .persisted .delivered ≡ at ds .sending .sender .persisted .last
     nothing-left ds z = subst (λ (w : Waiting). WaitsRight (at ds .sending .sender .persisted) w (at ds .sending .sender .sends)) z (right-from (at ds .sending .sender) (run-valid ds) .waits) .1 .all
