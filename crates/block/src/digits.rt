@@ -7,7 +7,7 @@ ghost use Rattle.block.specs.Format.{fiveDigits, threeDigits};
 ghost use Rattle.lists.specs.Bytes.{same};
 
 // Whether s is these three bytes.
-pub fn is_three(s: &[u8], a: u8, b: u8, c: u8) -> bool
+pub(crate) fn is_three(s: &[u8], a: u8, b: u8, c: u8) -> bool
     requires { ⌜ length (now s) ≡ 3 ⌝ }
     ensures { λ r. ⌜ r ≡ same (now (s .entry)) (a ∷ b ∷ c ∷ []) ⌝ }
 {
@@ -15,7 +15,7 @@ pub fn is_three(s: &[u8], a: u8, b: u8, c: u8) -> bool
 }
 
 // Whether s is the three digits of n.
-pub fn is_three_digits(s: &[u8], n: usize) -> bool
+pub(crate) fn is_three_digits(s: &[u8], n: usize) -> bool
     requires { ⌜ length (now s) ≡ 3 ⌝ }
     ensures { λ r. ⌜ r ≡ same (now (s .entry)) (threeDigits n) ⌝ }
 {
@@ -23,7 +23,7 @@ pub fn is_three_digits(s: &[u8], n: usize) -> bool
 }
 
 // Whether s is the five digits of n.
-pub fn is_five_digits(s: &[u8], n: usize) -> bool
+pub(crate) fn is_five_digits(s: &[u8], n: usize) -> bool
     requires { ⌜ length (now s) ≡ 5 ⌝ }
     ensures { λ r. ⌜ r ≡ same (now (s .entry)) (fiveDigits n) ⌝ }
 {

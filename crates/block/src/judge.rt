@@ -14,7 +14,7 @@ ghost use Rattle.block.specs.Format.{checksumOf};
 ghost use Rattle.block.specs.Judge.{isReason, typeMatches, checksumMatches, judgeParts, judgeHybrid, judgeMinimal, judge};
 
 // Whether data is one byte that gives a NAK block's reason: C, X, B or G.
-pub fn is_reason(s: &[u8]) -> bool
+pub(crate) fn is_reason(s: &[u8]) -> bool
     ensures { λ r. ⌜ r ≡ isReason (now (s .entry)) ⌝ }
 {
     if s.len() != 1 {

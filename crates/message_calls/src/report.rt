@@ -6,7 +6,7 @@ ghost use mathlib.Core.List.{[]};
 ghost use Rattle.message_calls.specs.MessageCalls.{wrote, writeFinished};
 
 // The number of what the writer answered, with the report written unless it was 1 or 2.
-pub fn report_written(written: MessageWritten, report: &mut [u64]) -> u64
+pub(crate) fn report_written(written: MessageWritten, report: &mut [u64]) -> u64
     ensures { λ r. ⌜ wrote r [] (now (report .exit)) ≡ writeFinished [] (now (report .entry)) written ⌝ }
 {
     match written {

@@ -11,7 +11,7 @@ ghost use Rattle.messages.specs.Messages.{codeText};
 ghost use Rattle.messages.specs.Internal.{Puts, headerPieces};
 
 // Writes a piece from `at` on, and returns the offset after it.
-pub fn put_piece(out: &mut [u8], at: usize, piece: &[u8]) -> usize
+pub(crate) fn put_piece(out: &mut [u8], at: usize, piece: &[u8]) -> usize
     requires { ⌜ at + length (now piece) ≤ length (now out) ⌝ }
     ensures { λ r. ⌜ Puts (now (out .entry)) at (now (piece .entry)) r (now (out .exit)) ⌝ }
 {
@@ -19,7 +19,7 @@ pub fn put_piece(out: &mut [u8], at: usize, piece: &[u8]) -> usize
     at + piece.len()
 }
 
-pub fn put_number(out: &mut [u8], at: usize, number: SequenceNumber) -> usize
+pub(crate) fn put_number(out: &mut [u8], at: usize, number: SequenceNumber) -> usize
     requires { ⌜ at + length (textOf number) ≤ length (now out) ⌝ }
     ensures { λ r. ⌜ Puts (now (out .entry)) at (textOf number) r (now (out .exit)) ⌝ }
 {
@@ -28,7 +28,7 @@ pub fn put_number(out: &mut [u8], at: usize, number: SequenceNumber) -> usize
     at + size
 }
 
-pub fn put_code(out: &mut [u8], at: usize, code: Code) -> usize
+pub(crate) fn put_code(out: &mut [u8], at: usize, code: Code) -> usize
     requires { ⌜ at + 2 ≤ length (now out) ⌝ }
     ensures { λ r. ⌜ Puts (now (out .entry)) at (codeText code) r (now (out .exit)) ⌝ }
 {
@@ -40,7 +40,7 @@ pub fn put_code(out: &mut [u8], at: usize, code: Code) -> usize
 }
 
 // MSH|^~\&|||||||TYPE|ID|P|2.3.1
-pub fn put_header(out: &mut [u8], at: usize, name: &[u8], control_id: &[u8]) -> usize
+pub(crate) fn put_header(out: &mut [u8], at: usize, name: &[u8], control_id: &[u8]) -> usize
     requires { ⌜ at + (24 + (length (now name) + length (now «control_id»))) ≤ length (now out) ⌝ }
     ensures { λ r. ⌜ Puts (now (out .entry)) at (headerPieces (now (name .entry)) (now («control_id» .entry))) r (now (out .exit)) ⌝ }
 {

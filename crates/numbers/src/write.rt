@@ -8,7 +8,7 @@ ghost use Rattle.lists.specs.Bytes.{put};
 ghost use Rattle.numbers.specs.Numbers.{decimal, textOf, written};
 
 // How many digits n has.
-pub fn digit_count(n: u64) -> usize
+pub(crate) fn digit_count(n: u64) -> usize
     ensures { λ r. ⌜ r ≡ length (decimal n) ⌝ }
 {
     let mut count = 1;
@@ -21,7 +21,7 @@ pub fn digit_count(n: u64) -> usize
 }
 
 // Writes the digits of n, the last one first.
-pub fn write_digits(out: &mut [u8], start: usize, n: u64)
+pub(crate) fn write_digits(out: &mut [u8], start: usize, n: u64)
     requires { ⌜ start + length (decimal n) ≤ length (now out) ⌝ }
     ensures { λ r. ⌜ now (out .exit) ≡ put (now (out .entry)) start (decimal n) ⌝ }
 {

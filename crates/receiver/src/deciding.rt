@@ -48,7 +48,7 @@ fn decide_data(kind: Kind, application: Application, expected: Expected, content
     Decision::Answers(control_id, table_row(application, expected, number))
 }
 
-pub fn decide(
+pub(crate) fn decide(
     kind: Kind,
     application: Application,
     expected: Expected,

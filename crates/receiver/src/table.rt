@@ -99,7 +99,7 @@ fn number_row(application: Application, expected: Expected, number: SequenceNumb
 }
 
 // The row for what MSH-13 holds.
-pub fn table_row(application: Application, expected: Expected, field: NumberField) -> Row
+pub(crate) fn table_row(application: Application, expected: Expected, field: NumberField) -> Row
     requires { ⌜ fieldFits field ≡ true ⌝ }
     ensures { λ r. ⌜ r ≡ rowOf application expected field ⌝ }
 {

@@ -6,7 +6,7 @@ use receiver::Transaction;
 ghost use mathlib.Core.Path.{_≡_};
 ghost use Rattle.receiver_calls.specs.ReceiverCalls.{expectedWord, expectedOf, applicationOf, transactionWord, isRefusal};
 
-pub fn expected_word(expected: Expected) -> u64
+pub(crate) fn expected_word(expected: Expected) -> u64
     ensures { λ r. ⌜ r ≡ expectedWord expected ⌝ }
 {
     match expected {
@@ -15,7 +15,7 @@ pub fn expected_word(expected: Expected) -> u64
     }
 }
 
-pub fn expected_of(word: u64) -> Expected
+pub(crate) fn expected_of(word: u64) -> Expected
     ensures { λ r. ⌜ r ≡ expectedOf word ⌝ }
 {
     if word == 0 {
@@ -24,7 +24,7 @@ pub fn expected_of(word: u64) -> Expected
     Expected::Next(word)
 }
 
-pub fn transaction_word(transaction: Transaction) -> u64
+pub(crate) fn transaction_word(transaction: Transaction) -> u64
     ensures { λ r. ⌜ r ≡ transactionWord transaction ⌝ }
 {
     match transaction {
@@ -33,7 +33,7 @@ pub fn transaction_word(transaction: Transaction) -> u64
     }
 }
 
-pub fn application_of(code: u64) -> ApplicationMade
+pub(crate) fn application_of(code: u64) -> ApplicationMade
     ensures { λ r. ⌜ r ≡ applicationOf code ⌝ }
 {
     if code == 1 {
@@ -46,7 +46,7 @@ pub fn application_of(code: u64) -> ApplicationMade
 }
 
 // Whether the act itself was refused.
-pub fn is_refusal(number: u64) -> bool
+pub(crate) fn is_refusal(number: u64) -> bool
     ensures { λ r. ⌜ r ≡ isRefusal number ⌝ }
 {
     (number == 1) | ((number == 2) | (number == 11))

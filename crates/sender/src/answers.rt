@@ -184,7 +184,7 @@ fn hear_with(sender: Sender, code: Code, number: SequenceNumber) -> Acted
 }
 
 // An answer to what waits: MSA-1 and MSA-4.
-pub fn hear(sender: Sender, code: CodeField, number: NumberField) -> Acted
+pub(crate) fn hear(sender: Sender, code: CodeField, number: NumberField) -> Acted
     requires { ⌜ Bounded sender ⌝ }
     ensures { λ r. ⌜ r ≡ heardOf sender code number ⌝ }
 {

@@ -127,7 +127,7 @@ fn again(resends: u64, sender: Sender) -> Acted
 }
 
 // A send falls due.
-pub fn fall_due(resends: u64, sender: Sender) -> Acted
+pub(crate) fn fall_due(resends: u64, sender: Sender) -> Acted
     requires { ⌜ resends ≤ 99 ⌝ }
     requires { ⌜ Bounded sender ⌝ }
     ensures { λ r. ⌜ r ≡ dueIn resends sender (sender .waiting) ⌝ }

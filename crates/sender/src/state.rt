@@ -52,7 +52,7 @@ fn is_waiting_state(p: Persisted, waiting: Waiting, n: u64) -> bool
 }
 
 // Every state that a run of acts can reach is one.
-pub fn is_state(sender: Sender) -> bool
+pub(crate) fn is_state(sender: Sender) -> bool
     ensures { λ r. ⌜ r ≡ validSender sender ⌝ }
 {
     let persisted = sender.persisted;
@@ -84,7 +84,7 @@ pub fn new_sender(first: u64) -> SenderMade
 }
 
 // The message that waits for its answer.
-pub fn waiting_message(p: Persisted, waiting: Waiting) -> NumberedMessage
+pub(crate) fn waiting_message(p: Persisted, waiting: Waiting) -> NumberedMessage
     requires { ⌜ p .delivered ≤ 999999999999999 ⌝ }
     ensures { λ r. ⌜ r ≡ waitingMessage p waiting ⌝ }
 {
@@ -109,7 +109,7 @@ fn first_sends(waiting: Waiting) -> u64
     }
 }
 
-pub fn is_open(waiting: Waiting) -> bool
+pub(crate) fn is_open(waiting: Waiting) -> bool
     ensures { λ r. ⌜ r ≡ isOpen waiting ⌝ }
 {
     match waiting {
@@ -121,7 +121,7 @@ pub fn is_open(waiting: Waiting) -> bool
     }
 }
 
-pub fn act(sender: Sender, send: NumberedMessage, sends: u64, event: Event) -> Acted
+pub(crate) fn act(sender: Sender, send: NumberedMessage, sends: u64, event: Event) -> Acted
     ensures { λ r. ⌜ r ≡ acted sender send sends event ⌝ }
 {
     Acted {
@@ -136,7 +136,7 @@ pub fn act(sender: Sender, send: NumberedMessage, sends: u64, event: Event) -> A
 }
 
 // Something begins to wait, and is sent.
-pub fn begin(p: Persisted, waiting: Waiting, event: Event) -> Acted
+pub(crate) fn begin(p: Persisted, waiting: Waiting, event: Event) -> Acted
     requires { ⌜ p .delivered ≤ 999999999999999 ⌝ }
     ensures { λ r. ⌜ r ≡ begins p waiting event ⌝ }
 {
@@ -150,13 +150,13 @@ pub fn begin(p: Persisted, waiting: Waiting, event: Event) -> Acted
 }
 
 // Nothing is sent.
-pub fn stay(sender: Sender, event: Event) -> Acted
+pub(crate) fn stay(sender: Sender, event: Event) -> Acted
     ensures { λ r. ⌜ r ≡ stays sender event ⌝ }
 {
     act(sender, NumberedMessage::Nothing, sender.sends, event)
 }
 
-pub fn refuse(number: u64, sender: Sender) -> Acted
+pub(crate) fn refuse(number: u64, sender: Sender) -> Acted
     ensures { λ r. ⌜ r ≡ refused number sender ⌝ }
 {
     Acted {
@@ -171,7 +171,7 @@ pub fn refuse(number: u64, sender: Sender) -> Acted
 }
 
 // What is no state.
-pub fn refuse_state(sender: Sender) -> Acted
+pub(crate) fn refuse_state(sender: Sender) -> Acted
     ensures { λ r. ⌜ r ≡ noState sender ⌝ }
 {
     Acted {
@@ -186,7 +186,7 @@ pub fn refuse_state(sender: Sender) -> Acted
 }
 
 // The circuit ends.
-pub fn close(p: Persisted, sends: u64, event: Event) -> Acted
+pub(crate) fn close(p: Persisted, sends: u64, event: Event) -> Acted
     ensures { λ r. ⌜ r ≡ closes p sends event ⌝ }
 {
     let next = Sender {

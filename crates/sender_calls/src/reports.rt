@@ -87,7 +87,7 @@ fn code_word(event: Event) -> u64
 }
 
 // Writes over the first eight words.
-pub fn write_act(words: &mut [u64], acted: Acted)
+pub(crate) fn write_act(words: &mut [u64], acted: Acted)
     requires { ⌜ 8 ≤ length (now words) ⌝ }
     ensures { λ r. ⌜ now (words .exit) ≡ over (now (words .entry)) (actWords acted) ⌝ }
 {

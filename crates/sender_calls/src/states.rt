@@ -48,7 +48,7 @@ fn waiting_of(word: u64) -> Waiting
 }
 
 // Writes over the first seven words.
-pub fn write_sender(words: &mut [u64], sender: Sender)
+pub(crate) fn write_sender(words: &mut [u64], sender: Sender)
     requires { ⌜ 7 ≤ length (now words) ⌝ }
     ensures { λ r. ⌜ now (words .exit) ≡ over (now (words .entry)) (senderWords sender) ⌝ }
 {
@@ -64,7 +64,7 @@ pub fn write_sender(words: &mut [u64], sender: Sender)
 }
 
 // The sender that the words encode; one with no first number where they encode none.
-pub fn read_sender(words: &[u64]) -> Sender
+pub(crate) fn read_sender(words: &[u64]) -> Sender
     requires { ⌜ 7 ≤ length (now words) ⌝ }
     ensures { λ r. ⌜ r ≡ senderIn (now (words .entry)) ⌝ }
 {

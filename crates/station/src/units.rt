@@ -7,7 +7,7 @@ ghost use mathlib.Core.Path.{_≡_};
 ghost use Rattle.station.specs.Station.{validNumber, drops, noState, naks, nakOf, endOf, openedOf};
 
 // Nothing is appended.
-pub fn drop_unit(station: Station, reply: Reply) -> Acted
+pub(crate) fn drop_unit(station: Station, reply: Reply) -> Acted
     ensures { λ r. ⌜ r ≡ drops station reply ⌝ }
 {
     Acted {
@@ -18,7 +18,7 @@ pub fn drop_unit(station: Station, reply: Reply) -> Acted
     }
 }
 
-pub fn refuse_state(station: Station) -> Acted
+pub(crate) fn refuse_state(station: Station) -> Acted
     ensures { λ r. ⌜ r ≡ noState station ⌝ }
 {
     Acted {

@@ -12,7 +12,7 @@ ghost use Rattle.lists.specs.Bytes.{over};
 ghost use Rattle.station_calls.specs.StationCalls.{stationWords, stationIn, endingOf, replyWord, replyNumber, completeWord, messageLength, actWords};
 
 // Writes over the first three words.
-pub fn write_station(words: &mut [u64], station: Station)
+pub(crate) fn write_station(words: &mut [u64], station: Station)
     requires { ⌜ 3 ≤ length (now words) ⌝ }
     ensures { λ r. ⌜ now (words .exit) ≡ over (now (words .entry)) (stationWords station) ⌝ }
 {
@@ -31,7 +31,7 @@ pub fn write_station(words: &mut [u64], station: Station)
 }
 
 // The station that the words encode; one that expects 8 where they encode none.
-pub fn read_station(words: &[u64]) -> Station
+pub(crate) fn read_station(words: &[u64]) -> Station
     requires { ⌜ 3 ≤ length (now words) ⌝ }
     ensures { λ r. ⌜ r ≡ stationIn (now (words .entry)) ⌝ }
 {
@@ -45,7 +45,7 @@ pub fn read_station(words: &[u64]) -> Station
     Station::Open(8, 0)
 }
 
-pub fn ending_of(number: u64) -> EndingMade
+pub(crate) fn ending_of(number: u64) -> EndingMade
     ensures { λ r. ⌜ r ≡ endingOf number ⌝ }
 {
     if number == 23 {
@@ -98,7 +98,7 @@ fn message_length(message: Message) -> u64
 }
 
 // Writes over the first four words.
-pub fn write_act(words: &mut [u64], acted: Acted)
+pub(crate) fn write_act(words: &mut [u64], acted: Acted)
     requires { ⌜ 4 ≤ length (now words) ⌝ }
     ensures { λ r. ⌜ now (words .exit) ≡ over (now (words .entry)) (actWords acted) ⌝ }
 {

@@ -4,7 +4,7 @@ ghost use mathlib.Core.List.{_++_};
 ghost use Prim.Native.Nat.{_≤_};
 ghost use lib.ListN.{length, drop};
 
-pub fn write_content(out: &mut [u8], content: &[u8])
+pub(crate) fn write_content(out: &mut [u8], content: &[u8])
     requires { ⌜ length (now content) ≤ length (now out) ⌝ }
     ensures { λ r. ⌜ now (out .exit) ≡ now (content .entry) ++ drop (length (now (content .entry))) (now (out .entry)) ⌝ }
 {

@@ -40,7 +40,7 @@ fn write_trailer(out: &mut [u8], count: usize, sum: usize, end_block: u8)
 }
 
 // Writes the block from that offset on, and returns its length.
-pub fn write_block(
+pub(crate) fn write_block(
     settings: Settings,
     t: u8,
     content: &[u8],

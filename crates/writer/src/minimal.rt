@@ -26,7 +26,12 @@ fn write_trailer(out: &mut [u8], end_block: u8)
 }
 
 // Writes the block from that offset on, and returns its length.
-pub fn write_block(settings: Settings, content: &[u8], buffer: &mut [u8], start: usize) -> usize
+pub(crate) fn write_block(
+    settings: Settings,
+    content: &[u8],
+    buffer: &mut [u8],
+    start: usize,
+) -> usize
     requires { ⌜ start + (length (now content) + 3) ≤ length (now buffer) ⌝ }
     ensures { λ r. ⌜ r ≡ length (minimalBlock settings (now (content .entry))) ⌝ }
     ensures { λ r. ⌜ now (buffer .exit) ≡ put (now (buffer .entry)) start (minimalBlock settings (now (content .entry))) ⌝ }
