@@ -4,3 +4,11 @@ mod check;
 mod fresh;
 mod read;
 mod write;
+
+pub use check::gmv_hybrid_check;
+pub use check::gmv_minimal_check;
+pub use fresh::gmv_reader_fresh;
+pub use read::gmv_hybrid_read;
+pub use read::gmv_minimal_read;
+pub use write::gmv_hybrid_write;
+pub use write::gmv_minimal_write;

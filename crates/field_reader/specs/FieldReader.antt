@@ -1,0 +1,30 @@
+-- Document 01, 'Header fields': "A reader over the message holds the bytes and its place and gives the next field each time". DECISIONS.md H-13. A position is the paper's place.
+use mathlib.Core.List.{List}
+use mathlib.Core.Bool.{cond}
+use Prim.Native.Nat.{ℕ, _+_}
+use lib.ListN.{length, getD}
+use lib.Dec.{ltb, eqb}
+use Rattle.fields.specs.Fields.{fieldOf}
+use Rattle.fields.specs.declared.Field.{Field}
+use Rattle.field_reader.specs.declared.Delimiter.{Delimiter}
+use Rattle.field_reader.specs.declared.Delimiter.the-variants.{Separator, SegmentEnd, MessageEnd}
+use Rattle.field_reader.specs.declared.NextField.{NextField}
+use Rattle.field_reader.specs.declared.NextField.the-variants.{NoField, Found}
+
+abbrev pub bar : ℕ
+bar = 124
+
+-- the offset of what ends a field
+abbrev pub endOf : Field → ℕ
+endOf f = f .start + f .length
+
+-- a field goes "up to the next bar or the CR"; one that neither ends reaches to the message's end
+abbrev pub foundOf : List ℕ → Field → NextField
+foundOf m f =
+    cond (ltb (endOf f) (length m))
+    (cond (eqb (getD m (endOf f) 0) bar) (Found f Separator (endOf f + 1)) (Found f SegmentEnd (endOf f + 1)))
+    (Found f MessageEnd (endOf f))
+
+-- the field with which the message goes on at a position, by the one definition of a field
+unfoldable pub nextOf : List ℕ → ℕ → NextField
+nextOf m at = cond (ltb at (length m)) (foundOf m (fieldOf bar at 0 m)) NoField
