@@ -22,7 +22,7 @@ module _ (m : List ℕ) (at : ℕ) where
     pub end-inside : f .start + f .length ≤ length m
     end-inside = rw is (field-inside 124 m at 0 (omega arith))
 
-    next-is : nextOf m at ≡ foundOf m f
+    pub next-is : nextOf m at ≡ foundOf m f
     unfolding nextOf
     next-is = simp (lt-ltb at (length m) h, sym is)
 

@@ -1,1 +1,2 @@
 pub mod FieldReader
+pub mod Steps

@@ -64,7 +64,10 @@ pub fn next<'a>(reader: FieldReader<'a>) -> NextField
 pub fn moved<'a>(reader: FieldReader<'a>, position: usize) -> FieldReader<'a>
     ensures { λ r. ⌜ (r .message ≡ reader .entry .message) × (r .position ≡ position) ⌝ }
 {
-    FieldReader { message: reader.message, position }
+    FieldReader {
+        message: reader.message,
+        position,
+    }
 }
 
 // The next field of a message from `position` on, for callers that hold the message themselves.

@@ -1,8 +1,12 @@
 -- The public functions of the crate check_calls.
 use mathlib.Core.Path.{refl, sym, _∙_}
 use Rattle.uniqueness.specs.Unique.{Unique}
-use Rattle.check_calls.proofs.check_words.Kinds as check-words-kinds
+use Rattle.check_calls.proofs.check_words as check-words-contract
 use Rattle.check_calls.proofs.check_words.Reads as check-words-reads
 
-pub check-words : Unique check-words-kinds.ps check-words-kinds.r check-words-reads.Learnt
-check-words κs a z z′ ws ws′ h h′ = (λ i. (h ∙ sym h′) i .number, λ i. (tt, (tt, ((h ∙ sym h′) i .verdict, tt))))
+pub check-words : Unique check-words-contract.ended (λ M. check-words-contract.clauses {M = M})
+check-words = record {
+  told = check-words-reads.Learnt;
+  says = λ M 𝓤 H A mem run κs a g z e. refl;
+  one = λ κs a z z′ ws ws′ h h′. (λ i. (h ∙ sym h′) i .number, λ i. (tt, (tt, ((h ∙ sym h′) i .verdict, tt))));
+}

@@ -1,8 +1,12 @@
 -- The public functions of the crate control_block.
 use mathlib.Core.Path.{refl, sym, _∙_}
 use Rattle.uniqueness.specs.Unique.{Unique}
-use Rattle.control_block.proofs.write_control_block.Kinds as write-control-block-kinds
+use Rattle.control_block.proofs.write_control_block as write-control-block-contract
 use Rattle.control_block.proofs.write_control_block.Reads as write-control-block-reads
 
-pub write-control-block : Unique write-control-block-kinds.ps write-control-block-kinds.r write-control-block-reads.Learnt
-write-control-block κs a z z′ ws ws′ h h′ = (λ i. (h ∙ sym h′) i .answer, λ i. (tt, (tt, (tt, ((h ∙ sym h′) i .buffer, (tt, tt))))))
+pub write-control-block : Unique write-control-block-contract.ended (λ M. write-control-block-contract.clauses {M = M})
+write-control-block = record {
+  told = write-control-block-reads.Learnt;
+  says = λ M 𝓤 H A mem run κs a g z e. refl;
+  one = λ κs a z z′ ws ws′ h h′. (λ i. (h ∙ sym h′) i .answer, λ i. (tt, (tt, (tt, ((h ∙ sym h′) i .buffer, (tt, tt))))));
+}

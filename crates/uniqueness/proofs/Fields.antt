@@ -4,23 +4,39 @@ use mathlib.Core.List.{List}
 use Prim.Native.Nat.{ℕ}
 use denote.Ref.{now}
 use Rattle.uniqueness.specs.Unique.{Unique, UniqueContent}
-use Rattle.fields.proofs.field_end.Kinds as field-end-kinds
+use Rattle.fields.proofs.field_end as field-end-contract
 use Rattle.fields.proofs.field_end.Reads as field-end-reads
-use Rattle.fields.proofs.field_start.Kinds as field-start-kinds
+use Rattle.fields.proofs.field_start as field-start-contract
 use Rattle.fields.proofs.field_start.Reads as field-start-reads
-use Rattle.fields.proofs.find_field.Kinds as find-field-kinds
+use Rattle.fields.proofs.find_field as find-field-contract
 use Rattle.fields.proofs.find_field.Reads as find-field-reads
-use Rattle.fields.proofs.field_content.Kinds as field-content-kinds
+use Rattle.fields.proofs.field_content as field-content-contract
 use Rattle.fields.proofs.field_content.Reads as field-content-reads
 
-pub field-end : Unique field-end-kinds.ps field-end-kinds.r field-end-reads.Learnt
-field-end κs a z z′ ws ws′ h h′ = (h ∙ sym h′, refl)
+pub field-end : Unique field-end-contract.ended (λ M. field-end-contract.clauses {M = M})
+field-end = record {
+  told = field-end-reads.Learnt;
+  says = λ M 𝓤 H A mem run κs a g z e. refl;
+  one = λ κs a z z′ ws ws′ h h′. (h ∙ sym h′, refl);
+}
 
-pub field-start : Unique field-start-kinds.ps field-start-kinds.r field-start-reads.Learnt
-field-start κs a z z′ ws ws′ h h′ = (h ∙ sym h′, refl)
+pub field-start : Unique field-start-contract.ended (λ M. field-start-contract.clauses {M = M})
+field-start = record {
+  told = field-start-reads.Learnt;
+  says = λ M 𝓤 H A mem run κs a g z e. refl;
+  one = λ κs a z z′ ws ws′ h h′. (h ∙ sym h′, refl);
+}
 
-pub find-field : Unique find-field-kinds.ps find-field-kinds.r find-field-reads.Learnt
-find-field κs a z z′ ws ws′ h h′ = (h ∙ sym h′, refl)
+pub find-field : Unique find-field-contract.ended (λ M. find-field-contract.clauses {M = M})
+find-field = record {
+  told = find-field-reads.Learnt;
+  says = λ M 𝓤 H A mem run κs a g z e. refl;
+  one = λ κs a z z′ ws ws′ h h′. (h ∙ sym h′, refl);
+}
 
-pub field-content : UniqueContent field-content-kinds.ps field-content-kinds.r field-content-reads.Learnt (List ℕ) (λ κs z. now z)
-field-content κs a z z′ ws ws′ h h′ = (h ∙ sym h′, refl)
+pub field-content : UniqueContent field-content-contract.ended (λ M. field-content-contract.clauses {M = M}) (List ℕ) (λ κs z. now z)
+field-content = record {
+  told = field-content-reads.Learnt;
+  says = λ M 𝓤 H A mem run κs a g z e. refl;
+  one = λ κs a z z′ ws ws′ h h′. (h ∙ sym h′, refl);
+}

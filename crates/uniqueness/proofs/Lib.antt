@@ -5,6 +5,9 @@ pub mod ControlBlock
 pub mod ControlCalls
 pub mod ControlInterface
 pub mod DataBytes
+pub mod FieldCalls
+pub mod FieldInterface
+pub mod FieldReader
 pub mod Fields
 pub mod Header
 pub mod Lists

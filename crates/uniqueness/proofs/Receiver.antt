@@ -1,8 +1,12 @@
 -- The public functions of the crate receiver.
 use mathlib.Core.Path.{refl, sym, _∙_}
 use Rattle.uniqueness.specs.Unique.{Unique}
-use Rattle.receiver.proofs.receive.Kinds as receive-kinds
+use Rattle.receiver.proofs.receive as receive-contract
 use Rattle.receiver.proofs.receive.Reads as receive-reads
 
-pub receive : Unique receive-kinds.ps receive-kinds.r receive-reads.Learnt
-receive κs a z z′ ws ws′ h h′ = (λ i. (h ∙ sym h′) i .answer, λ i. (tt, (tt, (tt, (tt, (tt, ((h ∙ sym h′) i .buffer, (tt, tt))))))))
+pub receive : Unique receive-contract.ended (λ M. receive-contract.clauses {M = M})
+receive = record {
+  told = receive-reads.Learnt;
+  says = λ M 𝓤 H A mem run κs a g z e. refl;
+  one = λ κs a z z′ ws ws′ h h′. (λ i. (h ∙ sym h′) i .answer, λ i. (tt, (tt, (tt, (tt, (tt, ((h ∙ sym h′) i .buffer, (tt, tt))))))));
+}

@@ -1,8 +1,12 @@
 -- The public functions of the crate whole_block.
 use mathlib.Core.Path.{refl, sym, _∙_}
 use Rattle.uniqueness.specs.Unique.{Unique}
-use Rattle.whole_block.proofs.check_block.Kinds as check-block-kinds
+use Rattle.whole_block.proofs.check_block as check-block-contract
 use Rattle.whole_block.proofs.check_block.Reads as check-block-reads
 
-pub check-block : Unique check-block-kinds.ps check-block-kinds.r check-block-reads.Learnt
-check-block κs a z z′ ws ws′ h h′ = (h ∙ sym h′, refl)
+pub check-block : Unique check-block-contract.ended (λ M. check-block-contract.clauses {M = M})
+check-block = record {
+  told = check-block-reads.Learnt;
+  says = λ M 𝓤 H A mem run κs a g z e. refl;
+  one = λ κs a z z′ ws ws′ h h′. (h ∙ sym h′, refl);
+}

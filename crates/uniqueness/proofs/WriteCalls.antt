@@ -1,13 +1,21 @@
 -- The public functions of the crate write_calls.
 use mathlib.Core.Path.{refl, sym, _∙_}
 use Rattle.uniqueness.specs.Unique.{Unique}
-use Rattle.write_calls.proofs.report_written.Kinds as report-written-kinds
+use Rattle.write_calls.proofs.report_written as report-written-contract
 use Rattle.write_calls.proofs.report_written.Reads as report-written-reads
-use Rattle.write_calls.proofs.write_words.Kinds as write-words-kinds
+use Rattle.write_calls.proofs.write_words as write-words-contract
 use Rattle.write_calls.proofs.write_words.Reads as write-words-reads
 
-pub report-written : Unique report-written-kinds.ps report-written-kinds.r report-written-reads.Learnt
-report-written κs a z z′ ws ws′ h h′ = (λ i. (h ∙ sym h′) i .number, λ i. (tt, ((h ∙ sym h′) i .report, tt)))
+pub report-written : Unique report-written-contract.ended (λ M. report-written-contract.clauses {M = M})
+report-written = record {
+  told = report-written-reads.Learnt;
+  says = λ M 𝓤 H A mem run κs a g z e. refl;
+  one = λ κs a z z′ ws ws′ h h′. (λ i. (h ∙ sym h′) i .number, λ i. (tt, ((h ∙ sym h′) i .report, tt)));
+}
 
-pub write-words : Unique write-words-kinds.ps write-words-kinds.r write-words-reads.Learnt
-write-words κs a z z′ ws ws′ h h′ = (λ i. (h ∙ sym h′) i .number, λ i. (tt, (tt, (tt, ((h ∙ sym h′) i .buffer, (tt, ((h ∙ sym h′) i .report, tt)))))))
+pub write-words : Unique write-words-contract.ended (λ M. write-words-contract.clauses {M = M})
+write-words = record {
+  told = write-words-reads.Learnt;
+  says = λ M 𝓤 H A mem run κs a g z e. refl;
+  one = λ κs a z z′ ws ws′ h h′. (λ i. (h ∙ sym h′) i .number, λ i. (tt, (tt, (tt, ((h ∙ sym h′) i .buffer, (tt, ((h ∙ sym h′) i .report, tt)))))));
+}

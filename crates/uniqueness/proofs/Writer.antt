@@ -1,8 +1,12 @@
 -- The public functions of the crate writer.
 use mathlib.Core.Path.{refl, sym, _∙_}
 use Rattle.uniqueness.specs.Unique.{Unique}
-use Rattle.writer.proofs.write.Kinds as write-kinds
+use Rattle.writer.proofs.write as write-contract
 use Rattle.writer.proofs.write.Reads as write-reads
 
-pub write : Unique write-kinds.ps write-kinds.r write-reads.Learnt
-write κs a z z′ ws ws′ h h′ = (λ i. (h ∙ sym h′) i .answer, λ i. (tt, (tt, (tt, ((h ∙ sym h′) i .buffer, (tt, tt))))))
+pub write : Unique write-contract.ended (λ M. write-contract.clauses {M = M})
+write = record {
+  told = write-reads.Learnt;
+  says = λ M 𝓤 H A mem run κs a g z e. refl;
+  one = λ κs a z z′ ws ws′ h h′. (λ i. (h ∙ sym h′) i .answer, λ i. (tt, (tt, (tt, ((h ∙ sym h′) i .buffer, (tt, tt))))));
+}
