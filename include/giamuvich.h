@@ -230,6 +230,26 @@ enum {
     GMV_ANSWER_WORDS = 9
 };
 
+/* What ended a field. */
+enum {
+    GMV_DELIMITER_NONE = 0,        /* there is no field */
+    GMV_DELIMITER_SEPARATOR = 1,   /* a bar; the next field is of the same segment */
+    GMV_DELIMITER_SEGMENT_END = 2, /* CR; the next field begins a segment */
+    GMV_DELIMITER_MESSAGE_END = 3  /* the message's last byte */
+};
+
+/* The words of the next field. */
+enum {
+    GMV_NEXT_FOUND = 0,     /* 1: there is a field; 0: position is at or behind the message's end, and
+                               the words below but GMV_NEXT_POSITION are 0 */
+    GMV_NEXT_OFFSET = 1,    /* where the field begins */
+    GMV_NEXT_LENGTH = 2,    /* its bytes, 0 for an empty field */
+    GMV_NEXT_DELIMITER = 3, /* GMV_DELIMITER_.. */
+    GMV_NEXT_POSITION = 4,  /* the position to pass for the field after it; without a field the
+                               position that was passed */
+    GMV_NEXT_WORDS = 5
+};
+
 /* The words of a message writer's report (the same places as a block writer's). */
 enum { GMV_REPORT_MESSAGE_LENGTH = 0 /* the bytes written, 0 if refused */ };
 
@@ -249,6 +269,16 @@ uint64_t gmv_header_read(const uint8_t *message, size_t message_length,
  * GMV_ANSWER_WORDS) or 9. */
 uint64_t gmv_answer_read(const uint8_t *message, size_t message_length,
                          uint64_t *answer, size_t answer_words);
+
+/* Gives the next field of a message, from a position on: the bytes up to the next bar, CR or the
+ * message's end. Begin with position 0, which gives "MSH" of a message, and pass
+ * GMV_NEXT_POSITION each time. It goes from segment to segment. A bar or CR right at the position is
+ * an empty field; nothing behind the last bar or CR of a message is no field. No byte is refused.
+ *
+ * Returns 0 with the words written, or 2 (field_words below GMV_NEXT_WORDS) with nothing changed.
+ * Words from GMV_NEXT_WORDS on are not changed. */
+uint64_t gmv_field_next(const uint8_t *message, size_t message_length, size_t position,
+                        uint64_t *field, size_t field_words);
 
 /* Writes the answer to a request with this control ID into the buffer from offset start on:
  *     MSH|^~\&|||||||ACK|ID|P|2.3.1<CR>MSA|CODE|ID||NUMBER<CR>
