@@ -33,3 +33,18 @@ def functions_of(crate):
                 kinds = [part.partition(" : ")[2].strip() for part in declared.group(4).split(" , ") if ":" in part]
                 found.append((owner, declared.group(3), kinds, declared.group(5) or "", bool(declared.group(2))))
     return found
+
+
+def constants_of(crate):
+    """The public constants of a crate's types, as TYPE::NAME."""
+    folder = ROOT / "target" / "rlib" / f"{crate}.rlib" / "interface" / "lang" / "src"
+    found = {}
+    for file in sorted(folder.rglob("*.rt")):
+        owner = ""
+        for line in file.read_text().splitlines():
+            opened = re.match(r"impl (\w+)", line)
+            owner = opened.group(1) if opened else owner
+            declared = re.match(r"pub const (\w+) : \w+ = (\d+) ;", line)
+            if declared:
+                found[f"{owner}::{declared.group(1)}"] = int(declared.group(2))
+    return found
