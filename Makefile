@@ -1,10 +1,10 @@
 # Two commands: `make` proves and builds all and lists a sample; `make test` is the gate.
-# `make bench` measures (PART=blocks, messages or acts: that part alone); `make clean` removes
-# target/, which is all that is ever made here.
+# `make bench` measures (PART=blocks, messages or acts: that part alone); `make fuzz` fuzzes for
+# FUZZ_SECONDS; `make clean` removes target/, which is all that is ever made here.
 
 .DEFAULT_GOAL := all
 .NOTPARALLEL:
-.PHONY: all setup prove sample test bench clean
+.PHONY: all setup prove sample test bench fuzz clean
 
 export PATH := $(PATH):$(HOME)/.cargo/bin
 
@@ -39,6 +39,7 @@ test:
 
 bench: setup $(archive)
 	CARGO_TARGET_DIR=$(CURDIR)/target/bench cargo run --release --offline --manifest-path bench/Cargo.toml --bin bench -- $(PART)
+	bench/gate_times
 
 clean:
 	rm -rf target
