@@ -14,6 +14,7 @@ mod ends_ffi;
 #[allow(dead_code)]
 #[path = "../../tests/host/src/ffi.rs"]
 mod ffi;
+mod fields;
 mod inputs;
 #[allow(dead_code)]
 #[path = "../../tests/host/src/message_model.rs"]
@@ -39,6 +40,7 @@ mod sides;
 mod timing;
 
 use ffi::names::MINUS_ONE;
+use fields::Walking;
 use inputs::Input;
 use messages::{Reader, Writing, BEHIND, HEADERS};
 use std::process::ExitCode;
@@ -198,9 +200,33 @@ fn writer_table() {
     }
 }
 
+fn field_table() {
+    println!(
+        "Messages read field by field with gmv_field_next: ns per call, which gives one field;"
+    );
+    println!("medians. Fields: of the messages, on average.");
+    println!();
+    println!("| act | message bytes | fields | library ns | plain Rust ns | ratio | spread |");
+    println!("|---|---|---|---|---|---|---|");
+    for length in fields::LENGTHS {
+        let mut walking = Walking::new(length);
+        let times = timing::rounds(&mut [&mut walking], ROUNDS);
+        println!(
+            "| gmv_field_next | {length} | {:.0} | {:.1} | {:.1} | {} |",
+            walking.fields(),
+            timing::median(&times[0].library),
+            timing::median(&times[0].plain),
+            spread_text(&timing::ratio(&times[0].library, &times[0].plain)),
+        );
+    }
+}
+
 fn message_tables() {
     messages::compare_sides();
+    fields::compare_sides();
     reader_table();
+    println!();
+    field_table();
     println!();
     writer_table();
 }

@@ -9,7 +9,7 @@ use crate::timing::Work;
 use std::hint::black_box;
 
 /// So many messages in one pass, and so many passes in one turn.
-const MESSAGES: usize = 16;
+pub const MESSAGES: usize = 16;
 const PASSES: usize = 50;
 
 /// How many bytes the first segments have, and how many bytes of further segments follow them.
@@ -101,7 +101,7 @@ impl Reader {
 
 /// A first segment of so many bytes, with numbers in MSH-10 and MSH-13. The shortest is a control
 /// message's; in a longer one the fields MSH-3 to MSH-8 are filled.
-fn header(random: &mut Random, length: usize) -> Vec<u8> {
+pub fn header(random: &mut Random, length: usize) -> Vec<u8> {
     if length == HEADERS[0] {
         let (id, sequence) = (random.below(10), random.below(10));
         return format!("MSH|^~\\&|||||||ADT|{id}|P|2.3.1|{sequence}\r").into_bytes();

@@ -1,7 +1,7 @@
-//! The yardstick for messages: header fields and answers read, answers and control messages written,
-//! in straightforward safe Rust from document 01; nothing is tuned.
+//! The yardstick for messages: header fields and answers read, messages read field by field, answers
+//! and control messages written, in straightforward safe Rust from document 01; nothing is tuned.
 
-use crate::ffi::names::{ANSWER_WORDS, HEADER_WORDS, MINUS_ONE};
+use crate::ffi::names::{self, ANSWER_WORDS, HEADER_WORDS, MINUS_ONE, NEXT_WORDS};
 use crate::plain::allowed;
 use std::ops::Range;
 
@@ -105,6 +105,27 @@ pub fn answer(message: &[u8]) -> Result<[u64; ANSWER_WORDS], u64> {
         kind,
         number,
     ])
+}
+
+/// The words of the next field from a position on.
+pub fn next_field(message: &[u8], position: usize) -> [u64; NEXT_WORDS] {
+    if position >= message.len() {
+        return [0, 0, 0, 0, position as u64];
+    }
+    let rest = &message[position..];
+    let ends_field = |&byte: &u8| byte == BAR || byte == CARRIAGE_RETURN;
+    let (length, delimiter, delimiter_length) = match rest.iter().position(ends_field) {
+        Some(length) if rest[length] == BAR => (length, names::DELIMITER_SEPARATOR, 1),
+        Some(length) => (length, names::DELIMITER_SEGMENT_END, 1),
+        None => (rest.len(), names::DELIMITER_MESSAGE_END, 0),
+    };
+    [
+        1,
+        position as u64,
+        length as u64,
+        delimiter,
+        (position + length + delimiter_length) as u64,
+    ]
 }
 
 /// The text of a number: its digits, or -1.

@@ -82,6 +82,7 @@ void test_refusals(void);
 void test_settings(void);
 void test_random(void);
 void test_messages(void);
+void test_fields(void);
 void test_receiver(void);
 void test_sender(void);
 void test_link(void);

@@ -17,6 +17,7 @@ static void run_all(enum memory_kind kind)
     test_settings();
     test_random();
     test_messages();
+    test_fields();
     test_receiver();
     test_sender();
     test_link();

@@ -22,6 +22,8 @@ static uint8_t content[LIMIT], buffer[LIMIT + 15], block[LIMIT + 15];
 
 static uint64_t header[GMV_HEADER_WORDS], answer[GMV_ANSWER_WORDS], number;
 static uint8_t message[LIMIT], control_id[20];
+static uint64_t field[GMV_NEXT_WORDS];
+static size_t field_position;
 
 /* The calls that are measured; each on a whole block, which is good or damaged. */
 static void no_call(void) {}
@@ -74,6 +76,11 @@ static void header_read(void)
 static void answer_read(void)
 {
     gmv_answer_read(message, sizeof message, answer, GMV_ANSWER_WORDS);
+}
+
+static void field_next(void)
+{
+    gmv_field_next(message, sizeof message, field_position, field, GMV_NEXT_WORDS);
 }
 
 static void answer_write(void)
@@ -263,8 +270,20 @@ static void good_and_damaged_blocks(void)
     }
 }
 
+/* A field of three bytes, an empty one, one of two thousand, the last byte, and no field. */
+static void fields_take_little_stack(void)
+{
+    const size_t positions[] = {0, 3, 9, sizeof message - 1, sizeof message, SIZE_MAX};
+
+    for (size_t i = 0; i < sizeof positions / sizeof positions[0]; i++) {
+        field_position = positions[i];
+        takes_little_stack(field_next);
+    }
+}
+
 static void messages_take_little_stack(void)
 {
+    fields_take_little_stack();
     takes_little_stack(header_read);
     takes_little_stack(answer_read);
     takes_little_stack(answer_write);
@@ -300,6 +319,9 @@ static void good_and_damaged_messages(void)
     }
     CHECK(header[GMV_HEADER_SEQUENCE_NUMBER] == 999999999999998);
     CHECK(answer[GMV_ANSWER_EXPECTED_NUMBER] == 999999999999999);
+    field_position = 9;
+    field_next();
+    CHECK(field[GMV_NEXT_FOUND] == 1 && field[GMV_NEXT_LENGTH] == 1991);
     for (size_t i = 0; i < sizeof offsets / sizeof offsets[0]; i++) {
         message[offsets[i]] ^= 0x40;
         messages_take_little_stack();

@@ -14,8 +14,8 @@ use Rattle.fields.specs.Fields.{fieldLength, endsInBar, startOf, fieldOf}
 use Rattle.fields.specs.declared.Field.{Field}
 use Rattle.fields.proofs.Laws.{starts-next}
 use Rattle.fields.proofs.Segment.{field-add}
-use Rattle.field_reader.specs.FieldReader.{nextOf, foundOf}
-use Rattle.field_reader.specs.Steps.{afterOf, positionAfter, hasBars}
+use Rattle.field_reader.specs.FieldReader.{nextOf, foundOf, afterOf}
+use Rattle.field_reader.specs.Steps.{positionAfter, hasBars}
 use Rattle.field_reader.specs.declared.NextField.{NextField}
 use Rattle.field_reader.specs.declared.NextField.the-variants.{NoField}
 use Rattle.field_reader.proofs.Laws.{at-end, end-inside, next-is, to-end, to-bar, to-return}

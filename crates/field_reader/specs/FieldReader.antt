@@ -8,6 +8,8 @@ use Rattle.fields.specs.Fields.{fieldOf}
 use Rattle.fields.specs.declared.Field.{Field}
 use Rattle.field_reader.specs.declared.Delimiter.{Delimiter}
 use Rattle.field_reader.specs.declared.Delimiter.the-variants.{Separator, SegmentEnd, MessageEnd}
+use denote.Ref.{now}
+use Rattle.field_reader.specs.declared.FieldReader.{FieldReader}
 use Rattle.field_reader.specs.declared.NextField.{NextField}
 use Rattle.field_reader.specs.declared.NextField.the-variants.{NoField, Found}
 
@@ -28,3 +30,12 @@ foundOf m f =
 -- the field with which the message goes on at a position, by the one definition of a field
 unfoldable pub nextOf : List ℕ → ℕ → NextField
 nextOf m at = cond (ltb at (length m)) (foundOf m (fieldOf bar at 0 m)) NoField
+
+-- the position after a field that was given at a position
+abbrev pub afterOf : ℕ → NextField → ℕ
+afterOf at NoField = at
+afterOf at (Found f d after) = after
+
+-- "gives the next field each time": the reader, with the message that it holds, behind the field that it gave
+abbrev pub wentOn : FieldReader → FieldReader
+wentOn r = record { message = r .message; position = afterOf (r .position) (nextOf (now (r .message)) (r .position)) }

@@ -4,16 +4,9 @@ use mathlib.Core.Bool.{Bool, true, _&&_}
 use Prim.Native.Nat.{ℕ, zero, suc, _+_}
 use lib.ListN.{drop}
 use Rattle.fields.specs.Fields.{fieldLength, endsInBar}
-use Rattle.field_reader.specs.FieldReader.{bar, nextOf}
-use Rattle.field_reader.specs.declared.NextField.{NextField}
-use Rattle.field_reader.specs.declared.NextField.the-variants.{NoField, Found}
+use Rattle.field_reader.specs.FieldReader.{bar, nextOf, afterOf}
 
--- the position after a field that was given at a position
-abbrev pub afterOf : ℕ → NextField → ℕ
-afterOf at NoField = at
-afterOf at (Found f d after) = after
-
--- and after k fields
+-- the position after k fields
 unfoldable pub positionAfter : ℕ → List ℕ → ℕ → ℕ
 positionAfter zero m at = at
 positionAfter (suc k) m at = positionAfter k m (afterOf at (nextOf m at))

@@ -1,10 +1,10 @@
 // A reader over a message: it holds the message's bytes and its position and gives the next field each time. The borrow
 // checker covers no function over a struct that holds a slice, so those here are few and thin, and are proved by hand. The
-// work is done by next_field, which takes the slice and the position.
+// work is done by field_at, which takes the slice and the position.
 use fields::Field;
 use fields::find_field;
 ghost use mathlib.Core.Path.{_≡_};
-ghost use Rattle.field_reader.specs.FieldReader.{nextOf};
+ghost use Rattle.field_reader.specs.FieldReader.{nextOf, afterOf, wentOn};
 
 // The field separator.
 const BAR: u8 = 124;
@@ -46,6 +46,16 @@ fn field_at(message: &[u8], position: usize) -> NextField
     NextField::Found(field, Delimiter::SegmentEnd, end + 1)
 }
 
+// The position after a field that was found at `position`.
+fn position_after(position: usize, found: NextField) -> usize
+    ensures { λ r. ⌜ r ≡ afterOf position found ⌝ }
+{
+    match found {
+        NextField::NoField => position,
+        NextField::Found(_, _, after) => after,
+    }
+}
+
 // A reader over the message, from `position` on.
 pub fn read_from<'a>(message: &'a [u8], position: usize) -> FieldReader<'a>
     ensures { λ r. ⌜ (r .message ≡ message .entry) × (r .position ≡ position) ⌝ }
@@ -54,25 +64,26 @@ pub fn read_from<'a>(message: &'a [u8], position: usize) -> FieldReader<'a>
 }
 
 // The next field. The reader stays where it is.
-pub fn next<'a>(reader: FieldReader<'a>) -> NextField
+pub fn peek<'a>(reader: FieldReader<'a>) -> NextField
     ensures { λ r. ⌜ r ≡ nextOf (now (reader .entry .message)) (reader .entry .position) ⌝ }
 {
     field_at(reader.message, reader.position)
 }
 
-// The same reader at another position, such as the one after a field.
-pub fn moved<'a>(reader: FieldReader<'a>, position: usize) -> FieldReader<'a>
-    ensures { λ r. ⌜ (r .message ≡ reader .entry .message) × (r .position ≡ position) ⌝ }
+// The next field, each time: the reader goes on behind it.
+pub fn next<'s, 'a>(reader: &'s mut FieldReader<'a>) -> NextField
+    ensures { λ r. ⌜ (r ≡ nextOf (now (now (reader .entry) .message)) (now (reader .entry) .position)) × (now (reader .exit) ≡ wentOn (now (reader .entry))) ⌝ }
 {
-    FieldReader {
-        message: reader.message,
-        position,
-    }
+    let position = reader.position;
+    let found = field_at(reader.message, position);
+    let after = position_after(position, found);
+    reader.position = after;
+    found
 }
 
 // The next field of a message from `position` on, for callers that hold the message themselves.
 pub fn next_field(message: &[u8], position: usize) -> NextField
     ensures { λ r. ⌜ r ≡ nextOf (now (message .entry)) position ⌝ }
 {
-    next(read_from(message, position))
+    peek(read_from(message, position))
 }

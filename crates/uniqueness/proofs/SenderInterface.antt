@@ -18,6 +18,7 @@ use Rattle.sender_interface.proofs.gmv_sender_block.Reads as gmv-sender-block-r
 
 pub gmv-sender-fresh : Unique gmv-sender-fresh-contract.ended (λ M. gmv-sender-fresh-contract.clauses {M = M})
 gmv-sender-fresh = record {
+  free = λ M 𝓤 H A mem run κs a g. refl;
   told = gmv-sender-fresh-reads.Learnt;
   says = λ M 𝓤 H A mem run κs a g z e. refl;
   one = λ κs a z z′ ws ws′ h h′. (λ i. (h ∙ sym h′) i .number, λ i. (tt, ((h ∙ sym h′) i .state, tt)));
@@ -25,6 +26,7 @@ gmv-sender-fresh = record {
 
 pub gmv-sender-submit : Unique gmv-sender-submit-contract.ended (λ M. gmv-sender-submit-contract.clauses {M = M})
 gmv-sender-submit = record {
+  free = λ M 𝓤 H A mem run κs a g. refl;
   told = gmv-sender-submit-reads.Learnt;
   says = λ M 𝓤 H A mem run κs a g z e. refl;
   one = λ κs a z z′ ws ws′ h h′. (λ i. (h ∙ sym h′) i .number, λ i. (tt, (tt, ((h ∙ sym h′) i .state, ((h ∙ sym h′) i .report, tt)))));
@@ -32,6 +34,7 @@ gmv-sender-submit = record {
 
 pub gmv-sender-open : Unique gmv-sender-open-contract.ended (λ M. gmv-sender-open-contract.clauses {M = M})
 gmv-sender-open = record {
+  free = λ M 𝓤 H A mem run κs a g. refl;
   told = gmv-sender-open-reads.Learnt;
   says = λ M 𝓤 H A mem run κs a g z e. refl;
   one = λ κs a z z′ ws ws′ h h′. (λ i. (h ∙ sym h′) i .number, λ i. ((h ∙ sym h′) i .state, ((h ∙ sym h′) i .report, tt)));
@@ -39,6 +42,7 @@ gmv-sender-open = record {
 
 pub gmv-sender-ended : Unique gmv-sender-ended-contract.ended (λ M. gmv-sender-ended-contract.clauses {M = M})
 gmv-sender-ended = record {
+  free = λ M 𝓤 H A mem run κs a g. refl;
   told = gmv-sender-ended-reads.Learnt;
   says = λ M 𝓤 H A mem run κs a g z e. refl;
   one = λ κs a z z′ ws ws′ h h′. (λ i. (h ∙ sym h′) i .number, λ i. ((h ∙ sym h′) i .state, ((h ∙ sym h′) i .report, tt)));
@@ -46,6 +50,7 @@ gmv-sender-ended = record {
 
 pub gmv-sender-reset : Unique gmv-sender-reset-contract.ended (λ M. gmv-sender-reset-contract.clauses {M = M})
 gmv-sender-reset = record {
+  free = λ M 𝓤 H A mem run κs a g. refl;
   told = gmv-sender-reset-reads.Learnt;
   says = λ M 𝓤 H A mem run κs a g z e. refl;
   one = λ κs a z z′ ws ws′ h h′. (λ i. (h ∙ sym h′) i .number, λ i. ((h ∙ sym h′) i .state, ((h ∙ sym h′) i .report, tt)));
@@ -53,6 +58,7 @@ gmv-sender-reset = record {
 
 pub gmv-sender-timer : Unique gmv-sender-timer-contract.ended (λ M. gmv-sender-timer-contract.clauses {M = M})
 gmv-sender-timer = record {
+  free = λ M 𝓤 H A mem run κs a g. refl;
   told = gmv-sender-timer-reads.Learnt;
   says = λ M 𝓤 H A mem run κs a g z e. refl;
   one = λ κs a z z′ ws ws′ h h′. (λ i. (h ∙ sym h′) i .number, λ i. (tt, ((h ∙ sym h′) i .state, ((h ∙ sym h′) i .report, tt))));
@@ -60,6 +66,7 @@ gmv-sender-timer = record {
 
 pub gmv-sender-block : Unique gmv-sender-block-contract.ended (λ M. gmv-sender-block-contract.clauses {M = M})
 gmv-sender-block = record {
+  free = λ M 𝓤 H A mem run κs a g. refl;
   told = gmv-sender-block-reads.Learnt;
   says = λ M 𝓤 H A mem run κs a g z e. refl;
   one = λ κs a z z′ ws ws′ h h′. (λ i. (h ∙ sym h′) i .number, λ i. (tt, (tt, (tt, (tt, ((h ∙ sym h′) i .state, ((h ∙ sym h′) i .report, tt)))))));

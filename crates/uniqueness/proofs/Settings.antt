@@ -16,6 +16,7 @@ use Rattle.settings.proofs.Settings.data_offset.Reads as Settings-data-offset-r
 
 pub is-allowed : Unique is-allowed-contract.ended (λ M. is-allowed-contract.clauses {M = M})
 is-allowed = record {
+  free = λ M 𝓤 H A mem run κs a g. refl;
   told = is-allowed-reads.Learnt;
   says = λ M 𝓤 H A mem run κs a g z e. refl;
   one = λ κs a z z′ ws ws′ h h′. (h ∙ sym h′, refl);
@@ -23,6 +24,7 @@ is-allowed = record {
 
 pub Settings-hybrid : Unique Settings-hybrid-contract.ended (λ M. Settings-hybrid-contract.clauses {M = M})
 Settings-hybrid = record {
+  free = λ M 𝓤 H A mem run κs a g. refl;
   told = Settings-hybrid-reads.Learnt;
   says = λ M 𝓤 H A mem run κs a g z e. refl;
   one = λ κs a z z′ ws ws′ h h′. (h ∙ sym h′, refl);
@@ -30,6 +32,7 @@ Settings-hybrid = record {
 
 pub Settings-minimal : Unique Settings-minimal-contract.ended (λ M. Settings-minimal-contract.clauses {M = M})
 Settings-minimal = record {
+  free = λ M 𝓤 H A mem run κs a g. refl;
   told = Settings-minimal-reads.Learnt;
   says = λ M 𝓤 H A mem run κs a g z e. refl;
   one = λ κs a z z′ ws ws′ h h′. (h ∙ sym h′, refl);
@@ -37,6 +40,7 @@ Settings-minimal = record {
 
 pub Settings-is-valid : Unique Settings-is-valid-contract.ended (λ M. Settings-is-valid-contract.clauses {M = M})
 Settings-is-valid = record {
+  free = λ M 𝓤 H A mem run κs a g. refl;
   told = Settings-is-valid-reads.Learnt;
   says = λ M 𝓤 H A mem run κs a g z e. refl;
   one = λ κs a z z′ ws ws′ h h′. (h ∙ sym h′, refl);
@@ -44,6 +48,7 @@ Settings-is-valid = record {
 
 pub Settings-is-link : Unique Settings-is-link-contract.ended (λ M. Settings-is-link-contract.clauses {M = M})
 Settings-is-link = record {
+  free = λ M 𝓤 H A mem run κs a g. refl;
   told = Settings-is-link-reads.Learnt;
   says = λ M 𝓤 H A mem run κs a g z e. refl;
   one = λ κs a z z′ ws ws′ h h′. (h ∙ sym h′, refl);
@@ -51,6 +56,7 @@ Settings-is-link = record {
 
 pub Settings-data-offset : Unique Settings-data-offset-contract.ended (λ M. Settings-data-offset-contract.clauses {M = M})
 Settings-data-offset = record {
+  free = λ M 𝓤 H A mem run κs a g. refl;
   told = Settings-data-offset-reads.Learnt;
   says = λ M 𝓤 H A mem run κs a g z e. refl;
   one = λ κs a z z′ ws ws′ h h′. (h ∙ sym h′, refl);

@@ -12,6 +12,7 @@ use Rattle.verdict.proofs.Verdict.data_length.Reads as Verdict-data-length-read
 
 pub Verdict-number : Unique Verdict-number-contract.ended (λ M. Verdict-number-contract.clauses {M = M})
 Verdict-number = record {
+  free = λ M 𝓤 H A mem run κs a g. refl;
   told = Verdict-number-reads.Learnt;
   says = λ M 𝓤 H A mem run κs a g z e. refl;
   one = λ κs a z z′ ws ws′ h h′. (h ∙ sym h′, refl);
@@ -19,6 +20,7 @@ Verdict-number = record {
 
 pub Verdict-forbidden-offset : Unique Verdict-forbidden-offset-contract.ended (λ M. Verdict-forbidden-offset-contract.clauses {M = M})
 Verdict-forbidden-offset = record {
+  free = λ M 𝓤 H A mem run κs a g. refl;
   told = Verdict-forbidden-offset-reads.Learnt;
   says = λ M 𝓤 H A mem run κs a g z e. refl;
   one = λ κs a z z′ ws ws′ h h′. (h ∙ sym h′, refl);
@@ -26,6 +28,7 @@ Verdict-forbidden-offset = record {
 
 pub Verdict-block-type : Unique Verdict-block-type-contract.ended (λ M. Verdict-block-type-contract.clauses {M = M})
 Verdict-block-type = record {
+  free = λ M 𝓤 H A mem run κs a g. refl;
   told = Verdict-block-type-reads.Learnt;
   says = λ M 𝓤 H A mem run κs a g z e. refl;
   one = λ κs a z z′ ws ws′ h h′. (h ∙ sym h′, refl);
@@ -33,6 +36,7 @@ Verdict-block-type = record {
 
 pub Verdict-data-length : Unique Verdict-data-length-contract.ended (λ M. Verdict-data-length-contract.clauses {M = M})
 Verdict-data-length = record {
+  free = λ M 𝓤 H A mem run κs a g. refl;
   told = Verdict-data-length-reads.Learnt;
   says = λ M 𝓤 H A mem run κs a g z e. refl;
   one = λ κs a z z′ ws ws′ h h′. (h ∙ sym h′, refl);

@@ -1,6 +1,7 @@
 //! Each function here makes one or more calls of the library and compares the answer, and every
 //! word and byte of the memory, with the model.
 
+use crate::compare_fields::FieldCounts;
 use crate::compare_station::StationCounts;
 use crate::guarded::{same, Guarded};
 use crate::library;
@@ -16,7 +17,7 @@ pub const GUARD_BYTE: u8 = 0xC3;
 /// blocks, and messages that were read or written. Of the messages read, those with a header that
 /// the model reads are counted too, and those with an answer. Acts are calls of the functions for
 /// the receiver and the sender, those on simulated links apart, with the runs of such links; acts of
-/// stations are counted apart too.
+/// stations and calls of the field reader are counted apart too.
 pub struct Compare {
     pub random: Random,
     pub inputs: u64,
@@ -28,6 +29,7 @@ pub struct Compare {
     pub link_runs: u64,
     pub kinds: Kinds,
     pub station: StationCounts,
+    pub fields: FieldCounts,
 }
 
 /// Acts by what every run promises: the receiver's by layer, the sender's by r (`RESENDS`), and those
@@ -117,6 +119,7 @@ impl Compare {
             link_runs: 0,
             kinds: Kinds::default(),
             station: StationCounts::default(),
+            fields: FieldCounts::default(),
         }
     }
 

@@ -66,6 +66,18 @@ pub mod names {
     pub const ANSWER_EXPECTED_NUMBER: usize = 8;
     pub const ANSWER_WORDS: usize = 9;
 
+    pub const DELIMITER_NONE: u64 = 0;
+    pub const DELIMITER_SEPARATOR: u64 = 1;
+    pub const DELIMITER_SEGMENT_END: u64 = 2;
+    pub const DELIMITER_MESSAGE_END: u64 = 3;
+
+    pub const NEXT_FOUND: usize = 0;
+    pub const NEXT_OFFSET: usize = 1;
+    pub const NEXT_LENGTH: usize = 2;
+    pub const NEXT_DELIMITER: usize = 3;
+    pub const NEXT_POSITION: usize = 4;
+    pub const NEXT_WORDS: usize = 5;
+
     pub const MESSAGE_LENGTH: usize = 0;
 }
 
@@ -155,6 +167,14 @@ pub mod raw {
             message_length: usize,
             answer: *mut u64,
             answer_words: usize,
+        ) -> u64;
+
+        pub fn gmv_field_next(
+            message: *const u8,
+            message_length: usize,
+            position: usize,
+            field: *mut u64,
+            field_words: usize,
         ) -> u64;
 
         pub fn gmv_answer_write(
@@ -339,6 +359,19 @@ pub fn answer_read(message: &[u8], answer: &mut [u64]) -> u64 {
             message.len(),
             answer.as_mut_ptr(),
             answer.len(),
+        )
+    }
+}
+
+pub fn field_next(message: &[u8], position: usize, field: &mut [u64]) -> u64 {
+    // SAFETY: each slice has memory of the length passed, and none overlaps another.
+    unsafe {
+        raw::gmv_field_next(
+            message.as_ptr(),
+            message.len(),
+            position,
+            field.as_mut_ptr(),
+            field.len(),
         )
     }
 }

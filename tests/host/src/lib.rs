@@ -1,10 +1,11 @@
 //! What the tests stand on: the rules of document 01 (`model` for blocks, `message_model` for header
-//! fields and messages, `receiver_model` and `sender_model` for the two ends of a link,
-//! `station_model` for the X3.28 receiving station), the C interface (`ffi`, `ends_ffi`,
-//! `station_ffi`) and a seeded generator (`prng`).
+//! fields and messages, `field_model` for the reader over a message, `receiver_model` and
+//! `sender_model` for the two ends of a link, `station_model` for the X3.28 receiving station), the C
+//! interface (`ffi`, `ends_ffi`, `station_ffi`) and a seeded generator (`prng`).
 
 pub mod ends_ffi;
 pub mod ffi;
+pub mod field_model;
 pub mod message_model;
 pub mod model;
 pub mod prng;

@@ -2,6 +2,7 @@
 
 mod compare;
 mod compare_ends;
+mod compare_fields;
 mod compare_messages;
 mod compare_station;
 mod faults;
@@ -27,12 +28,13 @@ use std::time::Instant;
 
 const SEED: u64 = 20_261_115;
 
-const COUNTS: usize = 21;
+const COUNTS: usize = 28;
 
 /// How many inputs a whole run compares at least: calls of the functions for blocks; messages read
 /// or written; of the messages read, those whose header can be read, and those that are answers;
 /// acts of the receiver and the sender compared with the model; acts on simulated links, and runs of
-/// such links; of the acts compared, those of each kind; and acts of stations, with what happened in them.
+/// such links; of the acts compared, those of each kind; acts of stations, with what happened in them;
+/// and calls of the field reader, with what they gave, and headers and answers found by its steps.
 const LEAST: [(&str, u64); COUNTS] = [
     ("inputs", 1_000_000),
     ("messages", 2_000_000),
@@ -55,11 +57,18 @@ const LEAST: [(&str, u64); COUNTS] = [
     ("texts that just fit", 50_000),
     ("texts one byte too long", 20_000),
     ("refused acts of stations", 50_000),
+    ("calls of the field reader", 1_000_000),
+    ("empty fields", 200_000),
+    ("fields ended by CR", 100_000),
+    ("fields ended by the message's end", 100_000),
+    ("calls that found no field", 100_000),
+    ("headers found by steps", 20_000),
+    ("answers found by steps", 10_000),
 ];
 
 /// What a group compared, in the order of `LEAST`.
 fn counts(compare: &Compare) -> [u64; COUNTS] {
-    let (kinds, station) = (&compare.kinds, &compare.station);
+    let (kinds, station, fields) = (&compare.kinds, &compare.station, &compare.fields);
     let [none, one, three, most] = kinds.resends;
     [
         compare.inputs,
@@ -83,6 +92,13 @@ fn counts(compare: &Compare) -> [u64; COUNTS] {
         station.just_fit,
         station.one_byte_over,
         station.refused,
+        fields.calls,
+        fields.empty,
+        fields.segment_ends,
+        fields.message_ends,
+        fields.none,
+        fields.headers,
+        fields.answers,
     ]
 }
 
@@ -113,6 +129,7 @@ fn tally(compare: &Compare) -> String {
         (compare.acts, "acts"),
         (compare.link_acts, "acts on links"),
         (compare.station.acts, "acts of stations"),
+        (compare.fields.calls, "calls of the field reader"),
     ];
     let counted = counts.iter().filter(|(count, _)| *count > 0);
     let texts: Vec<String> = counted

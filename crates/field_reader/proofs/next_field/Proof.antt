@@ -1,4 +1,4 @@
--- `field_reader::next_field` meets its contract: a walk of its MIR, by hand. A `FieldReader` that one call returns is held in a local and passed to the next. All that the proof knows of `read_from` and of `next` is that each meets its contract.
+-- `field_reader::next_field` meets its contract: a walk of its MIR, by hand. A `FieldReader` that one call returns is held in a local and passed to the peek. All that the proof knows of `read_from` and of `peek` is that each meets its contract.
 -- The machine value that `read_from` returns is stored and passed on as it is. In a local of a body MIR erases the lifetime of the struct's type, so the value is shown to have the type at `erased`: what the struct owns does not say the lifetime's name.
 -- Assumes nothing.
 use mathlib.Core.Path.{_≡_, refl, ap, _∙_}
@@ -49,10 +49,10 @@ use Rattle.field_reader.proofs.read_from as read-from
 use Rattle.field_reader.proofs.read_from.Symbol as read-from-def
 use Rattle.field_reader.proofs.read_from.Symbol.{name as #field-reader·read-from}
 use Rattle.field_reader.proofs.read_from.Met as read-from-thm
-use Rattle.field_reader.proofs.next as next
-use Rattle.field_reader.proofs.next.Symbol as next-def
-use Rattle.field_reader.proofs.next.Symbol.{name as #field-reader·next}
-use Rattle.field_reader.proofs.next.Met as next-thm
+use Rattle.field_reader.proofs.peek as peek
+use Rattle.field_reader.proofs.peek.Symbol as peek-def
+use Rattle.field_reader.proofs.peek.Symbol.{name as #field-reader·peek}
+use Rattle.field_reader.proofs.peek.Met as peek-thm
 use Rattle.field_reader.proofs.next_field.Key.{name as #field-reader·next-field}
 use Rattle.field_reader.proofs.next_field as next-field
 use Rattle.field_reader.proofs.next_field.Statement as stated
@@ -70,8 +70,8 @@ module _ {M : Type 1} (𝓤 : URA M) (H : Heap 𝓤) (A : Atoms 𝓤) (mem : Mem
   abbrev From : Contract 𝓤
   From = tripleOf 𝓤 H A read-from.signature (read-from.spec 𝓤 H A mem run)
 
-  abbrev Next : Contract 𝓤
-  Next = tripleOf 𝓤 H A next.signature (next.spec 𝓤 H A mem run)
+  abbrev Peek : Contract 𝓤
+  Peek = tripleOf 𝓤 H A peek.signature (peek.spec 𝓤 H A mem run)
 
 module _ {M : Type 1} (𝓤 : URA M) (H : Heap 𝓤) (A : Atoms 𝓤) (W : Given 𝓤 H A) (mem : Memory → SProp 𝓤) (run : Routine → Fun 𝓤) (κ : Lft) (q : Share) (s : RefT (List ℕ)) (n : ℕ) (ok : n < 2 ^ 64) where
   -- the machine value that s has
@@ -107,15 +107,15 @@ module _ {M : Type 1} (𝓤 : URA M) (H : Heap 𝓤) (A : Atoms 𝓤) (W : Given
   read-from-said : (r : FieldReader) → ent 𝓤 (ensured 𝓤 H A read-from.ended (read-from.clauses 𝓤 H A mem run) (κ, tt) (s, (n, tt)) tt r) (fact 𝓤 ((r .message ≡ s) × (r .position ≡ n)))
   read-from-said r = exE 𝓤 _ (λ ws. snd∗ 𝓤 (sem 𝓤 H A (lasts read-from.ended (κ, tt) (s, (n, tt)) ws)) (fact 𝓤 ((r .message ≡ s) × (r .position ≡ n))))
 
-  -- the call of `next`, at the struct r with the machine value u
-  abbrev to-next : FieldReader → Val → Next 𝓤 H A mem run .Ghost
-  to-next r u = (((κ, tt), (q, tt), tt, (r, tt), (u ∷ [], tt)), tt)
+  -- the call of `peek`, at the struct r with the machine value u
+  abbrev to-peek : FieldReader → Val → Peek 𝓤 H A mem run .Ghost
+  to-peek r u = (((κ, tt), (q, tt), tt, (r, tt), (u ∷ [], tt)), tt)
 
-  goes-next : (r : FieldReader) (u : Val) → ent 𝓤 (⋆ 𝓤 H A (‵ (B (κ, tt) .own r (u ∷ [])) ∷ (‵ (flft κ q) ⊛ ‵ ftrue) ∷ [])) (Next 𝓤 H A mem run .pre (to-next r u))
-  goes-next r u = qed W (‵ (B (κ, tt) .own r (u ∷ [])) ∷ (‵ (flft κ q) ⊛ ‵ ftrue) ∷ []) ∵ nothing ! $ move ! (1 ∷ 0 ∷ []) $ fjoin ! $ move ! (1 ∷ 0 ∷ []) $ join ! $ frame ! $ done !
+  goes-peek : (r : FieldReader) (u : Val) → ent 𝓤 (⋆ 𝓤 H A (‵ (B (κ, tt) .own r (u ∷ [])) ∷ (‵ (flft κ q) ⊛ ‵ ftrue) ∷ [])) (Peek 𝓤 H A mem run .pre (to-peek r u))
+  goes-peek r u = qed W (‵ (B (κ, tt) .own r (u ∷ [])) ∷ (‵ (flft κ q) ⊛ ‵ ftrue) ∷ []) ∵ nothing ! $ move ! (1 ∷ 0 ∷ []) $ fjoin ! $ move ! (1 ∷ 0 ∷ []) $ join ! $ frame ! $ done !
 
-  next-said : (r : FieldReader) (t : NextField) → ent 𝓤 (ensured 𝓤 H A next.ended (next.clauses 𝓤 H A mem run) (κ, tt) (r, tt) tt t) (fact 𝓤 (t ≡ nextOf (now (r .message)) (r .position)))
-  next-said r t = exE 𝓤 _ (λ ws. snd∗ 𝓤 (sem 𝓤 H A (lasts next.ended (κ, tt) (r, tt) ws)) (fact 𝓤 (t ≡ nextOf (now (r .message)) (r .position))))
+  peek-said : (r : FieldReader) (t : NextField) → ent 𝓤 (ensured 𝓤 H A peek.ended (peek.clauses 𝓤 H A mem run) (κ, tt) (r, tt) tt t) (fact 𝓤 (t ≡ nextOf (now (r .message)) (r .position)))
+  peek-said r t = exE 𝓤 _ (λ ws. snd∗ 𝓤 (sem 𝓤 H A (lasts peek.ended (κ, tt) (r, tt) ws)) (fact 𝓤 (t ≡ nextOf (now (r .message)) (r .position))))
 
   exits : (t : NextField) (u : Val) → t ≡ found → ent 𝓤 (⋆ 𝓤 H A (‵ (S.the-row .own t (u ∷ [])) ∷ (‵ (flft κ q) ⊛ ‵ ftrue) ∷ ‵ Own ∷ [])) (Post u)
   exits t u e =
@@ -123,7 +123,7 @@ module _ {M : Type 1} (𝓤 : URA M) (H : Heap 𝓤) (A : Atoms 𝓤) (W : Given
       suffices ! _ (ends-at 𝓤 H A next-field.ended stayed (next-field.clauses 𝓤 H A mem run) W (((κ, tt), (q, tt), tt, (s, (n, tt)), at), tt) u t (tt, (tt, tt)) (tt, (tt, tt))) $ says ! e $
       move ! (1 ∷ []) $ frame ! $ nothing ! $ owned ! usize (Is usize) (uint-makes 𝓤 H A W w64) n _ (refl, ok) $ fjoin ! $ move ! (2 ∷ 0 ∷ []) $ fjoin ! $ frame ! $ done !
 
-  module _ (C : Calls 𝓤 H) (Λ : Loops 𝓤 H) (fm : FmC 𝓤 H (W .laws) C) (known-from : Triple 𝓤 (C #field-reader·read-from) (From 𝓤 H A mem run)) (known-next : Triple 𝓤 (C #field-reader·next) (Next 𝓤 H A mem run)) where
+  module _ (C : Calls 𝓤 H) (Λ : Loops 𝓤 H) (fm : FmC 𝓤 H (W .laws) C) (known-from : Triple 𝓤 (C #field-reader·read-from) (From 𝓤 H A mem run)) (known-peek : Triple 𝓤 (C #field-reader·peek) (Peek 𝓤 H A mem run)) where
     walk : Is (ShrSlice (named 0) κ u8) s (v ∷ []) → ent 𝓤 (onEntry 𝓤 H A next-field.signature (κ, tt) (q, tt) (s, (n, tt)) at) (WpFn 𝓤 H C Λ code.function (v ∷ vint w64 n ∷ []) Post)
     walk p =
         qed W (raw (onEntry 𝓤 H A next-field.signature (κ, tt) (q, tt) (s, (n, tt)) at) ∷ []) ∵ enter ! C Λ code.function (v ∷ vint w64 n ∷ []) _ $
@@ -135,10 +135,10 @@ module _ {M : Type 1} (𝓤 : URA M) (H : Heap 𝓤) (A : Atoms 𝓤) (W : Given
         -- [what the struct owns; the token; what s owns; _3; …; _2; …; _1; …; room for _0; …]
         peeks ! (B (κ, tt)) (Is (B (κ, tt))) (shows 𝓤 H A (B (κ, tt))) r (u ∷ []) (λ is.
         land ! (from ! (stop !)) (init ! 3 refl (LL.lawful (T.the-type αᵉ) (T′.the-laws αᵉ) 𝓤 H A W .typed r _ is .0)) $
-        use2 W (raw (Next 𝓤 H A mem run .pre (to-next r u))) (goes-next r u) $
-        calls-at ! fm (Next 𝓤 H A mem run) known-next (to-next r u) (and-then ! (load ! (from ! (stop !)) (look ! 2 refl)) (no-more !)) (λ u′.
-        use1 W (later (some (λ (t : NextField). ((‵ (flft κ q) ⊛ ‵ ftrue) ⊛ ‵ (S.the-row .own t (u′ ∷ []))) ⊛ raw (ensured 𝓤 H A next.ended (next.clauses 𝓤 H A mem run) (κ, tt) (r, tt) tt t)))) (id⊢ 𝓤 _) $ await ! tt $ pick ! (λ t.
-        split ! $ move ! (1 ∷ []) $ use1 W (raw (fact 𝓤 (t ≡ nextOf (now (r .message)) (r .position)))) (next-said r t) $ heard ! (t ≡ nextOf (now (r .message)) (r .position)) (λ e′. split ! $ move ! (1 ∷ []) $
+        use2 W (raw (Peek 𝓤 H A mem run .pre (to-peek r u))) (goes-peek r u) $
+        calls-at ! fm (Peek 𝓤 H A mem run) known-peek (to-peek r u) (and-then ! (load ! (from ! (stop !)) (look ! 2 refl)) (no-more !)) (λ u′.
+        use1 W (later (some (λ (t : NextField). ((‵ (flft κ q) ⊛ ‵ ftrue) ⊛ ‵ (S.the-row .own t (u′ ∷ []))) ⊛ raw (ensured 𝓤 H A peek.ended (peek.clauses 𝓤 H A mem run) (κ, tt) (r, tt) tt t)))) (id⊢ 𝓤 _) $ await ! tt $ pick ! (λ t.
+        split ! $ move ! (1 ∷ []) $ use1 W (raw (fact 𝓤 (t ≡ nextOf (now (r .message)) (r .position)))) (peek-said r t) $ heard ! (t ≡ nextOf (now (r .message)) (r .position)) (λ e′. split ! $ move ! (1 ∷ []) $
         -- [the result; the token; what s owns; _3; …; _2; …; _1; …; room for _0; …]
         peeks ! S.the-row (Is S.the-row) (shows 𝓤 H A S.the-row) t (u′ ∷ []) (λ is′.
         land ! (from ! (stop !)) (init ! 9 refl (EL.lawful S.the-type S′.the-laws 𝓤 H A W tt .typed t _ is′ .0)) $
@@ -146,16 +146,16 @@ module _ {M : Type 1} (𝓤 : URA M) (H : Heap 𝓤) (A : Atoms 𝓤) (W : Given
         by ! (exits t u′ (e′ ∙ (ap (λ (x : RefT (List ℕ)). nextOf (now x) (r .position)) (e .0) ∙ ap (nextOf (now s)) (e .1))))))))))))))))
 
 module _ {M : Type 1} (𝓤 : URA M) (H : Heap 𝓤) (A : Atoms 𝓤) (W : Given 𝓤 H A) (mem : Memory → SProp 𝓤) (run : Routine → Fun 𝓤) where
-  next-field-walks : (C : Calls 𝓤 H) (Λ : Loops 𝓤 H) → FmC 𝓤 H (W .laws) C → Triple 𝓤 (C #field-reader·read-from) (From 𝓤 H A mem run) → Triple 𝓤 (C #field-reader·next) (Next 𝓤 H A mem run)
+  next-field-walks : (C : Calls 𝓤 H) (Λ : Loops 𝓤 H) → FmC 𝓤 H (W .laws) C → Triple 𝓤 (C #field-reader·read-from) (From 𝓤 H A mem run) → Triple 𝓤 (C #field-reader·peek) (Peek 𝓤 H A mem run)
       → Walks 𝓤 H A next-field.ended stayed (WpFn 𝓤 H C Λ code.function) (next-field.clauses 𝓤 H A mem run)
-  next-field-walks C Λ fm known-from known-next = walked 𝓤 H A next-field.ended stayed (next-field.clauses 𝓤 H A mem run) (WpFn 𝓤 H C Λ code.function) (λ κs. (slice-vals, (uint-vals w64, tt))) (λ κs. (shr-slice-tells (named 0) (κs .0) u8, (uint-tells w64, tt)))
-      (λ κs qs bounds a g are. via 𝓤 _ (fst∗ 𝓤 _ (emp 𝓤)) (walk 𝓤 H A W mem run (κs .0) (qs .0) (a .0) (a .1 .0) (are .1 .0 .1) C Λ fm known-from known-next (are .0)))
+  next-field-walks C Λ fm known-from known-peek = walked 𝓤 H A next-field.ended stayed (next-field.clauses 𝓤 H A mem run) (WpFn 𝓤 H C Λ code.function) (λ κs. (slice-vals, (uint-vals w64, tt))) (λ κs. (shr-slice-tells (named 0) (κs .0) u8, (uint-tells w64, tt)))
+      (λ κs qs bounds a g are. via 𝓤 _ (fst∗ 𝓤 _ (emp 𝓤)) (walk 𝓤 H A W mem run (κs .0) (qs .0) (a .0) (a .1 .0) (are .1 .0 .1) C Λ fm known-from known-peek (are .0)))
 
 next-field-meets : {M : Type 1} (𝓤 : URA M) (H : Heap 𝓤) (A : Atoms 𝓤) (W : Given 𝓤 H A) (mem : Memory → SProp 𝓤) (run : Routine → Fun 𝓤) (𝓣 : Tables 𝓤 H)
-    → Triple 𝓤 (𝓣 .C #field-reader·read-from) (From 𝓤 H A mem run) → Triple 𝓤 (𝓣 .C #field-reader·next) (Next 𝓤 H A mem run)
+    → Triple 𝓤 (𝓣 .C #field-reader·read-from) (From 𝓤 H A mem run) → Triple 𝓤 (𝓣 .C #field-reader·peek) (Peek 𝓤 H A mem run)
     → Meets 𝓤 H A next-field.signature (WpFn 𝓤 H (𝓣 .C) (𝓣 .Λ) code.function) (next-field.spec 𝓤 H A mem run)
-next-field-meets 𝓤 H A W mem run 𝓣 known-from known-next = walk-meets 𝓤 H A next-field.ended stayed W (goes-none-slice 𝓤 H A W 1 (0 ∷ []) tt (plain (λ _. u8)) yes, (goes-none 𝓤 H A W 1 (λ _. usize) yes (λ κs x f. refl), tt)) (next-field.clauses 𝓤 H A mem run) (WpFn 𝓤 H (𝓣 .C) (𝓣 .Λ) code.function) (WpFn-mono 𝓤 H (W .laws) 𝓣 code.function)
-    (next-field-walks 𝓤 H A W mem run (𝓣 .C) (𝓣 .Λ) (fmOf 𝓤 H (W .laws) 𝓣) known-from known-next)
+next-field-meets 𝓤 H A W mem run 𝓣 known-from known-peek = walk-meets 𝓤 H A next-field.ended stayed W (goes-none-slice 𝓤 H A W 1 (0 ∷ []) tt (plain (λ _. u8)) yes, (goes-none 𝓤 H A W 1 (λ _. usize) yes (λ κs x f. refl), tt)) (next-field.clauses 𝓤 H A mem run) (WpFn 𝓤 H (𝓣 .C) (𝓣 .Λ) code.function) (WpFn-mono 𝓤 H (W .laws) 𝓣 code.function)
+    (next-field-walks 𝓤 H A W mem run (𝓣 .C) (𝓣 .Λ) (fmOf 𝓤 H (W .laws) 𝓣) known-from known-peek)
 
 pub next-field-spec : {M : Type 1} → stated.statement M
 unfolding code.routine tablesOf
@@ -164,4 +164,4 @@ next-field-spec 𝓤 H 𝓜 𝓖 𝓡 =
     (tables 𝓤 H 𝓜 𝓡 code.env .C) (tables 𝓤 H 𝓜 𝓡 code.env .Λ) #field-reader·next-field code.function (code.unfolded 𝓤 H 𝓜 𝓡)
     (next-field-meets 𝓤 H (𝓖 .A) (givenOf 𝓤 H 𝓜 𝓖) (𝓜 .mem) (𝓡 .run) (tablesOf 𝓤 H 𝓜 (tables 𝓤 H 𝓜 𝓡 code.env))
     (cited 𝓤 H (From 𝓤 H (𝓖 .A) (𝓜 .mem) (𝓡 .run)) 𝓜 𝓡 code.env #field-reader·read-from read-from-def.routine code.calls-field-reader·read-from (read-from-thm.met 𝓤 H 𝓜 𝓖 𝓡))
-    (cited 𝓤 H (Next 𝓤 H (𝓖 .A) (𝓜 .mem) (𝓡 .run)) 𝓜 𝓡 code.env #field-reader·next next-def.routine code.calls-field-reader·next (next-thm.met 𝓤 H 𝓜 𝓖 𝓡)))
+    (cited 𝓤 H (Peek 𝓤 H (𝓖 .A) (𝓜 .mem) (𝓡 .run)) 𝓜 𝓡 code.env #field-reader·peek peek-def.routine code.calls-field-reader·peek (peek-thm.met 𝓤 H 𝓜 𝓖 𝓡)))

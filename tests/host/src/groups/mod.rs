@@ -4,6 +4,8 @@ mod blocks;
 mod bytes;
 mod ends_hand;
 mod ends_memory;
+mod fields;
+mod fields_memory;
 mod hand;
 mod headers;
 mod links;
@@ -87,6 +89,18 @@ pub const ALL: &[(&str, Group)] = &[
         message_memory::message_null_pointers,
     ),
     ("message_guard_pages", message_memory::message_guard_pages),
+    ("fields_by_hand", fields::fields_by_hand),
+    ("field_positions", fields::field_positions),
+    ("real_walks", fields::real_walks),
+    ("damaged_walks", fields::damaged_walks),
+    ("written_walks", fields::written_walks),
+    ("every_short_walk", fields::every_short_walk),
+    ("delimiter_offsets", fields::delimiter_offsets),
+    ("random_walks", fields::random_walks),
+    ("long_walks", fields::long_walks),
+    ("field_words", fields_memory::field_words),
+    ("field_null_pointers", fields_memory::field_null_pointers),
+    ("field_guard_pages", fields_memory::field_guard_pages),
     ("receiver_by_hand", ends_hand::receiver_by_hand),
     ("sender_by_hand", ends_hand::sender_by_hand),
     ("receiver_fresh", receiver::receiver_fresh),

@@ -1,0 +1,89 @@
+#include "common.h"
+
+#include <errno.h>
+#include <fcntl.h>
+#include <signal.h>
+#include <stdarg.h>
+#include <stdio.h>
+#include <stdlib.h>
+#include <string.h>
+#include <time.h>
+#include <unistd.h>
+
+#include "giamuvich.h"
+
+static int stop_pipe[2] = {-1, -1};
+static volatile sig_atomic_t stopping;
+
+void fail(const char *format, ...)
+{
+    va_list values;
+
+    fprintf(stderr, "gmv_driver: ");
+    va_start(values, format);
+    vfprintf(stderr, format, values);
+    va_end(values);
+    fprintf(stderr, "\n");
+    exit(1);
+}
+
+void require_done(uint64_t number, const char *function)
+{
+    if (number != GMV_OK)
+        fail("%s refused by %d", function, (int)number);
+}
+
+void *allocate(size_t length)
+{
+    void *memory = malloc(length);
+
+    if (memory == NULL)
+        fail("no memory for %lu bytes", (unsigned long)length);
+    return memory;
+}
+
+long long now(void)
+{
+    struct timespec time;
+
+    if (clock_gettime(CLOCK_MONOTONIC, &time) != 0)
+        fail("no clock: %s", strerror(errno));
+    return (long long)time.tv_sec * 1000 + time.tv_nsec / 1000000;
+}
+
+static void note_stop(int signal_number)
+{
+    int error = errno;
+
+    (void)signal_number;
+    stopping = 1;
+    if (write(stop_pipe[1], "", 1) < 0)
+        stopping = 1; /* the pipe is full: it is readable already */
+    errno = error;
+}
+
+void catch_stop(void)
+{
+    struct sigaction action;
+
+    if (pipe(stop_pipe) != 0 || fcntl(stop_pipe[1], F_SETFL, O_NONBLOCK) != 0)
+        fail("no pipe: %s", strerror(errno));
+    memset(&action, 0, sizeof action);
+    sigemptyset(&action.sa_mask);
+    action.sa_handler = note_stop;
+    if (sigaction(SIGTERM, &action, NULL) != 0 || sigaction(SIGINT, &action, NULL) != 0)
+        fail("no signal handler: %s", strerror(errno));
+    action.sa_handler = SIG_IGN; /* a peer that is gone is an error of write, not the driver's end */
+    if (sigaction(SIGPIPE, &action, NULL) != 0)
+        fail("no signal handler: %s", strerror(errno));
+}
+
+int stop_descriptor(void)
+{
+    return stop_pipe[0];
+}
+
+int stop_requested(void)
+{
+    return stopping;
+}

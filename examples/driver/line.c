@@ -1,0 +1,328 @@
+#include "line.h"
+
+#include <errno.h>
+#include <fcntl.h>
+#include <limits.h>
+#include <netdb.h>
+#include <netinet/in.h>
+#include <poll.h>
+#include <stdio.h>
+#include <stdlib.h>
+#include <string.h>
+#include <sys/socket.h>
+#include <termios.h>
+#include <unistd.h>
+
+#include "common.h"
+
+enum { LEAST_BACKOFF = 10, MOST_BACKOFF = 500, CONNECT_LIMIT = 2000 };
+
+static int set_nonblocking(int descriptor)
+{
+    int flags = fcntl(descriptor, F_GETFL);
+
+    return flags < 0 ? -1 : fcntl(descriptor, F_SETFL, flags | O_NONBLOCK);
+}
+
+/* A listening socket on the loopback address: what stands on it is not encrypted. */
+static int listen_on(const char *port)
+{
+    struct sockaddr_in address;
+    socklen_t length = sizeof address;
+    const int yes = 1;
+    char *end;
+    unsigned long number = strtoul(port, &end, 10);
+    int listening = socket(AF_INET, SOCK_STREAM, 0);
+
+    if (*port == '\0' || *end != '\0' || number > 65535)
+        fail("%s is no port", port);
+    memset(&address, 0, sizeof address);
+    address.sin_family = AF_INET;
+    address.sin_addr.s_addr = htonl(INADDR_LOOPBACK);
+    address.sin_port = htons((uint16_t)number);
+    if (listening < 0 || set_nonblocking(listening) != 0 ||
+        setsockopt(listening, SOL_SOCKET, SO_REUSEADDR, &yes, sizeof yes) != 0 ||
+        bind(listening, (struct sockaddr *)&address, sizeof address) != 0 ||
+        listen(listening, 1) != 0 ||
+        getsockname(listening, (struct sockaddr *)&address, &length) != 0)
+        fail("cannot listen on port %s: %s", port, strerror(errno));
+    printf("listening on %d\n", (int)ntohs(address.sin_port));
+    fflush(stdout);
+    return listening;
+}
+
+void line_prepare(line *line, const settings *link)
+{
+    memset(line, 0, sizeof *line);
+    line->link = link;
+    line->listening = link->kind == TCP_LISTEN ? listen_on(link->address) : -1;
+    line->circuit = -1;
+    line->backoff = LEAST_BACKOFF;
+}
+
+/* ---- opening a circuit: a descriptor that does not block, or -1 */
+
+static struct addrinfo *addresses_of(const char *host_and_port)
+{
+    char host[256];
+    const char *colon = strrchr(host_and_port, ':');
+    struct addrinfo hints, *found = NULL;
+
+    if (colon == NULL || (size_t)(colon - host_and_port) >= sizeof host)
+        fail("%s is not HOST:PORT", host_and_port);
+    memcpy(host, host_and_port, (size_t)(colon - host_and_port));
+    host[colon - host_and_port] = '\0';
+    memset(&hints, 0, sizeof hints);
+    hints.ai_socktype = SOCK_STREAM;
+    return getaddrinfo(host, colon + 1, &hints, &found) == 0 ? found : NULL;
+}
+
+/* Waits for a connection that is being made. Returns 0 when it is. */
+static int finish_connecting(int circuit)
+{
+    struct pollfd waits[2] = {{circuit, POLLOUT, 0}, {stop_descriptor(), POLLIN, 0}};
+    int error = 0;
+    socklen_t length = sizeof error;
+
+    if (poll(waits, 2, CONNECT_LIMIT) <= 0 || waits[0].revents == 0)
+        return -1;
+    if (getsockopt(circuit, SOL_SOCKET, SO_ERROR, &error, &length) != 0)
+        return -1;
+    return error == 0 ? 0 : -1;
+}
+
+/* Where nobody listens on a loopback port, a caller can be given that port and reach itself. */
+static int reaches_itself(int circuit)
+{
+    struct sockaddr_storage own, peer;
+    socklen_t own_length = sizeof own, peer_length = sizeof peer;
+
+    memset(&own, 0, sizeof own);
+    memset(&peer, 0, sizeof peer);
+    return getsockname(circuit, (struct sockaddr *)&own, &own_length) == 0 &&
+           getpeername(circuit, (struct sockaddr *)&peer, &peer_length) == 0 &&
+           own_length == peer_length && memcmp(&own, &peer, own_length) == 0;
+}
+
+static int connect_to(const struct addrinfo *address)
+{
+    int circuit = socket(address->ai_family, address->ai_socktype, address->ai_protocol);
+
+    if (circuit < 0)
+        return -1;
+    if (set_nonblocking(circuit) == 0 &&
+        (connect(circuit, address->ai_addr, address->ai_addrlen) == 0 ||
+         ((errno == EINPROGRESS || errno == EINTR) && finish_connecting(circuit) == 0)) &&
+        !reaches_itself(circuit))
+        return circuit;
+    close(circuit);
+    return -1;
+}
+
+static int open_connection(const char *host_and_port)
+{
+    struct addrinfo *addresses = addresses_of(host_and_port);
+    int circuit = -1;
+
+    for (struct addrinfo *at = addresses; at != NULL && circuit < 0; at = at->ai_next)
+        circuit = connect_to(at);
+    if (addresses != NULL)
+        freeaddrinfo(addresses);
+    return circuit;
+}
+
+static int accept_caller(int listening)
+{
+    int circuit = accept(listening, NULL, NULL);
+
+    if (circuit >= 0 && set_nonblocking(circuit) != 0) {
+        close(circuit);
+        return -1;
+    }
+    return circuit;
+}
+
+/* Every byte as it is, none echoed; and with at least one byte to a read, 0 bytes mean a hangup. What
+ * came in before is flushed: the line is empty at a new circuit. */
+static int make_raw(int terminal)
+{
+    struct termios modes;
+
+    if (tcgetattr(terminal, &modes) != 0)
+        return -1;
+    modes.c_iflag &= ~(tcflag_t)(IGNBRK | BRKINT | PARMRK | ISTRIP | INLCR | IGNCR | ICRNL | IXON |
+                                 IXOFF);
+    modes.c_oflag &= ~(tcflag_t)OPOST;
+    modes.c_lflag &= ~(tcflag_t)(ECHO | ECHONL | ICANON | ISIG | IEXTEN);
+    modes.c_cflag &= ~(tcflag_t)(CSIZE | PARENB);
+    modes.c_cflag |= CS8 | CREAD;
+    modes.c_cc[VMIN] = 1;
+    modes.c_cc[VTIME] = 0;
+    return tcsetattr(terminal, TCSAFLUSH, &modes);
+}
+
+static int is_same_link(const struct stat *a, const struct stat *b)
+{
+    return a->st_dev == b->st_dev && a->st_ino == b->st_ino &&
+           a->st_ctim.tv_sec == b->st_ctim.tv_sec && a->st_ctim.tv_nsec == b->st_ctim.tv_nsec;
+}
+
+/* The terminal server makes the symbolic link anew for each circuit. One that had a circuit already is
+ * not opened again: the server has not yet seen that this circuit ended, and its line is not empty. */
+static int open_terminal(line *line)
+{
+    const char *path = line->link->address;
+    struct stat status, after;
+    int terminal;
+
+    if (lstat(path, &status) != 0 || (S_ISLNK(status.st_mode) && is_same_link(&status, &line->used)))
+        return -1;
+    terminal = open(path, O_RDWR | O_NOCTTY | O_NONBLOCK);
+    if (terminal < 0)
+        return -1;
+    if (!isatty(terminal) && errno == ENOTTY)
+        fail("%s is no terminal", path);
+    if (lstat(path, &after) != 0 || !is_same_link(&status, &after) || make_raw(terminal) != 0) {
+        close(terminal); /* it was made anew meanwhile, or it hung up */
+        return -1;
+    }
+    line->used = status;
+    return terminal;
+}
+
+int line_open(line *line)
+{
+    if (line->circuit >= 0 || now() < line->next_try)
+        return 0;
+    switch (line->link->kind) {
+    case TCP_CONNECT:
+        line->circuit = open_connection(line->link->address);
+        break;
+    case TCP_LISTEN:
+        line->circuit = accept_caller(line->listening);
+        if (line->circuit < 0 && errno == EAGAIN)
+            return 0; /* nobody calls, and line_wait sees who does */
+        break;
+    case TERMINAL:
+        line->circuit = open_terminal(line);
+        break;
+    default:
+        fail("no line");
+    }
+    if (line->circuit >= 0) {
+        line->backoff = LEAST_BACKOFF;
+        return 1;
+    }
+    line->next_try = now() + line->backoff;
+    line->backoff = line->backoff * 2 < MOST_BACKOFF ? line->backoff * 2 : MOST_BACKOFF;
+    return 0;
+}
+
+void line_close(line *line)
+{
+    if (line->circuit < 0)
+        return;
+    close(line->circuit);
+    line->circuit = -1;
+    line->next_try = line->link->kind == TCP_LISTEN ? 0 : now() + line->backoff;
+}
+
+void line_finish(line *line)
+{
+    line_close(line);
+    if (line->listening >= 0)
+        close(line->listening);
+    line->listening = -1;
+}
+
+long long line_next_try(const line *line)
+{
+    if (line->circuit >= 0 || (line->link->kind == TCP_LISTEN && now() >= line->next_try))
+        return LLONG_MAX;
+    return line->next_try;
+}
+
+/* ---- an open circuit */
+
+static int is_called(const line *line)
+{
+    struct pollfd call = {line->listening, POLLIN, 0};
+
+    return line->listening >= 0 && poll(&call, 1, 0) > 0;
+}
+
+/* A new caller means that the circuit has ended, even where this end has not heard of it yet. Asked
+ * after the read, so that no byte is taken from a circuit after the peer opened the next one: the
+ * line is empty then. */
+ssize_t line_read(line *line, uint8_t *bytes, size_t size)
+{
+    ssize_t count = read(line->circuit, bytes, size);
+
+    if (count < 0 && (errno == EAGAIN || errno == EWOULDBLOCK || errno == EINTR))
+        return is_called(line) ? -1 : 0;
+    if (count <= 0 || is_called(line))
+        return -1;
+    return count;
+}
+
+ssize_t line_write(line *line, const uint8_t *bytes, size_t length)
+{
+    ssize_t count = write(line->circuit, bytes, length);
+
+    if (count < 0 && (errno == EAGAIN || errno == EWOULDBLOCK || errno == EINTR))
+        return 0;
+    return count;
+}
+
+static int milliseconds_until(long long until)
+{
+    long long rest = until - now();
+
+    if (rest < 0)
+        return 0;
+    return rest > 60000 ? 60000 : (int)rest;
+}
+
+int line_wait(const line *line, int writing, long long until)
+{
+    const int listens = line->circuit >= 0 || now() >= line->next_try;
+    /* A descriptor of -1 is not looked at. */
+    struct pollfd waits[3] = {{line->circuit, (short)(POLLIN | (writing ? POLLOUT : 0)), 0},
+                              {listens ? line->listening : -1, POLLIN, 0},
+                              {stop_descriptor(), POLLIN, 0}};
+    int seen = 0;
+
+    if (poll(waits, 3, milliseconds_until(until)) < 0) {
+        if (errno != EINTR)
+            fail("cannot wait: %s", strerror(errno));
+        return 0;
+    }
+    if (waits[0].revents & (POLLIN | POLLHUP | POLLERR))
+        seen |= LINE_READABLE; /* a hangup is seen by reading */
+    if (waits[0].revents & POLLOUT)
+        seen |= LINE_WRITABLE;
+    if (waits[1].revents != 0)
+        seen |= LINE_CALLED;
+    return seen;
+}
+
+int line_write_all(line *line, const uint8_t *bytes, size_t length, long long until)
+{
+    size_t written = 0;
+
+    while (written < length) {
+        ssize_t count = line_write(line, bytes + written, length - written);
+
+        if (count < 0)
+            return -1;
+        written += (size_t)count;
+        if (count == 0) {
+            struct pollfd waits[2] = {{line->circuit, POLLOUT, 0}, {stop_descriptor(), POLLIN, 0}};
+
+            poll(waits, 2, milliseconds_until(until));
+            if (now() >= until || stop_requested())
+                return -1;
+        }
+    }
+    return 0;
+}

@@ -1,0 +1,52 @@
+/* The line of a link. One TCP connection is one circuit; on a terminal line, the time from opening the
+ * terminal to its hangup is. Nothing here waits but line_wait, and that only until its time. */
+#ifndef LINE_H
+#define LINE_H
+
+#include <stddef.h>
+#include <stdint.h>
+#include <sys/stat.h>
+#include <sys/types.h>
+
+#include "settings.h"
+
+typedef struct {
+    const settings *link;
+    int listening;          /* the listening socket, or -1 */
+    int circuit;            /* the open circuit, or -1 */
+    long backoff;           /* milliseconds until the next try */
+    long long next_try;
+    struct stat used;       /* the terminal's symbolic link that the last circuit had */
+} line;
+
+/* What line_wait saw. */
+enum { LINE_READABLE = 1, LINE_WRITABLE = 2, LINE_CALLED = 4 };
+
+/* Listens, where the line does, and prints the port. Ends the program where it cannot. */
+void line_prepare(line *line, const settings *link);
+
+/* Tries to open a circuit, where none is open and the time of the next try has come. Returns 1 where
+ * one was opened. */
+int line_open(line *line);
+
+/* Ends the circuit. What was not read of it and what was not written is dropped. */
+void line_close(line *line);
+
+/* Ends the circuit and listens no longer. */
+void line_finish(line *line);
+
+/* When line_open is worth a call though nothing happened. */
+long long line_next_try(const line *line);
+
+/* The bytes read or written, 0 where there are none now, or -1 where the circuit has ended. */
+ssize_t line_read(line *line, uint8_t *bytes, size_t size);
+ssize_t line_write(line *line, const uint8_t *bytes, size_t length);
+
+/* Waits until something can be read (or written, if writing), somebody calls, the driver is to stop,
+ * or the time is there. */
+int line_wait(const line *line, int writing, long long until);
+
+/* Writes all. Returns 0, or -1 where the circuit ended, or the peer did not take it in time. */
+int line_write_all(line *line, const uint8_t *bytes, size_t length, long long until);
+
+#endif

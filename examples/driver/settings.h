@@ -1,0 +1,27 @@
+/* The settings of a link and of its line, from the command line. */
+#ifndef SETTINGS_H
+#define SETTINGS_H
+
+#include <stdint.h>
+
+enum line_kind { NO_LINE, TCP_CONNECT, TCP_LISTEN, TERMINAL };
+
+typedef struct {
+    enum line_kind kind;
+    int hybrid;                             /* else minimal */
+    const char *address;                    /* HOST:PORT, PORT or PATH */
+    uint64_t start_block, end_block;        /* of a hybrid link */
+    uint64_t data_limit, resends, application;
+    long timer;                             /* milliseconds */
+    const uint8_t *type;                    /* of control messages, TYPE_LENGTH letters */
+} settings;
+
+enum { TYPE_LENGTH = 3 };
+
+/* Reads LINE and OPTIONS. Returns 0, or -1 where they are not what the usage says. */
+int settings_read(settings *link, int count, char **words);
+
+/* Ends the program where the library refuses the settings: better now than at the first block. */
+void settings_check(const settings *link);
+
+#endif

@@ -1,0 +1,142 @@
+#include "store.h"
+
+#include <errno.h>
+#include <fcntl.h>
+#include <stdint.h>
+#include <stdio.h>
+#include <string.h>
+#include <sys/stat.h>
+#include <unistd.h>
+
+#include "common.h"
+
+void path_of(char *path, const char *folder, const char *name)
+{
+    int length = snprintf(path, PATH_LENGTH, "%s/%s", folder, name);
+
+    if (length < 0 || length >= PATH_LENGTH)
+        fail("the path %s/%s is too long", folder, name);
+}
+
+void make_folder(const char *path)
+{
+    if (mkdir(path, 0777) != 0 && errno != EEXIST)
+        fail("cannot make the folder %s: %s", path, strerror(errno));
+}
+
+void sync_folder(const char *path)
+{
+    int folder = open(path, O_RDONLY);
+
+    if (folder < 0 || fsync(folder) != 0)
+        fail("cannot sync the folder %s: %s", path, strerror(errno));
+    close(folder);
+}
+
+static int write_all(int file, const uint8_t *bytes, size_t length)
+{
+    size_t written = 0;
+
+    while (written < length) {
+        ssize_t count = write(file, bytes + written, length - written);
+
+        if (count < 0 && errno != EINTR)
+            return -1;
+        if (count > 0)
+            written += (size_t)count;
+    }
+    return 0;
+}
+
+static void store(const char *folder, const char *name, const void *bytes, size_t length, int sync)
+{
+    char path[PATH_LENGTH], new_path[PATH_LENGTH + 4];
+    int file;
+
+    path_of(path, folder, name);
+    snprintf(new_path, sizeof new_path, "%s.new", path);
+    file = open(new_path, O_WRONLY | O_CREAT | O_TRUNC, 0666);
+    if (file < 0 || write_all(file, bytes, length) != 0)
+        fail("cannot write %s: %s", new_path, strerror(errno));
+    if (sync && fsync(file) != 0) /* before the name: else the name could survive without the bytes */
+        fail("cannot sync %s: %s", new_path, strerror(errno));
+    if (close(file) != 0)
+        fail("cannot close %s: %s", new_path, strerror(errno));
+    if (rename(new_path, path) != 0)
+        fail("cannot rename %s: %s", new_path, strerror(errno));
+    if (sync)
+        sync_folder(folder);
+}
+
+void store_durably(const char *folder, const char *name, const void *bytes, size_t length)
+{
+    store(folder, name, bytes, length, 1);
+}
+
+void store_lightly(const char *folder, const char *name, const void *bytes, size_t length)
+{
+    store(folder, name, bytes, length, 0);
+}
+
+ssize_t read_file(const char *path, void *buffer, size_t size)
+{
+    int file = open(path, O_RDONLY), error;
+    size_t length = 0;
+    ssize_t count = 1;
+
+    if (file < 0)
+        return -1;
+    while (length < size && count != 0) {
+        count = read(file, (uint8_t *)buffer + length, size - length);
+        if (count < 0 && errno != EINTR)
+            break;
+        if (count > 0)
+            length += (size_t)count;
+    }
+    error = errno;
+    close(file);
+    errno = error;
+    return count < 0 && length < size ? -1 : (ssize_t)length;
+}
+
+static struct flock whole_file(short type)
+{
+    struct flock lock;
+
+    memset(&lock, 0, sizeof lock);
+    lock.l_type = type;
+    lock.l_whence = SEEK_SET;
+    return lock;
+}
+
+int lock_folder(const char *folder)
+{
+    char path[PATH_LENGTH];
+    struct flock lock = whole_file(F_WRLCK);
+    int file;
+
+    path_of(path, folder, "lock");
+    file = open(path, O_RDWR | O_CREAT, 0666); /* stays open: closing it would give the lock back */
+    if (file < 0)
+        fail("cannot open %s: %s", path, strerror(errno));
+    if (fcntl(file, F_SETLK, &lock) == 0)
+        return 0;
+    if (errno != EACCES && errno != EAGAIN)
+        fail("cannot lock %s: %s", path, strerror(errno));
+    return -1;
+}
+
+int folder_is_locked(const char *folder)
+{
+    char path[PATH_LENGTH];
+    struct flock lock = whole_file(F_WRLCK);
+    int file, known;
+
+    path_of(path, folder, "lock");
+    file = open(path, O_RDWR);
+    if (file < 0)
+        return 0;
+    known = fcntl(file, F_GETLK, &lock) == 0;
+    close(file);
+    return known && lock.l_type != F_UNLCK;
+}

@@ -1,0 +1,32 @@
+/* Files that survive. A file is written under a new name, synced and renamed into the old one's name,
+ * and the folder is synced: after a crash there is the old content or the new one, nothing between. */
+#ifndef STORE_H
+#define STORE_H
+
+#include <stddef.h>
+#include <sys/types.h>
+
+enum { PATH_LENGTH = 4096 };
+
+/* FOLDER/NAME. Ends the program where it is too long. */
+void path_of(char *path, const char *folder, const char *name);
+
+/* Makes a folder, which may be there already. */
+void make_folder(const char *path);
+void sync_folder(const char *path);
+
+/* Returns when the file survives a crash. Ends the program where it cannot be stored. */
+void store_durably(const char *folder, const char *name, const void *bytes, size_t length);
+
+/* The same without syncing, for what need not survive. */
+void store_lightly(const char *folder, const char *name, const void *bytes, size_t length);
+
+/* Reads the first bytes of a file, at most size. Returns how many, or -1 with errno. */
+ssize_t read_file(const char *path, void *buffer, size_t size);
+
+/* One driver at a time runs on a folder. The lock goes with the process, however that ends. Returns
+ * 0, or -1 where another process has it. */
+int lock_folder(const char *folder);
+int folder_is_locked(const char *folder);
+
+#endif
