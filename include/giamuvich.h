@@ -5,7 +5,7 @@
  *   - Blocks. Hybrid blocks (HL7 implementation guide, appendix C.2.2) and minimal blocks (C.4.2)
  *     are read from a line in parts of any length, checked whole, and written.
  *   - Messages. Of the messages in the blocks the header fields are read that sequence numbers need,
- *     and answers and control messages are written.
+ *     a message is read field by field, and answers and control messages are written.
  *   - The receiver of sequence numbers. It says what to persist of each block, and writes the reply
  *     block.
  *   - The sender of sequence numbers. It says what to send now, counts the sends, and says which
@@ -15,13 +15,16 @@
  *
  * Every function is proved to return the one answer that its definition gives, for every input, and
  * to change no memory but what is said here. Nothing is allocated, nothing is kept between calls, and
- * nothing blocks. Lines, timers and storage are the caller's: an end of a link is told what happened,
- * and its report says what to do.
+ * nothing blocks. Of words that are written only the first so many change, as the function says, and
+ * never those behind them. Lines, timers and storage are the caller's: an end of a link is told what
+ * happened, and its report says what to do.
  *
  * What the caller answers for, and nothing else:
  *   - each pointer has memory of the length that is passed with it (a length of 0 may come with
  *     any pointer, also a null pointer),
  *   - memory that a function may change overlaps nothing else that is passed in the same call,
+ *     (C itself asks that a pointer to words is aligned for them, and that no other thread changes the
+ *     memory meanwhile)
  *   - for the receiver, the sender and the station, the duties in their sections.
  *
  * Settings are plain numbers and are checked in every call that takes them:
@@ -40,7 +43,7 @@
  *
  * Refusals come in the order 1, 2, 11, and then those of the block: reading 8, 4, 5, 3, 6, 7;
  * writing 4, 5, 3. Minimal reading has 8, 4, 5, 3 only, and 5 there means only EB without CR. For
- * messages: reading 2, 9; writing 1, 2, 3, 9, 10. A receiver and a station have 1, 2, 11 only, and so
+ * messages: reading 2, 9 (gmv_field_next: 2 only); writing 1, 2, 3, 9, 10. A receiver and a station have 1, 2, 11 only, and so
  * has a sender but for gmv_sender_submit: 1, 2, 11, 4, 3, 9, 10.
  */
 #ifndef GIAMUVICH_H
@@ -233,9 +236,9 @@ enum {
 /* What ended a field. */
 enum {
     GMV_DELIMITER_NONE = 0,        /* there is no field */
-    GMV_DELIMITER_SEPARATOR = 1,   /* a bar; the next field is of the same segment */
-    GMV_DELIMITER_SEGMENT_END = 2, /* CR; the next field begins a segment */
-    GMV_DELIMITER_MESSAGE_END = 3  /* the message's last byte */
+    GMV_DELIMITER_SEPARATOR = 1,   /* a bar; the next field, if any, is of the same segment */
+    GMV_DELIMITER_SEGMENT_END = 2, /* CR; the next field, if any, begins a segment */
+    GMV_DELIMITER_MESSAGE_END = 3  /* the message's end, and no byte */
 };
 
 /* The words of the next field. */
@@ -263,7 +266,8 @@ uint64_t gmv_header_read(const uint8_t *message, size_t message_length,
                          uint64_t *header, size_t header_words);
 
 /* Reads MSA-1, MSA-2 and MSA-4 of an answer: a message whose header can be read (as above, MSH-10
- * included) and whose second segment begins "MSA|" and ends in CR. What follows is not looked at.
+ * included) and whose second segment begins "MSA|" and ends in CR. What follows is not looked at. A
+ * field that is missing has length 0, and its offset is that of the MSA segment's CR.
  *
  * Returns 0 with the words written; or, in this order and with nothing changed, 2 (answer_words below
  * GMV_ANSWER_WORDS) or 9. */
@@ -272,8 +276,9 @@ uint64_t gmv_answer_read(const uint8_t *message, size_t message_length,
 
 /* Gives the next field of a message, from a position on: the bytes up to the next bar, CR or the
  * message's end. Begin with position 0, which gives "MSH" of a message, and pass
- * GMV_NEXT_POSITION each time. It goes from segment to segment. A bar or CR right at the position is
- * an empty field; nothing behind the last bar or CR of a message is no field. No byte is refused.
+ * GMV_NEXT_POSITION each time. It goes from segment to segment. A bar or CR right at the position ends
+ * an empty field; a message that ends in a bar or CR has no further field behind it. Any position is
+ * taken: inside a field it gives the rest of it. No byte is refused.
  *
  * Returns 0 with the words written, or 2 (field_words below GMV_NEXT_WORDS) with nothing changed.
  * Words from GMV_NEXT_WORDS on are not changed. */
@@ -316,10 +321,14 @@ uint64_t gmv_control_write(const uint8_t *type, size_t type_length, uint64_t num
  *   - the state and the transaction named in the report are persisted, as one act, before the
  *     reply goes out,
  *   - one block at a time: the reply to a block is decided after the state of the block before it
- *     is persisted,
+ *     is persisted. The call changes the state in memory first: a driver that cannot persist it sends
+ *     nothing and stops, or goes on from what is persisted,
+ *   - the reply buffer is not the reader's buffer: the data of the block still lies in that,
+ *   - of a refused block the words of the verdict are passed as they are (type 0, length 0),
  *   - when a circuit ends, a reply that was not yet sent is dropped, and the reader starts afresh
  *     (gmv_reader_fresh),
- *   - no byte of an earlier circuit, and none of an earlier tenant, comes in on a new circuit. */
+ *   - no byte of an earlier circuit, and none of an earlier tenant, comes in on a new circuit. On TCP
+ *     bytes of the old connection can still be unread when the new one is there: they are dropped. */
 
 /* The words of a receiver's state. All of it is persisted. */
 enum {
@@ -390,9 +399,18 @@ uint64_t gmv_minimal_receive(uint64_t data_limit,
  *
  * The driver's duties besides memory:
  *   - the first GMV_SENDER_PERSISTED_WORDS words of the state are persisted, as one act, before the
- *     next block goes out,
+ *     next block goes out. An act changes the state in memory first: a driver that cannot persist it
+ *     sends nothing and stops, or goes on from what is persisted,
+ *   - a message is persisted in the log before the state that counts it as submitted, and stays there
+ *     until the persisted GMV_SENDER_DELIVERED has passed it; while frozen nothing can be submitted
+ *     (11), and the host keeps what it has,
  *   - sends go out in the order in which the reports named them; an older one that is not yet
- *     written may be dropped for a newer one,
+ *     written may be dropped for a newer one; a block of which a part is written is finished, or the
+ *     circuit is ended,
+ *   - the timer is started, or started anew, at each send that a report names, goes on where a report
+ *     names none (a dropped answer among them), and is stopped where nothing waits,
+ *   - after GMV_EVENT_ABANDONED and GMV_EVENT_FROZE the circuit has ended for the sender: the driver
+ *     closes the line, and does not call gmv_sender_ended (it would answer 11),
  *   - when a circuit ends, sends named and not yet written are dropped; at a new circuit the reader
  *     starts afresh (gmv_reader_fresh),
  *   - each tenant begins with a new sender (gmv_sender_fresh), and the line is empty in both
@@ -401,6 +419,9 @@ uint64_t gmv_minimal_receive(uint64_t data_limit,
 
 /* How often a message is sent again, where nothing else is agreed. */
 enum { GMV_RESENDS_DEFAULT = 3 };
+
+/* The largest number of a transaction. One more may be expected, and is never sent. */
+#define GMV_LARGEST_NUMBER UINT64_C(999999999999998)
 
 /* The words of a sender's state. After a crash the first GMV_SENDER_PERSISTED_WORDS are restored
  * and the others set to 0 (no circuit is open). */
@@ -440,7 +461,8 @@ enum {
     GMV_EVENT_DELIVERED = 1, /* a transaction is known to be delivered */
     GMV_EVENT_ABANDONED = 2, /* a send fell due with all sends spent: the circuit ended */
     GMV_EVENT_FROZE = 3,     /* an answer that cannot be: frozen until an operator resets; the circuit
-                                ended */
+                                ended. gmv_answer_read reads the answer from the same data, and what it
+                                answered is what waited in the state before the call */
     GMV_EVENT_DROPPED = 4    /* an answer to something else was dropped */
 };
 
@@ -477,7 +499,8 @@ enum {
  *   waiting 2: not resynchronized, not frozen, sends 1 to 100;
  *   waiting 3: resynchronized, not frozen, sends 1 to 100;
  *   waiting 4: resynchronized, not frozen, delivered < last, sends 1 to 100.
- * Waiting is never over 4. */
+ * Waiting is never over 4. To look at restored words before they are used, act on a copy: with frozen
+ * 0 open it, with frozen 1 reset it. 11 then says that they encode no state. */
 
 /* A new sender: nothing submitted, first number `first`. Returns 0; or, in this order and with
  * nothing changed, 1 (first is not 1 to 999999999999998) or 2 (state_words below GMV_SENDER_WORDS).
