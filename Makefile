@@ -41,5 +41,9 @@ bench: setup $(archive)
 	CARGO_TARGET_DIR=$(CURDIR)/target/bench cargo run --release --offline --manifest-path bench/Cargo.toml --bin bench -- $(PART)
 	bench/gate_times
 
+FUZZ_SECONDS ?= 600
+fuzz: setup $(archive)
+	tests/fuzz/run --seconds $(FUZZ_SECONDS)
+
 clean:
 	rm -rf target

@@ -113,8 +113,11 @@ enum {
 enum {
     GMV_READER_PHASE = 0,        /* 0 between blocks, 1 inside a block, 2 after a block's EB */
     GMV_READER_BODY_LENGTH = 1,  /* bytes of the current block since SB; it stops at one more than the
-                                    buffer holds of a block */
-    GMV_READER_BLOCK_OFFSET = 2, /* offset of the current block's SB in the stream */
+                                    buffer holds of a block (a larger one, which no reading leaves,
+                                    stays as it is, and the block is too long) */
+    GMV_READER_BLOCK_OFFSET = 2, /* offset of the current block's SB in the stream. Between blocks
+                                    this word and the one before are 0 after a verdict, stay as they
+                                    are until the next SB, and count for nothing */
     GMV_READER_POSITION = 3,     /* bytes of the stream read so far */
     GMV_READER_WORDS = 4
 };

@@ -14,6 +14,7 @@
 #include <unistd.h>
 
 #include "common.h"
+#include "status.h"
 
 enum { LEAST_BACKOFF = 10, MOST_BACKOFF = 500, CONNECT_LIMIT = 2000 };
 
@@ -227,12 +228,19 @@ void line_close(line *line)
     line->next_try = line->link->kind == TCP_LISTEN ? 0 : now() + line->backoff;
 }
 
+void line_pause(line *line, long milliseconds)
+{
+    if (line->link->kind != TCP_LISTEN)
+        line->next_try = now() + milliseconds;
+}
+
+/* The listening socket first: a peer that sees the circuit end must not reach a driver that stops. */
 void line_finish(line *line)
 {
-    line_close(line);
     if (line->listening >= 0)
         close(line->listening);
     line->listening = -1;
+    line_close(line);
 }
 
 long long line_next_try(const line *line)
@@ -259,9 +267,13 @@ ssize_t line_read(line *line, uint8_t *bytes, size_t size)
     ssize_t count = read(line->circuit, bytes, size);
 
     if (count < 0 && (errno == EAGAIN || errno == EWOULDBLOCK || errno == EINTR))
-        return is_called(line) ? -1 : 0;
-    if (count <= 0 || is_called(line))
+        count = 0;
+    else if (count <= 0)
         return -1;
+    if (is_called(line)) {
+        say_new_caller();
+        return -1;
+    }
     return count;
 }
 

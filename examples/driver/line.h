@@ -32,6 +32,9 @@ int line_open(line *line);
 /* Ends the circuit. What was not read of it and what was not written is dropped. */
 void line_close(line *line);
 
+/* After the sender gave up: it calls again only when this time is over. */
+void line_pause(line *line, long milliseconds);
+
 /* Ends the circuit and listens no longer. */
 void line_finish(line *line);
 

@@ -74,3 +74,15 @@ uint64_t link_receive(const settings *link, uint64_t *state, const input *in, ui
                                input_data(in), verdict[GMV_VERDICT_DATA_LENGTH], buffer,
                                buffer_length, 0, report, GMV_RECEIVED_WORDS);
 }
+
+/* The bytes of a block before its data and after it. An N block's one byte is no answer. */
+uint64_t link_reply_code(const settings *link, const uint8_t *reply, size_t length)
+{
+    const size_t before = link->hybrid ? 5 : 1, around = link->hybrid ? BLOCK_OVERHEAD : 3;
+    uint64_t answer[GMV_ANSWER_WORDS];
+
+    if (length < around ||
+        gmv_answer_read(reply + before, length - around, answer, GMV_ANSWER_WORDS) != GMV_OK)
+        return GMV_CODE_OTHER;
+    return answer[GMV_ANSWER_CODE];
+}

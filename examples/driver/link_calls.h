@@ -34,4 +34,7 @@ uint64_t link_data_block(const settings *link, const uint8_t *message, size_t me
 uint64_t link_receive(const settings *link, uint64_t *state, const input *in, uint8_t *buffer,
                       size_t buffer_length, uint64_t *report);
 
+/* The code of a reply that link_receive wrote: GMV_CODE_.. ; GMV_CODE_OTHER where it is an N block. */
+uint64_t link_reply_code(const settings *link, const uint8_t *reply, size_t length);
+
 #endif

@@ -57,9 +57,10 @@ static void persist(receiving_end *end, const receiver_record *after)
     end->record = *after;
 }
 
-static void count_block(receiving_end *end, uint64_t block_number)
+static void count_block(receiving_end *end, uint64_t block_number, size_t reply_length)
 {
     end->counts.blocks++;
+    end->counts.rejected += link_reply_code(end->link, end->reply, reply_length) == GMV_CODE_AR;
     if (block_number != GMV_OK) {
         end->counts.refused++;
         end->counts.last_refused = block_number;
@@ -85,7 +86,7 @@ static void receive_block(receiving_end *end)
                  "the receiver's act");
     if (report[GMV_RECEIVED_TRANSACTION] != 0)
         after.stored++;
-    count_block(end, report[GMV_RECEIVED_BLOCK]);
+    count_block(end, report[GMV_RECEIVED_BLOCK], report[GMV_RECEIVED_REPLY_LENGTH]);
 #ifdef GMV_FAULT_ANSWER_BEFORE_STORING
     const struct timespec while_broken = {0, 20000000};
     send_reply(end, report[GMV_RECEIVED_REPLY_LENGTH]);
@@ -152,6 +153,8 @@ void receiver_run(const char *folder, const settings *link)
 {
     receiving_end end;
 
+    if (folder_is_missing(folder))
+        fail("no such end: make it with gmv_driver receiver-init %s", folder);
     if (lock_folder(folder) != 0)
         fail("a driver runs on %s already", folder);
     begin(&end, folder, link);

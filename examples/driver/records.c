@@ -23,9 +23,10 @@ static const char *const report_names[GMV_ACT_WORDS] = {
     "act_send", "act_send_number", "act_sends", "act_event", "act_delivered", "act_code",
     "act_block", "act_forbidden_offset"};
 static const char *const receiver_names[] = {"expected", "stored"};
-static const char *const count_names[] = {"circuits", "blocks", "refused", "last_refused",
+static const char *const sender_count_names[] = {"circuits", "given_up"};
+static const char *const count_names[] = {"circuits", "blocks", "refused", "last_refused", "rejected",
                                           "circuit_open"};
-enum { COUNT_WORDS = 5 };
+enum { SENDER_COUNT_WORDS = 2, COUNT_WORDS = 6 };
 
 /* ---- text that is made */
 
@@ -135,7 +136,7 @@ static const char *read_text(const char *folder, const char *name, char *bytes)
     path_of(path, folder, name);
     length = read_file(path, bytes, RECORD_LENGTH);
     if (length < 0)
-        return errno == ENOENT ? "is missing" : "cannot be read";
+        return errno == ENOENT ? RECORD_MISSING : "cannot be read";
     if (length == RECORD_LENGTH || memchr(bytes, '\0', (size_t)length) != NULL)
         return "is damaged";
     bytes[length] = '\0';
@@ -173,8 +174,21 @@ static int is_receiver(const uint64_t *words)
 
 /* ---- the sender */
 
+static int takes_sender_live(const char **at, uint64_t *report, sender_counts *counts)
+{
+    uint64_t counted[SENDER_COUNT_WORDS];
+
+    if (!takes_words(at, report_names, report, GMV_ACT_WORDS) ||
+        !takes_words(at, sender_count_names, counted, SENDER_COUNT_WORDS))
+        return 0;
+    counts->circuits = counted[0];
+    counts->given_up = counted[1];
+    return 1;
+}
+
+/* Of a state, report and counts are NULL. */
 static const char *sender_from(const char *bytes, const char *title, size_t words,
-                               sender_record *record, uint64_t *report)
+                               sender_record *record, uint64_t *report, sender_counts *counts)
 {
     const char *at = bytes;
 
@@ -182,7 +196,7 @@ static const char *sender_from(const char *bytes, const char *title, size_t word
     if (!takes(&at, title) || !takes(&at, "\n") ||
         !takes_words(&at, sender_names, record->words, words))
         return "is damaged";
-    if (report != NULL && !takes_words(&at, report_names, report, GMV_ACT_WORDS))
+    if (report != NULL && !takes_sender_live(&at, report, counts))
         return "is damaged";
     if (!takes_freeze(&at, record) || !takes_end(&at))
         return "is damaged";
@@ -196,17 +210,18 @@ const char *read_sender(const char *folder, sender_record *record)
 
     if (problem != NULL)
         return problem;
-    return sender_from(bytes, SENDER_TITLE, GMV_SENDER_PERSISTED_WORDS, record, NULL);
+    return sender_from(bytes, SENDER_TITLE, GMV_SENDER_PERSISTED_WORDS, record, NULL, NULL);
 }
 
-const char *read_sender_live(const char *folder, sender_record *record, uint64_t *report)
+const char *read_sender_live(const char *folder, sender_record *record, uint64_t *report,
+                             sender_counts *counts)
 {
     char bytes[RECORD_LENGTH + 1];
     const char *problem = read_text(folder, "live", bytes);
 
     if (problem != NULL)
         return problem;
-    return sender_from(bytes, SENDER_LIVE_TITLE, GMV_SENDER_WORDS, record, report);
+    return sender_from(bytes, SENDER_LIVE_TITLE, GMV_SENDER_WORDS, record, report, counts);
 }
 
 void store_sender(const char *folder, const sender_record *record)
@@ -220,13 +235,16 @@ void store_sender(const char *folder, const sender_record *record)
     store_durably(folder, "state", made.bytes, made.length);
 }
 
-void show_sender(const char *folder, const sender_record *record, const uint64_t *report)
+void show_sender(const char *folder, const sender_record *record, const uint64_t *report,
+                 const sender_counts *counts)
 {
+    const uint64_t counted[SENDER_COUNT_WORDS] = {counts->circuits, counts->given_up};
     text made = {"", 0};
 
     add(&made, "%s\n", SENDER_LIVE_TITLE);
     add_words(&made, sender_names, record->words, GMV_SENDER_WORDS);
     add_words(&made, report_names, report, GMV_ACT_WORDS);
+    add_words(&made, sender_count_names, counted, SENDER_COUNT_WORDS);
     add_freeze(&made, record);
     add(&made, "end\n");
     store_lightly(folder, "live", made.bytes, made.length);
@@ -249,7 +267,8 @@ static const char *receiver_from(const char *bytes, const char *title, receiver_
         counts->blocks = counted[1];
         counts->refused = counted[2];
         counts->last_refused = counted[3];
-        counts->circuit_open = counted[4];
+        counts->rejected = counted[4];
+        counts->circuit_open = counted[5];
     }
     if (!takes_end(&at))
         return "is damaged";
@@ -296,7 +315,8 @@ void show_receiver(const char *folder, const receiver_record *record,
                    const receiver_counts *counts)
 {
     const uint64_t counted[COUNT_WORDS] = {counts->circuits, counts->blocks, counts->refused,
-                                           counts->last_refused, counts->circuit_open};
+                                           counts->last_refused, counts->rejected,
+                                           counts->circuit_open};
     text made = {"", 0};
 
     add_receiver(&made, RECEIVER_LIVE_TITLE, record);

@@ -17,6 +17,7 @@
 #include "store.h"
 
 enum { SPOOL_INTERVAL = 50 /* milliseconds between two looks at an empty spool */, PART = 4096 };
+enum { MOST_PAUSE = 1000 /* milliseconds from giving up to the next call, where the timer has more */ };
 
 typedef struct {
     const char *folder;
@@ -26,7 +27,9 @@ typedef struct {
     sender_record record;                           /* the state as it is held */
     uint64_t persisted[GMV_SENDER_PERSISTED_WORDS]; /* and what of it is persisted */
     uint64_t report[GMV_ACT_WORDS];
+    sender_counts counts;
     uint64_t named, named_number;      /* the send that was named last and is not begun yet */
+    char waited[FREEZE_TEXT];          /* what the send that was named last is of: -1, 0 or a number */
     uint8_t *block;                    /* the block that is going out */
     size_t block_size, block_length, block_written;
     uint8_t *message;                  /* a message of the spool or of the log */
@@ -50,12 +53,21 @@ static void persist(sending_end *end)
     memcpy(end->persisted, end->record.words, sizeof end->persisted);
 }
 
+static void note_waited(sending_end *end)
+{
+    if (end->named == GMV_SEND_TRANSACTION)
+        snprintf(end->waited, sizeof end->waited, "%llu", (unsigned long long)end->named_number);
+    else
+        strcpy(end->waited, end->named == GMV_SEND_QUERY ? "0" : "-1");
+}
+
 /* A named send that is not begun gives way to a newer one; a block that is begun goes out whole. */
 static void name_send(sending_end *end)
 {
     if (end->report[GMV_ACT_SEND] != GMV_SEND_NOTHING) {
         end->named = end->report[GMV_ACT_SEND];
         end->named_number = end->report[GMV_ACT_SEND_NUMBER];
+        note_waited(end);
         end->timer = now() + end->link->timer;
     }
     if (end->record.words[GMV_SENDER_WAITING] <= GMV_WAITING_IDLE)
@@ -69,6 +81,14 @@ static void drop_circuit(sending_end *end)
     end->named = GMV_SEND_NOTHING;
     end->block_length = end->block_written = 0;
     end->timer = LLONG_MAX;
+}
+
+/* Not at once again: a peer that answers nothing is called at a pace that can be seen. */
+static void note_give_up(sending_end *end)
+{
+    end->counts.given_up++;
+    line_pause(&end->line, end->link->timer < MOST_PAUSE ? end->link->timer : MOST_PAUSE);
+    say_gave_up(end->waited, end->report[GMV_ACT_SENDS]);
 }
 
 static void write_out(sending_end *end);
@@ -89,7 +109,9 @@ static void after_act(sending_end *end, uint64_t number, const char *function)
     if (end->report[GMV_ACT_EVENT] == GMV_EVENT_ABANDONED ||
         end->report[GMV_ACT_EVENT] == GMV_EVENT_FROZE)
         drop_circuit(end); /* the library has ended it already */
-    show_sender(end->folder, &end->record, end->report);
+    if (end->report[GMV_ACT_EVENT] == GMV_EVENT_ABANDONED)
+        note_give_up(end);
+    show_sender(end->folder, &end->record, end->report, &end->counts);
     write_out(end);
 }
 
@@ -160,16 +182,12 @@ static void copy_field(char *to, const uint8_t *data, uint64_t offset, uint64_t 
 }
 
 /* What it froze on, for the operator: persisted with the state that says that it is frozen. */
-static void note_freeze(sending_end *end, const uint64_t *before, const uint8_t *data, size_t length)
+static void note_freeze(sending_end *end, const uint8_t *data, size_t length)
 {
     freeze_details *freeze = &end->record.freeze;
     uint64_t answer[GMV_ANSWER_WORDS];
 
-    if (before[GMV_SENDER_WAITING] == GMV_WAITING_TRANSACTION)
-        snprintf(freeze->waited, sizeof freeze->waited, "%llu",
-                 (unsigned long long)before[GMV_SENDER_DELIVERED] + 1);
-    else
-        strcpy(freeze->waited, before[GMV_SENDER_WAITING] == GMV_WAITING_QUERY ? "0" : "-1");
+    strcpy(freeze->waited, end->waited);
     require_done(gmv_answer_read(data, length, answer, GMV_ANSWER_WORDS), "gmv_answer_read");
     copy_field(freeze->code, data, answer[GMV_ANSWER_CODE_OFFSET], answer[GMV_ANSWER_CODE_LENGTH]);
     copy_field(freeze->control_id, data, answer[GMV_ANSWER_CONTROL_ID_OFFSET],
@@ -182,14 +200,13 @@ static void hear_block(sending_end *end)
 {
     const uint8_t *data = input_data(&end->input);
     const size_t length = end->input.verdict[GMV_VERDICT_DATA_LENGTH];
-    uint64_t before[GMV_SENDER_WORDS], number;
+    const uint64_t number =
+        gmv_sender_block(end->link->resends, end->input.verdict[GMV_VERDICT_NUMBER],
+                         end->input.verdict[GMV_VERDICT_TYPE], data, length, end->record.words,
+                         GMV_SENDER_WORDS, end->report, GMV_ACT_WORDS);
 
-    memcpy(before, end->record.words, sizeof before);
-    number = gmv_sender_block(end->link->resends, end->input.verdict[GMV_VERDICT_NUMBER],
-                              end->input.verdict[GMV_VERDICT_TYPE], data, length, end->record.words,
-                              GMV_SENDER_WORDS, end->report, GMV_ACT_WORDS);
     if (number == GMV_OK && end->report[GMV_ACT_EVENT] == GMV_EVENT_FROZE)
-        note_freeze(end, before, data, length);
+        note_freeze(end, data, length);
     after_act(end, number, "gmv_sender_block");
 }
 
@@ -289,7 +306,7 @@ static void begin(sending_end *end, const char *folder, const settings *link)
     end->message = allocate(end->message_size);
     input_allocate(&end->input, link);
     end->timer = LLONG_MAX;
-    show_sender(folder, &end->record, end->report);
+    show_sender(folder, &end->record, end->report, &end->counts);
 }
 
 /* A new circuit: a fresh reader, and the library names -1 or 0. */
@@ -298,6 +315,7 @@ static void open_circuit(sending_end *end)
     if (end->line.circuit >= 0 || !line_open(&end->line))
         return;
     input_start(&end->input);
+    end->counts.circuits++;
     after_act(end, gmv_sender_open(end->record.words, GMV_SENDER_WORDS, end->report, GMV_ACT_WORDS),
               "gmv_sender_open");
 }
@@ -338,16 +356,22 @@ static void turn(sending_end *end)
 static void stay_frozen(sending_end *end)
 {
     line_finish(&end->line);
-    fprintf(stderr, "gmv_driver: ");
-    say_sender(stderr, &end->record, NULL, 1);
+    say_froze(&end->record);
     while (!stop_requested())
         line_wait(&end->line, 0, LLONG_MAX);
+}
+
+static void require_sender(const char *folder)
+{
+    if (folder_is_missing(folder))
+        fail("no such end: make it with gmv_driver sender-init %s FIRST", folder);
 }
 
 void sender_run(const char *folder, const settings *link)
 {
     sending_end end;
 
+    require_sender(folder);
     if (lock_folder(folder) != 0)
         fail("a driver runs on %s already", folder);
     begin(&end, folder, link);
@@ -396,6 +420,7 @@ void sender_reset(const char *folder)
     uint64_t report[GMV_ACT_WORDS], number;
     const char *problem;
 
+    require_sender(folder);
     if (lock_folder(folder) != 0)
         fail("a driver runs on %s: stop it first", folder);
     problem = read_sender(folder, &record);

@@ -8,6 +8,7 @@
 #include <unistd.h>
 
 #include "common.h"
+#include "status.h"
 #include "store.h"
 
 static int is_file(const char *path)
@@ -94,7 +95,7 @@ void spool_refuse(const char *folder, const char *name, uint64_t number)
             fail("cannot move %s to %s: %s", path, refused, strerror(errno));
     }
     spool_remove(folder, name);
-    fprintf(stderr, "gmv_driver: %s is refused by %d\n", name, (int)number);
+    say_refused_file(name, number);
 }
 
 static void log_name(char *name, uint64_t number)

@@ -6,11 +6,25 @@
 
 #include "records.h"
 
-/* report is that of the last act, or NULL where it is not known. Where no driver runs, what waited is
- * not said: no circuit is open then. */
-void say_sender(FILE *out, const sender_record *record, const uint64_t *report, int running);
+/* Whether a driver runs on the folder. One that starts has not shown yet what it holds. */
+enum presence { DRIVER_STOPPED, DRIVER_RUNS, DRIVER_STARTS, DRIVER_UNKNOWN };
 
-/* counts are those of the running driver, or NULL where none runs. */
-void say_receiver(FILE *out, const receiver_record *record, const receiver_counts *counts);
+/* The first line: what the sender is doing. Only of a running driver is said what waits. */
+void say_sender_state(FILE *out, const sender_record *record, enum presence presence);
+void say_sender_numbers(FILE *out, const sender_record *record);
+void say_refused_files(FILE *out, uint64_t count);
+
+/* Of the running driver: its counts and its last act. */
+void say_sender_live(FILE *out, const uint64_t *report, const sender_counts *counts);
+
+/* counts are those of the running driver; they are not looked at where none runs. */
+void say_receiver(FILE *out, const receiver_record *record, enum presence presence,
+                  const receiver_counts *counts);
+
+/* What a running driver says on standard error, each in one line. */
+void say_gave_up(const char *waited, uint64_t sends);
+void say_froze(const sender_record *record);
+void say_refused_file(const char *name, uint64_t number);
+void say_new_caller(void);
 
 #endif

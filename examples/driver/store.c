@@ -1,5 +1,6 @@
 #include "store.h"
 
+#include <dirent.h>
 #include <errno.h>
 #include <fcntl.h>
 #include <stdint.h>
@@ -99,6 +100,27 @@ ssize_t read_file(const char *path, void *buffer, size_t size)
     return count < 0 && length < size ? -1 : (ssize_t)length;
 }
 
+long count_files(const char *path)
+{
+    DIR *entries = opendir(path);
+    struct dirent *entry;
+    long count = 0;
+
+    if (entries == NULL)
+        return errno == ENOENT ? 0 : -1;
+    while ((entry = readdir(entries)) != NULL)
+        count += entry->d_name[0] != '.';
+    closedir(entries);
+    return count;
+}
+
+int folder_is_missing(const char *path)
+{
+    struct stat status;
+
+    return stat(path, &status) != 0 && errno == ENOENT;
+}
+
 static struct flock whole_file(short type)
 {
     struct flock lock;
@@ -107,6 +129,16 @@ static struct flock whole_file(short type)
     lock.l_type = type;
     lock.l_whence = SEEK_SET;
     return lock;
+}
+
+/* First of all after locking: else the read-out could take it for what this driver shows. */
+static void remove_live(const char *folder)
+{
+    char path[PATH_LENGTH];
+
+    path_of(path, folder, "live");
+    if (unlink(path) != 0 && errno != ENOENT)
+        fail("cannot remove %s: %s", path, strerror(errno));
 }
 
 int lock_folder(const char *folder)
@@ -119,13 +151,16 @@ int lock_folder(const char *folder)
     file = open(path, O_RDWR | O_CREAT, 0666); /* stays open: closing it would give the lock back */
     if (file < 0)
         fail("cannot open %s: %s", path, strerror(errno));
-    if (fcntl(file, F_SETLK, &lock) == 0)
+    if (fcntl(file, F_SETLK, &lock) == 0) {
+        remove_live(folder);
         return 0;
+    }
     if (errno != EACCES && errno != EAGAIN)
         fail("cannot lock %s: %s", path, strerror(errno));
     return -1;
 }
 
+/* Reading is enough to ask: the one who asks need not be the driver's user. */
 int folder_is_locked(const char *folder)
 {
     char path[PATH_LENGTH];
@@ -133,10 +168,10 @@ int folder_is_locked(const char *folder)
     int file, known;
 
     path_of(path, folder, "lock");
-    file = open(path, O_RDWR);
+    file = open(path, O_RDONLY);
     if (file < 0)
-        return 0;
+        return errno == ENOENT ? 0 : -1;
     known = fcntl(file, F_GETLK, &lock) == 0;
     close(file);
-    return known && lock.l_type != F_UNLCK;
+    return known ? lock.l_type != F_UNLCK : -1;
 }

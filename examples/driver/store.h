@@ -24,9 +24,17 @@ void store_lightly(const char *folder, const char *name, const void *bytes, size
 /* Reads the first bytes of a file, at most size. Returns how many, or -1 with errno. */
 ssize_t read_file(const char *path, void *buffer, size_t size);
 
-/* One driver at a time runs on a folder. The lock goes with the process, however that ends. Returns
- * 0, or -1 where another process has it. */
+/* How many files a folder has, without those whose names begin with a dot. One that is missing has
+ * none. Returns -1 where it cannot be told. */
+long count_files(const char *path);
+
+int folder_is_missing(const char *path);
+
+/* One driver at a time runs on a folder. The lock goes with the process, however that ends. What an
+ * earlier driver showed is removed with it. Returns 0, or -1 where another process has it. */
 int lock_folder(const char *folder);
+
+/* Whether a process has the lock: 1, 0, or -1 where it cannot be told. */
 int folder_is_locked(const char *folder);
 
 #endif

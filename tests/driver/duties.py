@@ -3,8 +3,10 @@ peers that do not read, and syncing before each block."""
 
 import os
 import re
+import shutil
 import socket
 import subprocess
+import tempfile
 import time
 
 from blocks import Rules, Splitter
@@ -149,6 +151,8 @@ def freezing(bench):
     sentence = 'sender: frozen: waited on 1 and got AR 7 for control ID 1; an operator must reset it'
     if not wait_for(lambda: said(bench.programs, folder)[0][:1] == [sentence]):
         return 'said is %s' % said(bench.programs, folder)[0]
+    if not wait_for(lambda: end.error_text() == 'gmv_driver: ' + sentence):
+        return 'the driver does not say in one line that it froze: %s' % end.error_text()
     status, words = bench.driver('reset', folder)
     if status != 1 or 'stop it first' not in words:
         return 'reset while it runs: %d %s' % (status, words)
@@ -171,7 +175,8 @@ def freezing(bench):
 
 
 def late_answers(bench):
-    """Sends go by the count and the timer; giving up ends the circuit; an old answer is dropped."""
+    """Sends go by the count and the timer; giving up ends the circuit, is said and counted, and the next
+    call is not made at once; an old answer is dropped."""
     bench.sender()
     peer = Peer()
     bench.put('a', text(1))
@@ -180,7 +185,14 @@ def late_answers(bench):
     blocks = [peer.block() for _ in range(4)]
     if blocks[:3] != [b'MSH|^~\\&|||||||ADT|-1|P|2.3.1|-1\r'] * 3 or blocks[3] is not None:
         return 'not three sends of -1 and then the end: %s' % blocks
+    gave_up = time.monotonic()
     peer.accept()
+    if time.monotonic() < gave_up + 0.05:  # 0.3, less what this test itself was late
+        return 'called again after %f s' % (time.monotonic() - gave_up)
+    if end.error_text() != 'gmv_driver: waited on -1 and gave up after 3 sends, the circuit ended':
+        return 'giving up is not said: %s' % end.error_text()
+    if '2 circuits opened since the driver started, gave up 1 time' not in said(bench.programs, bench.path('s'))[0]:
+        return 'giving up is not counted: %s' % said(bench.programs, bench.path('s'))[0]
     peer.block()
     peer.reply('AA', '0', '7')  # an answer to something else
     peer.reply('AA', '-1', '-1')
@@ -212,9 +224,13 @@ def damaged_states(bench):
         else:
             with open(path, 'wb') as file:
                 file.write(content)
+        with open(os.path.join(folder, 'live'), 'wb') as file:
+            file.write(b'of an earlier driver')
         status, words = bench.driver(command, folder, '--minimal-connect', '127.0.0.1:1')
         if status != 1 or wanted not in words:
             return '%s on %s: %d %s' % (command, content, status, words)
+        if os.path.exists(os.path.join(folder, 'live')):
+            return 'what an earlier driver showed is still there'
         if (read(path) if content is not None else None) != content:
             return 'the damaged state was written over'
     return None
@@ -241,6 +257,12 @@ def calling(bench):
         status, told = bench.driver(*words)
         if status != wanted or not told:
             return '%s: %d %s' % (words, status, told)
+    wanted = 'gmv_driver: no such end: make it with gmv_driver %s ' + bench.path('none')
+    for command, init, more in (('send', 'sender-init', ' FIRST'), ('receive', 'receiver-init', ''),
+                                ('reset', 'sender-init', ' FIRST')):
+        told = bench.driver(command, bench.path('none'), *([] if command == 'reset' else line))
+        if told != (1, wanted % init + more + '\n') or os.path.exists(bench.path('none')):
+            return '%s on a folder that is missing: %s' % (command, told)
     if bench.driver('sender-init', bench.path('y'), '999999999999998')[0] != 0:
         return 'the last first number is refused'
     return None if end.finish() == 0 else 'ends badly'
@@ -318,9 +340,72 @@ def newest_caller(bench):
         return 'the new circuit does not find a receiver with nothing stored'
     if os.listdir(os.path.join(bench.path('r'), 'transactions')):
         return 'the old circuit was still read'
+    if end.error_text() != 'gmv_driver: a new caller ended the circuit':
+        return 'it is not said: %s' % end.error_text()
     old.close()
     new.close()
     return None if end.finish() == 0 else 'ends badly'
+
+
+def rejected(bench, name, rules, line, open_line):
+    """A receiver on this line: what it is sent, and what it says of it."""
+    folder = bench.receiver(name)
+    end = bench.start('receive', name, line, '--data-limit', str(rules.limit))
+    descriptor = open_line(end)
+    if not wait_for(lambda: 'a circuit is open' in said(bench.programs, folder)[0]):
+        return 'no circuit'
+    blocks = [rules.block(text(number)) for number in (-1, 5, 9, 0, 5, 6)]
+    os.write(descriptor, b''.join(blocks) + blocks[0][:-1] + b'x')
+    sentence = '7 blocks read on 1 circuit since the driver started, 1 refused, 2 answered AR'
+    if not wait_for(lambda: sentence in said(bench.programs, folder)[0]):
+        return '%s: %s' % (name, said(bench.programs, folder)[0])
+    return None if end.finish() == 0 else 'ends badly'
+
+
+def rejecting(bench):
+    """The receiver counts the answers AR, and no other reply, on both kinds of link."""
+    (master, path), caller = open_terminal(), socket.socket()
+    os.symlink(path, bench.path('tty'))
+
+    def call(end):
+        caller.connect(('127.0.0.1', end.port))
+        return caller.fileno()
+
+    try:
+        return (rejected(bench, 'hybrid', LONG, ['--hybrid-tty', bench.path('tty')], lambda end: master) or
+                rejected(bench, 'minimal', RULES, ['--minimal-listen', '0'], call))
+    finally:
+        caller.close()
+        os.close(master)
+
+
+def said_to_another(programs, folder):
+    """What linkstatus says to a user who is not the driver's, where there is such a user."""
+    done = subprocess.run([os.path.join(programs, 'linkstatus'), folder], stdout=subprocess.PIPE, check=False,
+                          user=65534 if os.geteuid() == 0 else None)
+    return done.stdout.decode().splitlines()[:1], done.returncode
+
+
+def rights(bench):
+    """Who may read `lock` is told that a driver runs. Who may not is told that it is not known."""
+    place, mask = tempfile.mkdtemp(), os.umask(0o022)
+    folder = os.path.join(place, 's')
+    try:
+        os.chmod(place, 0o755)  # the bench's own folder is closed to other users
+        shutil.copy(os.path.join(bench.programs, 'linkstatus'), place)
+        bench.driver('sender-init', folder, '1')
+        end = End(bench.programs, 'send', folder, ['--minimal-connect', '127.0.0.1:1'], [])
+        end.start()
+        bench.ends.append(end)
+        for mode, wanted in ((0o444, (['sender: no circuit open'], 0)),
+                             (0, (['sender: it cannot be told whether a driver runs on this folder'], 1))):
+            os.chmod(os.path.join(folder, 'lock'), mode)
+            if not wait_for(lambda wanted=wanted: said_to_another(place, folder) == wanted):
+                return 'lock of mode %o: %s' % (mode, said_to_another(place, folder))
+        return None if end.finish() == 0 else 'ends badly'
+    finally:
+        os.umask(mask)
+        shutil.rmtree(place)
 
 
 def used_time(end):
@@ -405,4 +490,5 @@ def syncing(bench):
     return None
 
 
-DUTIES = [submitting, freezing, late_answers, damaged_states, calling, deaf_peers, newest_caller, idling]
+DUTIES = [submitting, freezing, late_answers, damaged_states, calling, deaf_peers, newest_caller,
+          rejecting, rights, idling]
