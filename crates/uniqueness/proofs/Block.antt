@@ -10,24 +10,21 @@ use Rattle.block.proofs.judge_block.Reads as judge-block-reads
 
 pub type-matches : Unique type-matches-contract.ended (λ M. type-matches-contract.clauses {M = M})
 type-matches = record {
-  free = λ M 𝓤 H A mem run κs a g. refl;
   told = type-matches-reads.Learnt;
-  says = λ M 𝓤 H A mem run κs a g z e. refl;
+  says = λ M 𝓤 H A mem run. refl;
   one = λ κs a z z′ ws ws′ h h′. (h ∙ sym h′, refl);
 }
 
 pub block-checksum : Unique block-checksum-contract.ended (λ M. block-checksum-contract.clauses {M = M})
 block-checksum = record {
-  free = λ M 𝓤 H A mem run κs a g. refl;
   told = block-checksum-reads.Learnt;
-  says = λ M 𝓤 H A mem run κs a g z e. refl;
+  says = λ M 𝓤 H A mem run. refl;
   one = λ κs a z z′ ws ws′ h h′. (h ∙ sym h′, refl);
 }
 
 pub judge-block : Unique judge-block-contract.ended (λ M. judge-block-contract.clauses {M = M})
 judge-block = record {
-  free = λ M 𝓤 H A mem run κs a g. refl;
   told = judge-block-reads.Learnt;
-  says = λ M 𝓤 H A mem run κs a g z e. refl;
+  says = λ M 𝓤 H A mem run. refl;
   one = λ κs a z z′ ws ws′ h h′. (h ∙ sym h′, refl);
 }

@@ -18,56 +18,49 @@ use Rattle.block_interface.proofs.gmv_minimal_write.Reads as gmv-minimal-write-
 
 pub gmv-hybrid-check : Unique gmv-hybrid-check-contract.ended (λ M. gmv-hybrid-check-contract.clauses {M = M})
 gmv-hybrid-check = record {
-  free = λ M 𝓤 H A mem run κs a g. refl;
   told = gmv-hybrid-check-reads.Learnt;
-  says = λ M 𝓤 H A mem run κs a g z e. refl;
+  says = λ M 𝓤 H A mem run. refl;
   one = λ κs a z z′ ws ws′ h h′. (λ i. (h ∙ sym h′) i .number, λ i. (tt, (tt, (tt, (tt, ((h ∙ sym h′) i .verdict, tt))))));
 }
 
 pub gmv-minimal-check : Unique gmv-minimal-check-contract.ended (λ M. gmv-minimal-check-contract.clauses {M = M})
 gmv-minimal-check = record {
-  free = λ M 𝓤 H A mem run κs a g. refl;
   told = gmv-minimal-check-reads.Learnt;
-  says = λ M 𝓤 H A mem run κs a g z e. refl;
+  says = λ M 𝓤 H A mem run. refl;
   one = λ κs a z z′ ws ws′ h h′. (λ i. (h ∙ sym h′) i .number, λ i. (tt, (tt, ((h ∙ sym h′) i .verdict, tt))));
 }
 
 pub gmv-reader-fresh : Unique gmv-reader-fresh-contract.ended (λ M. gmv-reader-fresh-contract.clauses {M = M})
 gmv-reader-fresh = record {
-  free = λ M 𝓤 H A mem run κs a g. refl;
   told = gmv-reader-fresh-reads.Learnt;
-  says = λ M 𝓤 H A mem run κs a g z e. refl;
+  says = λ M 𝓤 H A mem run. refl;
   one = λ κs a z z′ ws ws′ h h′. (λ i. (h ∙ sym h′) i .number, λ i. ((h ∙ sym h′) i .state, tt));
 }
 
 pub gmv-hybrid-read : Unique gmv-hybrid-read-contract.ended (λ M. gmv-hybrid-read-contract.clauses {M = M})
 gmv-hybrid-read = record {
-  free = λ M 𝓤 H A mem run κs a g. refl;
   told = gmv-hybrid-read-reads.Learnt;
-  says = λ M 𝓤 H A mem run κs a g z e. refl;
+  says = λ M 𝓤 H A mem run. refl;
   one = λ κs a z z′ ws ws′ h h′. (λ i. (h ∙ sym h′) i .number, λ i. (tt, (tt, (tt, ((h ∙ sym h′) i .state, (tt, ((h ∙ sym h′) i .buffer, ((h ∙ sym h′) i .verdict, tt))))))));
 }
 
 pub gmv-minimal-read : Unique gmv-minimal-read-contract.ended (λ M. gmv-minimal-read-contract.clauses {M = M})
 gmv-minimal-read = record {
-  free = λ M 𝓤 H A mem run κs a g. refl;
   told = gmv-minimal-read-reads.Learnt;
-  says = λ M 𝓤 H A mem run κs a g z e. refl;
+  says = λ M 𝓤 H A mem run. refl;
   one = λ κs a z z′ ws ws′ h h′. (λ i. (h ∙ sym h′) i .number, λ i. (tt, ((h ∙ sym h′) i .state, (tt, ((h ∙ sym h′) i .buffer, ((h ∙ sym h′) i .verdict, tt))))));
 }
 
 pub gmv-hybrid-write : Unique gmv-hybrid-write-contract.ended (λ M. gmv-hybrid-write-contract.clauses {M = M})
 gmv-hybrid-write = record {
-  free = λ M 𝓤 H A mem run κs a g. refl;
   told = gmv-hybrid-write-reads.Learnt;
-  says = λ M 𝓤 H A mem run κs a g z e. refl;
+  says = λ M 𝓤 H A mem run. refl;
   one = λ κs a z z′ ws ws′ h h′. (λ i. (h ∙ sym h′) i .number, λ i. (tt, (tt, (tt, (tt, (tt, ((h ∙ sym h′) i .buffer, (tt, ((h ∙ sym h′) i .report, tt)))))))));
 }
 
 pub gmv-minimal-write : Unique gmv-minimal-write-contract.ended (λ M. gmv-minimal-write-contract.clauses {M = M})
 gmv-minimal-write = record {
-  free = λ M 𝓤 H A mem run κs a g. refl;
   told = gmv-minimal-write-reads.Learnt;
-  says = λ M 𝓤 H A mem run κs a g z e. refl;
+  says = λ M 𝓤 H A mem run. refl;
   one = λ κs a z z′ ws ws′ h h′. (λ i. (h ∙ sym h′) i .number, λ i. (tt, (tt, ((h ∙ sym h′) i .buffer, (tt, ((h ∙ sym h′) i .report, tt))))));
 }

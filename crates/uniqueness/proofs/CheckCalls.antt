@@ -6,8 +6,7 @@ use Rattle.check_calls.proofs.check_words.Reads as check-words-reads
 
 pub check-words : Unique check-words-contract.ended (λ M. check-words-contract.clauses {M = M})
 check-words = record {
-  free = λ M 𝓤 H A mem run κs a g. refl;
   told = check-words-reads.Learnt;
-  says = λ M 𝓤 H A mem run κs a g z e. refl;
+  says = λ M 𝓤 H A mem run. refl;
   one = λ κs a z z′ ws ws′ h h′. (λ i. (h ∙ sym h′) i .number, λ i. (tt, (tt, ((h ∙ sym h′) i .verdict, tt))));
 }

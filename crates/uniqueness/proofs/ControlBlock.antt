@@ -6,8 +6,7 @@ use Rattle.control_block.proofs.write_control_block.Reads as write-control-bloc
 
 pub write-control-block : Unique write-control-block-contract.ended (λ M. write-control-block-contract.clauses {M = M})
 write-control-block = record {
-  free = λ M 𝓤 H A mem run κs a g. refl;
   told = write-control-block-reads.Learnt;
-  says = λ M 𝓤 H A mem run κs a g z e. refl;
+  says = λ M 𝓤 H A mem run. refl;
   one = λ κs a z z′ ws ws′ h h′. (λ i. (h ∙ sym h′) i .answer, λ i. (tt, (tt, (tt, ((h ∙ sym h′) i .buffer, (tt, tt))))));
 }

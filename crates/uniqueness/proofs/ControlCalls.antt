@@ -6,8 +6,7 @@ use Rattle.control_calls.proofs.control_block_words.Reads as control-block-word
 
 pub control-block-words : Unique control-block-words-contract.ended (λ M. control-block-words-contract.clauses {M = M})
 control-block-words = record {
-  free = λ M 𝓤 H A mem run κs a g. refl;
   told = control-block-words-reads.Learnt;
-  says = λ M 𝓤 H A mem run κs a g z e. refl;
+  says = λ M 𝓤 H A mem run. refl;
   one = λ κs a z z′ ws ws′ h h′. (λ i. (h ∙ sym h′) i .number, λ i. (tt, (tt, (tt, ((h ∙ sym h′) i .buffer, (tt, ((h ∙ sym h′) i .report, tt)))))));
 }

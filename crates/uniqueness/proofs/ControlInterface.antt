@@ -8,16 +8,14 @@ use Rattle.control_interface.proofs.gmv_minimal_control_block.Reads as gmv-mini
 
 pub gmv-hybrid-control-block : Unique gmv-hybrid-control-block-contract.ended (λ M. gmv-hybrid-control-block-contract.clauses {M = M})
 gmv-hybrid-control-block = record {
-  free = λ M 𝓤 H A mem run κs a g. refl;
   told = gmv-hybrid-control-block-reads.Learnt;
-  says = λ M 𝓤 H A mem run κs a g z e. refl;
+  says = λ M 𝓤 H A mem run. refl;
   one = λ κs a z z′ ws ws′ h h′. (λ i. (h ∙ sym h′) i .number, λ i. (tt, (tt, (tt, (tt, (tt, ((h ∙ sym h′) i .buffer, (tt, ((h ∙ sym h′) i .report, tt)))))))));
 }
 
 pub gmv-minimal-control-block : Unique gmv-minimal-control-block-contract.ended (λ M. gmv-minimal-control-block-contract.clauses {M = M})
 gmv-minimal-control-block = record {
-  free = λ M 𝓤 H A mem run κs a g. refl;
   told = gmv-minimal-control-block-reads.Learnt;
-  says = λ M 𝓤 H A mem run κs a g z e. refl;
+  says = λ M 𝓤 H A mem run. refl;
   one = λ κs a z z′ ws ws′ h h′. (λ i. (h ∙ sym h′) i .number, λ i. (tt, (tt, (tt, ((h ∙ sym h′) i .buffer, (tt, ((h ∙ sym h′) i .report, tt)))))));
 }

@@ -12,32 +12,28 @@ use Rattle.data_bytes.proofs.digit_of.Reads as digit-of-reads
 
 pub are-allowed : Unique are-allowed-contract.ended (λ M. are-allowed-contract.clauses {M = M})
 are-allowed = record {
-  free = λ M 𝓤 H A mem run κs a g. refl;
   told = are-allowed-reads.Learnt;
-  says = λ M 𝓤 H A mem run κs a g z e. refl;
+  says = λ M 𝓤 H A mem run. refl;
   one = λ κs a z z′ ws ws′ h h′. (h ∙ sym h′, refl);
 }
 
 pub first-forbidden : Unique first-forbidden-contract.ended (λ M. first-forbidden-contract.clauses {M = M})
 first-forbidden = record {
-  free = λ M 𝓤 H A mem run κs a g. refl;
   told = first-forbidden-reads.Learnt;
-  says = λ M 𝓤 H A mem run κs a g z e. refl;
+  says = λ M 𝓤 H A mem run. refl;
   one = λ κs a z z′ ws ws′ h h′. (h ∙ sym h′, refl);
 }
 
 pub checksum : Unique checksum-contract.ended (λ M. checksum-contract.clauses {M = M})
 checksum = record {
-  free = λ M 𝓤 H A mem run κs a g. refl;
   told = checksum-reads.Learnt;
-  says = λ M 𝓤 H A mem run κs a g z e. refl;
+  says = λ M 𝓤 H A mem run. refl;
   one = λ κs a z z′ ws ws′ h h′. (h ∙ sym h′, refl);
 }
 
 pub digit-of : Unique digit-of-contract.ended (λ M. digit-of-contract.clauses {M = M})
 digit-of = record {
-  free = λ M 𝓤 H A mem run κs a g. refl;
   told = digit-of-reads.Learnt;
-  says = λ M 𝓤 H A mem run κs a g z e. refl;
+  says = λ M 𝓤 H A mem run. refl;
   one = λ κs a z z′ ws ws′ h h′. (h ∙ sym h′, refl);
 }

@@ -6,8 +6,7 @@ use Rattle.field_calls.proofs.next_field_words.Reads as next-field-words-reads
 
 pub next-field-words : Unique next-field-words-contract.ended (λ M. next-field-words-contract.clauses {M = M})
 next-field-words = record {
-  free = λ M 𝓤 H A mem run κs a g. refl;
   told = next-field-words-reads.Learnt;
-  says = λ M 𝓤 H A mem run κs a g z e. refl;
+  says = λ M 𝓤 H A mem run. refl;
   one = λ κs a z z′ ws ws′ h h′. (λ i. (h ∙ sym h′) i .number, λ i. (tt, (tt, ((h ∙ sym h′) i .words, tt))));
 }

@@ -6,8 +6,7 @@ use Rattle.field_interface.proofs.gmv_field_next.Reads as gmv-field-next-reads
 
 pub gmv-field-next : Unique gmv-field-next-contract.ended (λ M. gmv-field-next-contract.clauses {M = M})
 gmv-field-next = record {
-  free = λ M 𝓤 H A mem run κs a g. refl;
   told = gmv-field-next-reads.Learnt;
-  says = λ M 𝓤 H A mem run κs a g z e. refl;
+  says = λ M 𝓤 H A mem run. refl;
   one = λ κs a z z′ ws ws′ h h′. (λ i. (h ∙ sym h′) i .number, λ i. (tt, (tt, ((h ∙ sym h′) i .words, tt))));
 }

@@ -15,32 +15,28 @@ use Rattle.fields.proofs.field_content.Reads as field-content-reads
 
 pub field-end : Unique field-end-contract.ended (λ M. field-end-contract.clauses {M = M})
 field-end = record {
-  free = λ M 𝓤 H A mem run κs a g. refl;
   told = field-end-reads.Learnt;
-  says = λ M 𝓤 H A mem run κs a g z e. refl;
+  says = λ M 𝓤 H A mem run. refl;
   one = λ κs a z z′ ws ws′ h h′. (h ∙ sym h′, refl);
 }
 
 pub field-start : Unique field-start-contract.ended (λ M. field-start-contract.clauses {M = M})
 field-start = record {
-  free = λ M 𝓤 H A mem run κs a g. refl;
   told = field-start-reads.Learnt;
-  says = λ M 𝓤 H A mem run κs a g z e. refl;
+  says = λ M 𝓤 H A mem run. refl;
   one = λ κs a z z′ ws ws′ h h′. (h ∙ sym h′, refl);
 }
 
 pub find-field : Unique find-field-contract.ended (λ M. find-field-contract.clauses {M = M})
 find-field = record {
-  free = λ M 𝓤 H A mem run κs a g. refl;
   told = find-field-reads.Learnt;
-  says = λ M 𝓤 H A mem run κs a g z e. refl;
+  says = λ M 𝓤 H A mem run. refl;
   one = λ κs a z z′ ws ws′ h h′. (h ∙ sym h′, refl);
 }
 
 pub field-content : UniqueContent field-content-contract.ended (λ M. field-content-contract.clauses {M = M}) (List ℕ) (λ κs z. now z)
 field-content = record {
-  free = λ M 𝓤 H A mem run κs a g. refl;
   told = field-content-reads.Learnt;
-  says = λ M 𝓤 H A mem run κs a g z e. refl;
+  says = λ M 𝓤 H A mem run. refl;
   one = λ κs a z z′ ws ws′ h h′. (h ∙ sym h′, refl);
 }

@@ -11,16 +11,14 @@ use Rattle.lists.proofs.part_of.Reads as part-of-reads
 
 pub copy-bytes : Unique copy-bytes-contract.ended (λ M. copy-bytes-contract.clauses {M = M})
 copy-bytes = record {
-  free = λ M 𝓤 H A mem run κs a g. refl;
   told = copy-bytes-reads.Learnt;
-  says = λ M 𝓤 H A mem run κs a g z e. refl;
+  says = λ M 𝓤 H A mem run. refl;
   one = λ κs a z z′ ws ws′ h h′. (refl, λ i. ((h ∙ sym h′) i, (tt, tt)));
 }
 
 pub part-of : UniqueContent part-of-contract.ended (λ M. part-of-contract.clauses {M = M}) (List ℕ) (λ κs z. now z)
 part-of = record {
-  free = λ M 𝓤 H A mem run κs a g. refl;
   told = part-of-reads.Learnt;
-  says = λ M 𝓤 H A mem run κs a g z e. refl;
+  says = λ M 𝓤 H A mem run. refl;
   one = λ κs a z z′ ws ws′ h h′. (h ∙ sym h′, refl);
 }

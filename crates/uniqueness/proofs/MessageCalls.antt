@@ -14,40 +14,35 @@ use Rattle.message_calls.proofs.write_control_words.Reads as write-control-word
 
 pub read-header-words : Unique read-header-words-contract.ended (λ M. read-header-words-contract.clauses {M = M})
 read-header-words = record {
-  free = λ M 𝓤 H A mem run κs a g. refl;
   told = read-header-words-reads.Learnt;
-  says = λ M 𝓤 H A mem run κs a g z e. refl;
+  says = λ M 𝓤 H A mem run. refl;
   one = λ κs a z z′ ws ws′ h h′. (λ i. (h ∙ sym h′) i .number, λ i. (tt, ((h ∙ sym h′) i .words, tt)));
 }
 
 pub read-answer-words : Unique read-answer-words-contract.ended (λ M. read-answer-words-contract.clauses {M = M})
 read-answer-words = record {
-  free = λ M 𝓤 H A mem run κs a g. refl;
   told = read-answer-words-reads.Learnt;
-  says = λ M 𝓤 H A mem run κs a g z e. refl;
+  says = λ M 𝓤 H A mem run. refl;
   one = λ κs a z z′ ws ws′ h h′. (λ i. (h ∙ sym h′) i .number, λ i. (tt, ((h ∙ sym h′) i .words, tt)));
 }
 
 pub control-of : Unique control-of-contract.ended (λ M. control-of-contract.clauses {M = M})
 control-of = record {
-  free = λ M 𝓤 H A mem run κs a g. refl;
   told = control-of-reads.Learnt;
-  says = λ M 𝓤 H A mem run κs a g z e. refl;
+  says = λ M 𝓤 H A mem run. refl;
   one = λ κs a z z′ ws ws′ h h′. (h ∙ sym h′, refl);
 }
 
 pub write-answer-words : Unique write-answer-words-contract.ended (λ M. write-answer-words-contract.clauses {M = M})
 write-answer-words = record {
-  free = λ M 𝓤 H A mem run κs a g. refl;
   told = write-answer-words-reads.Learnt;
-  says = λ M 𝓤 H A mem run κs a g z e. refl;
+  says = λ M 𝓤 H A mem run. refl;
   one = λ κs a z z′ ws ws′ h h′. (λ i. (h ∙ sym h′) i .number, λ i. (tt, (tt, (tt, ((h ∙ sym h′) i .buffer, (tt, ((h ∙ sym h′) i .report, tt)))))));
 }
 
 pub write-control-words : Unique write-control-words-contract.ended (λ M. write-control-words-contract.clauses {M = M})
 write-control-words = record {
-  free = λ M 𝓤 H A mem run κs a g. refl;
   told = write-control-words-reads.Learnt;
-  says = λ M 𝓤 H A mem run κs a g z e. refl;
+  says = λ M 𝓤 H A mem run. refl;
   one = λ κs a z z′ ws ws′ h h′. (λ i. (h ∙ sym h′) i .number, λ i. (tt, (tt, ((h ∙ sym h′) i .buffer, (tt, ((h ∙ sym h′) i .report, tt))))));
 }

@@ -12,32 +12,28 @@ use Rattle.message_interface.proofs.gmv_control_write.Reads as gmv-control-writ
 
 pub gmv-header-read : Unique gmv-header-read-contract.ended (λ M. gmv-header-read-contract.clauses {M = M})
 gmv-header-read = record {
-  free = λ M 𝓤 H A mem run κs a g. refl;
   told = gmv-header-read-reads.Learnt;
-  says = λ M 𝓤 H A mem run κs a g z e. refl;
+  says = λ M 𝓤 H A mem run. refl;
   one = λ κs a z z′ ws ws′ h h′. (λ i. (h ∙ sym h′) i .number, λ i. (tt, ((h ∙ sym h′) i .words, tt)));
 }
 
 pub gmv-answer-read : Unique gmv-answer-read-contract.ended (λ M. gmv-answer-read-contract.clauses {M = M})
 gmv-answer-read = record {
-  free = λ M 𝓤 H A mem run κs a g. refl;
   told = gmv-answer-read-reads.Learnt;
-  says = λ M 𝓤 H A mem run κs a g z e. refl;
+  says = λ M 𝓤 H A mem run. refl;
   one = λ κs a z z′ ws ws′ h h′. (λ i. (h ∙ sym h′) i .number, λ i. (tt, ((h ∙ sym h′) i .words, tt)));
 }
 
 pub gmv-answer-write : Unique gmv-answer-write-contract.ended (λ M. gmv-answer-write-contract.clauses {M = M})
 gmv-answer-write = record {
-  free = λ M 𝓤 H A mem run κs a g. refl;
   told = gmv-answer-write-reads.Learnt;
-  says = λ M 𝓤 H A mem run κs a g z e. refl;
+  says = λ M 𝓤 H A mem run. refl;
   one = λ κs a z z′ ws ws′ h h′. (λ i. (h ∙ sym h′) i .number, λ i. (tt, (tt, (tt, ((h ∙ sym h′) i .buffer, (tt, ((h ∙ sym h′) i .report, tt)))))));
 }
 
 pub gmv-control-write : Unique gmv-control-write-contract.ended (λ M. gmv-control-write-contract.clauses {M = M})
 gmv-control-write = record {
-  free = λ M 𝓤 H A mem run κs a g. refl;
   told = gmv-control-write-reads.Learnt;
-  says = λ M 𝓤 H A mem run κs a g z e. refl;
+  says = λ M 𝓤 H A mem run. refl;
   one = λ κs a z z′ ws ws′ h h′. (λ i. (h ∙ sym h′) i .number, λ i. (tt, (tt, ((h ∙ sym h′) i .buffer, (tt, ((h ∙ sym h′) i .report, tt))))));
 }

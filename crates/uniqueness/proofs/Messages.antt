@@ -14,40 +14,35 @@ use Rattle.messages.proofs.MessageWritten.message_length.Reads as MessageWritte
 
 pub write-answer : Unique write-answer-contract.ended (λ M. write-answer-contract.clauses {M = M})
 write-answer = record {
-  free = λ M 𝓤 H A mem run κs a g. refl;
   told = write-answer-reads.Learnt;
-  says = λ M 𝓤 H A mem run κs a g z e. refl;
+  says = λ M 𝓤 H A mem run. refl;
   one = λ κs a z z′ ws ws′ h h′. (λ i. (h ∙ sym h′) i .answer, λ i. (tt, (tt, (tt, ((h ∙ sym h′) i .buffer, (tt, tt))))));
 }
 
 pub is-type : Unique is-type-contract.ended (λ M. is-type-contract.clauses {M = M})
 is-type = record {
-  free = λ M 𝓤 H A mem run κs a g. refl;
   told = is-type-reads.Learnt;
-  says = λ M 𝓤 H A mem run κs a g z e. refl;
+  says = λ M 𝓤 H A mem run. refl;
   one = λ κs a z z′ ws ws′ h h′. (h ∙ sym h′, refl);
 }
 
 pub write-control : Unique write-control-contract.ended (λ M. write-control-contract.clauses {M = M})
 write-control = record {
-  free = λ M 𝓤 H A mem run κs a g. refl;
   told = write-control-reads.Learnt;
-  says = λ M 𝓤 H A mem run κs a g z e. refl;
+  says = λ M 𝓤 H A mem run. refl;
   one = λ κs a z z′ ws ws′ h h′. (λ i. (h ∙ sym h′) i .answer, λ i. (tt, (tt, ((h ∙ sym h′) i .buffer, (tt, tt)))));
 }
 
 pub MessageType-from-letters : Unique MessageType-from-letters-contract.ended (λ M. MessageType-from-letters-contract.clauses {M = M})
 MessageType-from-letters = record {
-  free = λ M 𝓤 H A mem run κs a g. refl;
   told = MessageType-from-letters-reads.Learnt;
-  says = λ M 𝓤 H A mem run κs a g z e. refl;
+  says = λ M 𝓤 H A mem run. refl;
   one = λ κs a z z′ ws ws′ h h′. (h ∙ sym h′, refl);
 }
 
 pub MessageWritten-message-length : Unique MessageWritten-message-length-contract.ended (λ M. MessageWritten-message-length-contract.clauses {M = M})
 MessageWritten-message-length = record {
-  free = λ M 𝓤 H A mem run κs a g. refl;
   told = MessageWritten-message-length-reads.Learnt;
-  says = λ M 𝓤 H A mem run κs a g z e. refl;
+  says = λ M 𝓤 H A mem run. refl;
   one = λ κs a z z′ ws ws′ h h′. (h ∙ sym h′, refl);
 }

@@ -8,16 +8,14 @@ use Rattle.read_calls.proofs.read_words.Reads as read-words-reads
 
 pub fresh-words : Unique fresh-words-contract.ended (λ M. fresh-words-contract.clauses {M = M})
 fresh-words = record {
-  free = λ M 𝓤 H A mem run κs a g. refl;
   told = fresh-words-reads.Learnt;
-  says = λ M 𝓤 H A mem run κs a g z e. refl;
+  says = λ M 𝓤 H A mem run. refl;
   one = λ κs a z z′ ws ws′ h h′. (λ i. (h ∙ sym h′) i .number, λ i. ((h ∙ sym h′) i .state, tt));
 }
 
 pub read-words : Unique read-words-contract.ended (λ M. read-words-contract.clauses {M = M})
 read-words = record {
-  free = λ M 𝓤 H A mem run κs a g. refl;
   told = read-words-reads.Learnt;
-  says = λ M 𝓤 H A mem run κs a g z e. refl;
+  says = λ M 𝓤 H A mem run. refl;
   one = λ κs a z z′ ws ws′ h h′. (λ i. (h ∙ sym h′) i .number, λ i. (tt, ((h ∙ sym h′) i .state, (tt, ((h ∙ sym h′) i .buffer, ((h ∙ sym h′) i .verdict, tt))))));
 }

@@ -13,24 +13,21 @@ use Rattle.reader_buffer.proofs.buffer_fits.Reads as buffer-fits-reads
 
 pub block-content : UniqueContent block-content-contract.ended (λ M. block-content-contract.clauses {M = M}) (List ℕ) (λ κs z. now z)
 block-content = record {
-  free = λ M 𝓤 H A mem run κs a g. refl;
   told = block-content-reads.Learnt;
-  says = λ M 𝓤 H A mem run κs a g z e. refl;
+  says = λ M 𝓤 H A mem run. refl;
   one = λ κs a z z′ ws ws′ h h′. (h ∙ sym h′, refl);
 }
 
 pub is-long : Unique is-long-contract.ended (λ M. is-long-contract.clauses {M = M})
 is-long = record {
-  free = λ M 𝓤 H A mem run κs a g. refl;
   told = is-long-reads.Learnt;
-  says = λ M 𝓤 H A mem run κs a g z e. refl;
+  says = λ M 𝓤 H A mem run. refl;
   one = λ κs a z z′ ws ws′ h h′. (h ∙ sym h′, refl);
 }
 
 pub buffer-fits : Unique buffer-fits-contract.ended (λ M. buffer-fits-contract.clauses {M = M})
 buffer-fits = record {
-  free = λ M 𝓤 H A mem run κs a g. refl;
   told = buffer-fits-reads.Learnt;
-  says = λ M 𝓤 H A mem run κs a g z e. refl;
+  says = λ M 𝓤 H A mem run. refl;
   one = λ κs a z z′ ws ws′ h h′. (h ∙ sym h′, refl);
 }

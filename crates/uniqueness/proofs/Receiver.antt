@@ -6,8 +6,7 @@ use Rattle.receiver.proofs.receive.Reads as receive-reads
 
 pub receive : Unique receive-contract.ended (λ M. receive-contract.clauses {M = M})
 receive = record {
-  free = λ M 𝓤 H A mem run κs a g. refl;
   told = receive-reads.Learnt;
-  says = λ M 𝓤 H A mem run κs a g z e. refl;
+  says = λ M 𝓤 H A mem run. refl;
   one = λ κs a z z′ ws ws′ h h′. (λ i. (h ∙ sym h′) i .answer, λ i. (tt, (tt, (tt, (tt, (tt, ((h ∙ sym h′) i .buffer, (tt, tt))))))));
 }

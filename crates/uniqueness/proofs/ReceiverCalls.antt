@@ -8,16 +8,14 @@ use Rattle.receiver_calls.proofs.received_words.Reads as received-words-reads
 
 pub fresh-receiver-words : Unique fresh-receiver-words-contract.ended (λ M. fresh-receiver-words-contract.clauses {M = M})
 fresh-receiver-words = record {
-  free = λ M 𝓤 H A mem run κs a g. refl;
   told = fresh-receiver-words-reads.Learnt;
-  says = λ M 𝓤 H A mem run κs a g z e. refl;
+  says = λ M 𝓤 H A mem run. refl;
   one = λ κs a z z′ ws ws′ h h′. (λ i. (h ∙ sym h′) i .number, λ i. ((h ∙ sym h′) i .state, tt));
 }
 
 pub received-words : Unique received-words-contract.ended (λ M. received-words-contract.clauses {M = M})
 received-words = record {
-  free = λ M 𝓤 H A mem run κs a g. refl;
   told = received-words-reads.Learnt;
-  says = λ M 𝓤 H A mem run κs a g z e. refl;
+  says = λ M 𝓤 H A mem run. refl;
   one = λ κs a z z′ ws ws′ h h′. (λ i. (h ∙ sym h′) i .number, λ i. (tt, (tt, ((h ∙ sym h′) i .state, (tt, (tt, (tt, ((h ∙ sym h′) i .buffer, (tt, ((h ∙ sym h′) i .report, tt))))))))));
 }

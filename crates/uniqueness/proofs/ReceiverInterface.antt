@@ -10,24 +10,21 @@ use Rattle.receiver_interface.proofs.gmv_minimal_receive.Reads as gmv-minimal-r
 
 pub gmv-receiver-fresh : Unique gmv-receiver-fresh-contract.ended (λ M. gmv-receiver-fresh-contract.clauses {M = M})
 gmv-receiver-fresh = record {
-  free = λ M 𝓤 H A mem run κs a g. refl;
   told = gmv-receiver-fresh-reads.Learnt;
-  says = λ M 𝓤 H A mem run κs a g z e. refl;
+  says = λ M 𝓤 H A mem run. refl;
   one = λ κs a z z′ ws ws′ h h′. (λ i. (h ∙ sym h′) i .number, λ i. ((h ∙ sym h′) i .state, tt));
 }
 
 pub gmv-hybrid-receive : Unique gmv-hybrid-receive-contract.ended (λ M. gmv-hybrid-receive-contract.clauses {M = M})
 gmv-hybrid-receive = record {
-  free = λ M 𝓤 H A mem run κs a g. refl;
   told = gmv-hybrid-receive-reads.Learnt;
-  says = λ M 𝓤 H A mem run κs a g z e. refl;
+  says = λ M 𝓤 H A mem run. refl;
   one = λ κs a z z′ ws ws′ h h′. (λ i. (h ∙ sym h′) i .number, λ i. (tt, (tt, (tt, (tt, ((h ∙ sym h′) i .state, (tt, (tt, (tt, ((h ∙ sym h′) i .buffer, (tt, ((h ∙ sym h′) i .report, tt))))))))))));
 }
 
 pub gmv-minimal-receive : Unique gmv-minimal-receive-contract.ended (λ M. gmv-minimal-receive-contract.clauses {M = M})
 gmv-minimal-receive = record {
-  free = λ M 𝓤 H A mem run κs a g. refl;
   told = gmv-minimal-receive-reads.Learnt;
-  says = λ M 𝓤 H A mem run κs a g z e. refl;
+  says = λ M 𝓤 H A mem run. refl;
   one = λ κs a z z′ ws ws′ h h′. (λ i. (h ∙ sym h′) i .number, λ i. (tt, (tt, ((h ∙ sym h′) i .state, (tt, (tt, (tt, ((h ∙ sym h′) i .buffer, (tt, ((h ∙ sym h′) i .report, tt))))))))));
 }

@@ -6,8 +6,7 @@ use Rattle.search.proofs.find_stop.Reads as find-stop-reads
 
 pub find-stop : Unique find-stop-contract.ended (λ M. find-stop-contract.clauses {M = M})
 find-stop = record {
-  free = λ M 𝓤 H A mem run κs a g. refl;
   told = find-stop-reads.Learnt;
-  says = λ M 𝓤 H A mem run κs a g z e. refl;
+  says = λ M 𝓤 H A mem run. refl;
   one = λ κs a z z′ ws ws′ h h′. (h ∙ sym h′, refl);
 }

@@ -18,56 +18,49 @@ use Rattle.sender_calls.proofs.submitted_words.Reads as submitted-words-reads
 
 pub fresh-sender-words : Unique fresh-sender-words-contract.ended (λ M. fresh-sender-words-contract.clauses {M = M})
 fresh-sender-words = record {
-  free = λ M 𝓤 H A mem run κs a g. refl;
   told = fresh-sender-words-reads.Learnt;
-  says = λ M 𝓤 H A mem run κs a g z e. refl;
+  says = λ M 𝓤 H A mem run. refl;
   one = λ κs a z z′ ws ws′ h h′. (λ i. (h ∙ sym h′) i .number, λ i. (tt, ((h ∙ sym h′) i .state, tt)));
 }
 
 pub opened-words : Unique opened-words-contract.ended (λ M. opened-words-contract.clauses {M = M})
 opened-words = record {
-  free = λ M 𝓤 H A mem run κs a g. refl;
   told = opened-words-reads.Learnt;
-  says = λ M 𝓤 H A mem run κs a g z e. refl;
+  says = λ M 𝓤 H A mem run. refl;
   one = λ κs a z z′ ws ws′ h h′. (λ i. (h ∙ sym h′) i .number, λ i. ((h ∙ sym h′) i .state, ((h ∙ sym h′) i .report, tt)));
 }
 
 pub ended-words : Unique ended-words-contract.ended (λ M. ended-words-contract.clauses {M = M})
 ended-words = record {
-  free = λ M 𝓤 H A mem run κs a g. refl;
   told = ended-words-reads.Learnt;
-  says = λ M 𝓤 H A mem run κs a g z e. refl;
+  says = λ M 𝓤 H A mem run. refl;
   one = λ κs a z z′ ws ws′ h h′. (λ i. (h ∙ sym h′) i .number, λ i. ((h ∙ sym h′) i .state, ((h ∙ sym h′) i .report, tt)));
 }
 
 pub reset-words : Unique reset-words-contract.ended (λ M. reset-words-contract.clauses {M = M})
 reset-words = record {
-  free = λ M 𝓤 H A mem run κs a g. refl;
   told = reset-words-reads.Learnt;
-  says = λ M 𝓤 H A mem run κs a g z e. refl;
+  says = λ M 𝓤 H A mem run. refl;
   one = λ κs a z z′ ws ws′ h h′. (λ i. (h ∙ sym h′) i .number, λ i. ((h ∙ sym h′) i .state, ((h ∙ sym h′) i .report, tt)));
 }
 
 pub timer-words : Unique timer-words-contract.ended (λ M. timer-words-contract.clauses {M = M})
 timer-words = record {
-  free = λ M 𝓤 H A mem run κs a g. refl;
   told = timer-words-reads.Learnt;
-  says = λ M 𝓤 H A mem run κs a g z e. refl;
+  says = λ M 𝓤 H A mem run. refl;
   one = λ κs a z z′ ws ws′ h h′. (λ i. (h ∙ sym h′) i .number, λ i. (tt, ((h ∙ sym h′) i .state, ((h ∙ sym h′) i .report, tt))));
 }
 
 pub block-words : Unique block-words-contract.ended (λ M. block-words-contract.clauses {M = M})
 block-words = record {
-  free = λ M 𝓤 H A mem run κs a g. refl;
   told = block-words-reads.Learnt;
-  says = λ M 𝓤 H A mem run κs a g z e. refl;
+  says = λ M 𝓤 H A mem run. refl;
   one = λ κs a z z′ ws ws′ h h′. (λ i. (h ∙ sym h′) i .number, λ i. (tt, (tt, (tt, (tt, ((h ∙ sym h′) i .state, ((h ∙ sym h′) i .report, tt)))))));
 }
 
 pub submitted-words : Unique submitted-words-contract.ended (λ M. submitted-words-contract.clauses {M = M})
 submitted-words = record {
-  free = λ M 𝓤 H A mem run κs a g. refl;
   told = submitted-words-reads.Learnt;
-  says = λ M 𝓤 H A mem run κs a g z e. refl;
+  says = λ M 𝓤 H A mem run. refl;
   one = λ κs a z z′ ws ws′ h h′. (λ i. (h ∙ sym h′) i .number, λ i. (tt, (tt, ((h ∙ sym h′) i .state, ((h ∙ sym h′) i .report, tt)))));
 }

@@ -18,56 +18,49 @@ use Rattle.sender_interface.proofs.gmv_sender_block.Reads as gmv-sender-block-r
 
 pub gmv-sender-fresh : Unique gmv-sender-fresh-contract.ended (λ M. gmv-sender-fresh-contract.clauses {M = M})
 gmv-sender-fresh = record {
-  free = λ M 𝓤 H A mem run κs a g. refl;
   told = gmv-sender-fresh-reads.Learnt;
-  says = λ M 𝓤 H A mem run κs a g z e. refl;
+  says = λ M 𝓤 H A mem run. refl;
   one = λ κs a z z′ ws ws′ h h′. (λ i. (h ∙ sym h′) i .number, λ i. (tt, ((h ∙ sym h′) i .state, tt)));
 }
 
 pub gmv-sender-submit : Unique gmv-sender-submit-contract.ended (λ M. gmv-sender-submit-contract.clauses {M = M})
 gmv-sender-submit = record {
-  free = λ M 𝓤 H A mem run κs a g. refl;
   told = gmv-sender-submit-reads.Learnt;
-  says = λ M 𝓤 H A mem run κs a g z e. refl;
+  says = λ M 𝓤 H A mem run. refl;
   one = λ κs a z z′ ws ws′ h h′. (λ i. (h ∙ sym h′) i .number, λ i. (tt, (tt, ((h ∙ sym h′) i .state, ((h ∙ sym h′) i .report, tt)))));
 }
 
 pub gmv-sender-open : Unique gmv-sender-open-contract.ended (λ M. gmv-sender-open-contract.clauses {M = M})
 gmv-sender-open = record {
-  free = λ M 𝓤 H A mem run κs a g. refl;
   told = gmv-sender-open-reads.Learnt;
-  says = λ M 𝓤 H A mem run κs a g z e. refl;
+  says = λ M 𝓤 H A mem run. refl;
   one = λ κs a z z′ ws ws′ h h′. (λ i. (h ∙ sym h′) i .number, λ i. ((h ∙ sym h′) i .state, ((h ∙ sym h′) i .report, tt)));
 }
 
 pub gmv-sender-ended : Unique gmv-sender-ended-contract.ended (λ M. gmv-sender-ended-contract.clauses {M = M})
 gmv-sender-ended = record {
-  free = λ M 𝓤 H A mem run κs a g. refl;
   told = gmv-sender-ended-reads.Learnt;
-  says = λ M 𝓤 H A mem run κs a g z e. refl;
+  says = λ M 𝓤 H A mem run. refl;
   one = λ κs a z z′ ws ws′ h h′. (λ i. (h ∙ sym h′) i .number, λ i. ((h ∙ sym h′) i .state, ((h ∙ sym h′) i .report, tt)));
 }
 
 pub gmv-sender-reset : Unique gmv-sender-reset-contract.ended (λ M. gmv-sender-reset-contract.clauses {M = M})
 gmv-sender-reset = record {
-  free = λ M 𝓤 H A mem run κs a g. refl;
   told = gmv-sender-reset-reads.Learnt;
-  says = λ M 𝓤 H A mem run κs a g z e. refl;
+  says = λ M 𝓤 H A mem run. refl;
   one = λ κs a z z′ ws ws′ h h′. (λ i. (h ∙ sym h′) i .number, λ i. ((h ∙ sym h′) i .state, ((h ∙ sym h′) i .report, tt)));
 }
 
 pub gmv-sender-timer : Unique gmv-sender-timer-contract.ended (λ M. gmv-sender-timer-contract.clauses {M = M})
 gmv-sender-timer = record {
-  free = λ M 𝓤 H A mem run κs a g. refl;
   told = gmv-sender-timer-reads.Learnt;
-  says = λ M 𝓤 H A mem run κs a g z e. refl;
+  says = λ M 𝓤 H A mem run. refl;
   one = λ κs a z z′ ws ws′ h h′. (λ i. (h ∙ sym h′) i .number, λ i. (tt, ((h ∙ sym h′) i .state, ((h ∙ sym h′) i .report, tt))));
 }
 
 pub gmv-sender-block : Unique gmv-sender-block-contract.ended (λ M. gmv-sender-block-contract.clauses {M = M})
 gmv-sender-block = record {
-  free = λ M 𝓤 H A mem run κs a g. refl;
   told = gmv-sender-block-reads.Learnt;
-  says = λ M 𝓤 H A mem run κs a g z e. refl;
+  says = λ M 𝓤 H A mem run. refl;
   one = λ κs a z z′ ws ws′ h h′. (λ i. (h ∙ sym h′) i .number, λ i. (tt, (tt, (tt, (tt, ((h ∙ sym h′) i .state, ((h ∙ sym h′) i .report, tt)))))));
 }

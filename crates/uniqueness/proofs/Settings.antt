@@ -16,48 +16,42 @@ use Rattle.settings.proofs.Settings.data_offset.Reads as Settings-data-offset-r
 
 pub is-allowed : Unique is-allowed-contract.ended (λ M. is-allowed-contract.clauses {M = M})
 is-allowed = record {
-  free = λ M 𝓤 H A mem run κs a g. refl;
   told = is-allowed-reads.Learnt;
-  says = λ M 𝓤 H A mem run κs a g z e. refl;
+  says = λ M 𝓤 H A mem run. refl;
   one = λ κs a z z′ ws ws′ h h′. (h ∙ sym h′, refl);
 }
 
 pub Settings-hybrid : Unique Settings-hybrid-contract.ended (λ M. Settings-hybrid-contract.clauses {M = M})
 Settings-hybrid = record {
-  free = λ M 𝓤 H A mem run κs a g. refl;
   told = Settings-hybrid-reads.Learnt;
-  says = λ M 𝓤 H A mem run κs a g z e. refl;
+  says = λ M 𝓤 H A mem run. refl;
   one = λ κs a z z′ ws ws′ h h′. (h ∙ sym h′, refl);
 }
 
 pub Settings-minimal : Unique Settings-minimal-contract.ended (λ M. Settings-minimal-contract.clauses {M = M})
 Settings-minimal = record {
-  free = λ M 𝓤 H A mem run κs a g. refl;
   told = Settings-minimal-reads.Learnt;
-  says = λ M 𝓤 H A mem run κs a g z e. refl;
+  says = λ M 𝓤 H A mem run. refl;
   one = λ κs a z z′ ws ws′ h h′. (h ∙ sym h′, refl);
 }
 
 pub Settings-is-valid : Unique Settings-is-valid-contract.ended (λ M. Settings-is-valid-contract.clauses {M = M})
 Settings-is-valid = record {
-  free = λ M 𝓤 H A mem run κs a g. refl;
   told = Settings-is-valid-reads.Learnt;
-  says = λ M 𝓤 H A mem run κs a g z e. refl;
+  says = λ M 𝓤 H A mem run. refl;
   one = λ κs a z z′ ws ws′ h h′. (h ∙ sym h′, refl);
 }
 
 pub Settings-is-link : Unique Settings-is-link-contract.ended (λ M. Settings-is-link-contract.clauses {M = M})
 Settings-is-link = record {
-  free = λ M 𝓤 H A mem run κs a g. refl;
   told = Settings-is-link-reads.Learnt;
-  says = λ M 𝓤 H A mem run κs a g z e. refl;
+  says = λ M 𝓤 H A mem run. refl;
   one = λ κs a z z′ ws ws′ h h′. (h ∙ sym h′, refl);
 }
 
 pub Settings-data-offset : Unique Settings-data-offset-contract.ended (λ M. Settings-data-offset-contract.clauses {M = M})
 Settings-data-offset = record {
-  free = λ M 𝓤 H A mem run κs a g. refl;
   told = Settings-data-offset-reads.Learnt;
-  says = λ M 𝓤 H A mem run κs a g z e. refl;
+  says = λ M 𝓤 H A mem run. refl;
   one = λ κs a z z′ ws ws′ h h′. (h ∙ sym h′, refl);
 }

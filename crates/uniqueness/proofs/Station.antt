@@ -14,40 +14,35 @@ use Rattle.station.proofs.station_opened.Reads as station-opened-reads
 
 pub good-block : Unique good-block-contract.ended (λ M. good-block-contract.clauses {M = M})
 good-block = record {
-  free = λ M 𝓤 H A mem run κs a g. refl;
   told = good-block-reads.Learnt;
-  says = λ M 𝓤 H A mem run κs a g z e. refl;
+  says = λ M 𝓤 H A mem run. refl;
   one = λ κs a z z′ ws ws′ h h′. (λ i. (h ∙ sym h′) i .answer, λ i. (tt, (tt, (tt, (tt, ((h ∙ sym h′) i .buffer, tt))))));
 }
 
 pub bad-block : Unique bad-block-contract.ended (λ M. bad-block-contract.clauses {M = M})
 bad-block = record {
-  free = λ M 𝓤 H A mem run κs a g. refl;
   told = bad-block-reads.Learnt;
-  says = λ M 𝓤 H A mem run κs a g z e. refl;
+  says = λ M 𝓤 H A mem run. refl;
   one = λ κs a z z′ ws ws′ h h′. (h ∙ sym h′, refl);
 }
 
 pub enquiry-block : Unique enquiry-block-contract.ended (λ M. enquiry-block-contract.clauses {M = M})
 enquiry-block = record {
-  free = λ M 𝓤 H A mem run κs a g. refl;
   told = enquiry-block-reads.Learnt;
-  says = λ M 𝓤 H A mem run κs a g z e. refl;
+  says = λ M 𝓤 H A mem run. refl;
   one = λ κs a z z′ ws ws′ h h′. (h ∙ sym h′, refl);
 }
 
 pub end-of-transmission : Unique end-of-transmission-contract.ended (λ M. end-of-transmission-contract.clauses {M = M})
 end-of-transmission = record {
-  free = λ M 𝓤 H A mem run κs a g. refl;
   told = end-of-transmission-reads.Learnt;
-  says = λ M 𝓤 H A mem run κs a g z e. refl;
+  says = λ M 𝓤 H A mem run. refl;
   one = λ κs a z z′ ws ws′ h h′. (h ∙ sym h′, refl);
 }
 
 pub station-opened : Unique station-opened-contract.ended (λ M. station-opened-contract.clauses {M = M})
 station-opened = record {
-  free = λ M 𝓤 H A mem run κs a g. refl;
   told = station-opened-reads.Learnt;
-  says = λ M 𝓤 H A mem run κs a g z e. refl;
+  says = λ M 𝓤 H A mem run. refl;
   one = λ κs a z z′ ws ws′ h h′. (h ∙ sym h′, refl);
 }

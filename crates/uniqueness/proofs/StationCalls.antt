@@ -16,48 +16,42 @@ use Rattle.station_calls.proofs.block_words.Reads as block-words-reads
 
 pub fresh-station-words : Unique fresh-station-words-contract.ended (λ M. fresh-station-words-contract.clauses {M = M})
 fresh-station-words = record {
-  free = λ M 𝓤 H A mem run κs a g. refl;
   told = fresh-station-words-reads.Learnt;
-  says = λ M 𝓤 H A mem run κs a g z e. refl;
+  says = λ M 𝓤 H A mem run. refl;
   one = λ κs a z z′ ws ws′ h h′. (λ i. (h ∙ sym h′) i .number, λ i. ((h ∙ sym h′) i .state, tt));
 }
 
 pub opened-words : Unique opened-words-contract.ended (λ M. opened-words-contract.clauses {M = M})
 opened-words = record {
-  free = λ M 𝓤 H A mem run κs a g. refl;
   told = opened-words-reads.Learnt;
-  says = λ M 𝓤 H A mem run κs a g z e. refl;
+  says = λ M 𝓤 H A mem run. refl;
   one = λ κs a z z′ ws ws′ h h′. (λ i. (h ∙ sym h′) i .number, λ i. ((h ∙ sym h′) i .state, ((h ∙ sym h′) i .report, tt)));
 }
 
 pub bad-words : Unique bad-words-contract.ended (λ M. bad-words-contract.clauses {M = M})
 bad-words = record {
-  free = λ M 𝓤 H A mem run κs a g. refl;
   told = bad-words-reads.Learnt;
-  says = λ M 𝓤 H A mem run κs a g z e. refl;
+  says = λ M 𝓤 H A mem run. refl;
   one = λ κs a z z′ ws ws′ h h′. (λ i. (h ∙ sym h′) i .number, λ i. ((h ∙ sym h′) i .state, ((h ∙ sym h′) i .report, tt)));
 }
 
 pub enquiry-words : Unique enquiry-words-contract.ended (λ M. enquiry-words-contract.clauses {M = M})
 enquiry-words = record {
-  free = λ M 𝓤 H A mem run κs a g. refl;
   told = enquiry-words-reads.Learnt;
-  says = λ M 𝓤 H A mem run κs a g z e. refl;
+  says = λ M 𝓤 H A mem run. refl;
   one = λ κs a z z′ ws ws′ h h′. (λ i. (h ∙ sym h′) i .number, λ i. ((h ∙ sym h′) i .state, ((h ∙ sym h′) i .report, tt)));
 }
 
 pub end-words : Unique end-words-contract.ended (λ M. end-words-contract.clauses {M = M})
 end-words = record {
-  free = λ M 𝓤 H A mem run κs a g. refl;
   told = end-words-reads.Learnt;
-  says = λ M 𝓤 H A mem run κs a g z e. refl;
+  says = λ M 𝓤 H A mem run. refl;
   one = λ κs a z z′ ws ws′ h h′. (λ i. (h ∙ sym h′) i .number, λ i. ((h ∙ sym h′) i .state, ((h ∙ sym h′) i .report, tt)));
 }
 
 pub block-words : Unique block-words-contract.ended (λ M. block-words-contract.clauses {M = M})
 block-words = record {
-  free = λ M 𝓤 H A mem run κs a g. refl;
   told = block-words-reads.Learnt;
-  says = λ M 𝓤 H A mem run κs a g z e. refl;
+  says = λ M 𝓤 H A mem run. refl;
   one = λ κs a z z′ ws ws′ h h′. (λ i. (h ∙ sym h′) i .number, λ i. (tt, (tt, (tt, ((h ∙ sym h′) i .buffer, ((h ∙ sym h′) i .state, ((h ∙ sym h′) i .report, tt)))))));
 }

@@ -16,48 +16,42 @@ use Rattle.station_interface.proofs.gmv_station_end.Reads as gmv-station-end-re
 
 pub gmv-station-fresh : Unique gmv-station-fresh-contract.ended (λ M. gmv-station-fresh-contract.clauses {M = M})
 gmv-station-fresh = record {
-  free = λ M 𝓤 H A mem run κs a g. refl;
   told = gmv-station-fresh-reads.Learnt;
-  says = λ M 𝓤 H A mem run κs a g z e. refl;
+  says = λ M 𝓤 H A mem run. refl;
   one = λ κs a z z′ ws ws′ h h′. (λ i. (h ∙ sym h′) i .number, λ i. ((h ∙ sym h′) i .state, tt));
 }
 
 pub gmv-station-open : Unique gmv-station-open-contract.ended (λ M. gmv-station-open-contract.clauses {M = M})
 gmv-station-open = record {
-  free = λ M 𝓤 H A mem run κs a g. refl;
   told = gmv-station-open-reads.Learnt;
-  says = λ M 𝓤 H A mem run κs a g z e. refl;
+  says = λ M 𝓤 H A mem run. refl;
   one = λ κs a z z′ ws ws′ h h′. (λ i. (h ∙ sym h′) i .number, λ i. ((h ∙ sym h′) i .state, ((h ∙ sym h′) i .report, tt)));
 }
 
 pub gmv-station-block : Unique gmv-station-block-contract.ended (λ M. gmv-station-block-contract.clauses {M = M})
 gmv-station-block = record {
-  free = λ M 𝓤 H A mem run κs a g. refl;
   told = gmv-station-block-reads.Learnt;
-  says = λ M 𝓤 H A mem run κs a g z e. refl;
+  says = λ M 𝓤 H A mem run. refl;
   one = λ κs a z z′ ws ws′ h h′. (λ i. (h ∙ sym h′) i .number, λ i. (tt, (tt, (tt, ((h ∙ sym h′) i .buffer, ((h ∙ sym h′) i .state, ((h ∙ sym h′) i .report, tt)))))));
 }
 
 pub gmv-station-bad : Unique gmv-station-bad-contract.ended (λ M. gmv-station-bad-contract.clauses {M = M})
 gmv-station-bad = record {
-  free = λ M 𝓤 H A mem run κs a g. refl;
   told = gmv-station-bad-reads.Learnt;
-  says = λ M 𝓤 H A mem run κs a g z e. refl;
+  says = λ M 𝓤 H A mem run. refl;
   one = λ κs a z z′ ws ws′ h h′. (λ i. (h ∙ sym h′) i .number, λ i. ((h ∙ sym h′) i .state, ((h ∙ sym h′) i .report, tt)));
 }
 
 pub gmv-station-enquiry : Unique gmv-station-enquiry-contract.ended (λ M. gmv-station-enquiry-contract.clauses {M = M})
 gmv-station-enquiry = record {
-  free = λ M 𝓤 H A mem run κs a g. refl;
   told = gmv-station-enquiry-reads.Learnt;
-  says = λ M 𝓤 H A mem run κs a g z e. refl;
+  says = λ M 𝓤 H A mem run. refl;
   one = λ κs a z z′ ws ws′ h h′. (λ i. (h ∙ sym h′) i .number, λ i. ((h ∙ sym h′) i .state, ((h ∙ sym h′) i .report, tt)));
 }
 
 pub gmv-station-end : Unique gmv-station-end-contract.ended (λ M. gmv-station-end-contract.clauses {M = M})
 gmv-station-end = record {
-  free = λ M 𝓤 H A mem run κs a g. refl;
   told = gmv-station-end-reads.Learnt;
-  says = λ M 𝓤 H A mem run κs a g z e. refl;
+  says = λ M 𝓤 H A mem run. refl;
   one = λ κs a z z′ ws ws′ h h′. (λ i. (h ∙ sym h′) i .number, λ i. ((h ∙ sym h′) i .state, ((h ∙ sym h′) i .report, tt)));
 }

@@ -8,16 +8,14 @@ use Rattle.stream.proofs.read.Reads as read-reads
 
 pub Reader-new : Unique Reader-new-contract.ended (λ M. Reader-new-contract.clauses {M = M})
 Reader-new = record {
-  free = λ M 𝓤 H A mem run κs a g. refl;
   told = Reader-new-reads.Learnt;
-  says = λ M 𝓤 H A mem run κs a g z e. refl;
+  says = λ M 𝓤 H A mem run. refl;
   one = λ κs a z z′ ws ws′ h h′. (h ∙ sym h′, refl);
 }
 
 pub read : Unique read-contract.ended (λ M. read-contract.clauses {M = M})
 read = record {
-  free = λ M 𝓤 H A mem run κs a g. refl;
   told = read-reads.Learnt;
-  says = λ M 𝓤 H A mem run κs a g z e. refl;
+  says = λ M 𝓤 H A mem run. refl;
   one = λ κs a z z′ ws ws′ h h′. (λ i. (h ∙ sym h′) i .reading, λ i. (tt, (tt, (tt, ((h ∙ sym h′) i .buffer, tt)))));
 }

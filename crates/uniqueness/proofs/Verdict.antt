@@ -12,32 +12,28 @@ use Rattle.verdict.proofs.Verdict.data_length.Reads as Verdict-data-length-read
 
 pub Verdict-number : Unique Verdict-number-contract.ended (λ M. Verdict-number-contract.clauses {M = M})
 Verdict-number = record {
-  free = λ M 𝓤 H A mem run κs a g. refl;
   told = Verdict-number-reads.Learnt;
-  says = λ M 𝓤 H A mem run κs a g z e. refl;
+  says = λ M 𝓤 H A mem run. refl;
   one = λ κs a z z′ ws ws′ h h′. (h ∙ sym h′, refl);
 }
 
 pub Verdict-forbidden-offset : Unique Verdict-forbidden-offset-contract.ended (λ M. Verdict-forbidden-offset-contract.clauses {M = M})
 Verdict-forbidden-offset = record {
-  free = λ M 𝓤 H A mem run κs a g. refl;
   told = Verdict-forbidden-offset-reads.Learnt;
-  says = λ M 𝓤 H A mem run κs a g z e. refl;
+  says = λ M 𝓤 H A mem run. refl;
   one = λ κs a z z′ ws ws′ h h′. (h ∙ sym h′, refl);
 }
 
 pub Verdict-block-type : Unique Verdict-block-type-contract.ended (λ M. Verdict-block-type-contract.clauses {M = M})
 Verdict-block-type = record {
-  free = λ M 𝓤 H A mem run κs a g. refl;
   told = Verdict-block-type-reads.Learnt;
-  says = λ M 𝓤 H A mem run κs a g z e. refl;
+  says = λ M 𝓤 H A mem run. refl;
   one = λ κs a z z′ ws ws′ h h′. (h ∙ sym h′, refl);
 }
 
 pub Verdict-data-length : Unique Verdict-data-length-contract.ended (λ M. Verdict-data-length-contract.clauses {M = M})
 Verdict-data-length = record {
-  free = λ M 𝓤 H A mem run κs a g. refl;
   told = Verdict-data-length-reads.Learnt;
-  says = λ M 𝓤 H A mem run κs a g z e. refl;
+  says = λ M 𝓤 H A mem run. refl;
   one = λ κs a z z′ ws ws′ h h′. (h ∙ sym h′, refl);
 }

@@ -6,8 +6,7 @@ use Rattle.whole_block.proofs.check_block.Reads as check-block-reads
 
 pub check-block : Unique check-block-contract.ended (λ M. check-block-contract.clauses {M = M})
 check-block = record {
-  free = λ M 𝓤 H A mem run κs a g. refl;
   told = check-block-reads.Learnt;
-  says = λ M 𝓤 H A mem run κs a g z e. refl;
+  says = λ M 𝓤 H A mem run. refl;
   one = λ κs a z z′ ws ws′ h h′. (h ∙ sym h′, refl);
 }

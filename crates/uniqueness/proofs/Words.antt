@@ -18,56 +18,49 @@ use Rattle.words.proofs.verdict_of.Reads as verdict-of-reads
 
 pub write-reader : Unique write-reader-contract.ended (λ M. write-reader-contract.clauses {M = M})
 write-reader = record {
-  free = λ M 𝓤 H A mem run κs a g. refl;
   told = write-reader-reads.Learnt;
-  says = λ M 𝓤 H A mem run κs a g z e. refl;
+  says = λ M 𝓤 H A mem run. refl;
   one = λ κs a z z′ ws ws′ h h′. (refl, λ i. ((h ∙ sym h′) i, (tt, tt)));
 }
 
 pub read-reader : Unique read-reader-contract.ended (λ M. read-reader-contract.clauses {M = M})
 read-reader = record {
-  free = λ M 𝓤 H A mem run κs a g. refl;
   told = read-reader-reads.Learnt;
-  says = λ M 𝓤 H A mem run κs a g z e. refl;
+  says = λ M 𝓤 H A mem run. refl;
   one = λ κs a z z′ ws ws′ h h′. (h ∙ sym h′, refl);
 }
 
 pub write-verdict : Unique write-verdict-contract.ended (λ M. write-verdict-contract.clauses {M = M})
 write-verdict = record {
-  free = λ M 𝓤 H A mem run κs a g. refl;
   told = write-verdict-reads.Learnt;
-  says = λ M 𝓤 H A mem run κs a g z e. refl;
+  says = λ M 𝓤 H A mem run. refl;
   one = λ κs a z z′ ws ws′ h h′. (refl, λ i. ((h ∙ sym h′) i, (tt, (tt, (tt, (tt, tt))))));
 }
 
 pub write-pending : Unique write-pending-contract.ended (λ M. write-pending-contract.clauses {M = M})
 write-pending = record {
-  free = λ M 𝓤 H A mem run κs a g. refl;
   told = write-pending-reads.Learnt;
-  says = λ M 𝓤 H A mem run κs a g z e. refl;
+  says = λ M 𝓤 H A mem run. refl;
   one = λ κs a z z′ ws ws′ h h′. (refl, λ i. ((h ∙ sym h′) i, (tt, tt)));
 }
 
 pub write-report : Unique write-report-contract.ended (λ M. write-report-contract.clauses {M = M})
 write-report = record {
-  free = λ M 𝓤 H A mem run κs a g. refl;
   told = write-report-reads.Learnt;
-  says = λ M 𝓤 H A mem run κs a g z e. refl;
+  says = λ M 𝓤 H A mem run. refl;
   one = λ κs a z z′ ws ws′ h h′. (refl, λ i. ((h ∙ sym h′) i, (tt, (tt, tt))));
 }
 
 pub type-byte : Unique type-byte-contract.ended (λ M. type-byte-contract.clauses {M = M})
 type-byte = record {
-  free = λ M 𝓤 H A mem run κs a g. refl;
   told = type-byte-reads.Learnt;
-  says = λ M 𝓤 H A mem run κs a g z e. refl;
+  says = λ M 𝓤 H A mem run. refl;
   one = λ κs a z z′ ws ws′ h h′. (h ∙ sym h′, refl);
 }
 
 pub verdict-of : Unique verdict-of-contract.ended (λ M. verdict-of-contract.clauses {M = M})
 verdict-of = record {
-  free = λ M 𝓤 H A mem run κs a g. refl;
   told = verdict-of-reads.Learnt;
-  says = λ M 𝓤 H A mem run κs a g z e. refl;
+  says = λ M 𝓤 H A mem run. refl;
   one = λ κs a z z′ ws ws′ h h′. (h ∙ sym h′, refl);
 }

@@ -8,16 +8,14 @@ use Rattle.write_calls.proofs.write_words.Reads as write-words-reads
 
 pub report-written : Unique report-written-contract.ended (λ M. report-written-contract.clauses {M = M})
 report-written = record {
-  free = λ M 𝓤 H A mem run κs a g. refl;
   told = report-written-reads.Learnt;
-  says = λ M 𝓤 H A mem run κs a g z e. refl;
+  says = λ M 𝓤 H A mem run. refl;
   one = λ κs a z z′ ws ws′ h h′. (λ i. (h ∙ sym h′) i .number, λ i. (tt, ((h ∙ sym h′) i .report, tt)));
 }
 
 pub write-words : Unique write-words-contract.ended (λ M. write-words-contract.clauses {M = M})
 write-words = record {
-  free = λ M 𝓤 H A mem run κs a g. refl;
   told = write-words-reads.Learnt;
-  says = λ M 𝓤 H A mem run κs a g z e. refl;
+  says = λ M 𝓤 H A mem run. refl;
   one = λ κs a z z′ ws ws′ h h′. (λ i. (h ∙ sym h′) i .number, λ i. (tt, (tt, (tt, ((h ∙ sym h′) i .buffer, (tt, ((h ∙ sym h′) i .report, tt)))))));
 }

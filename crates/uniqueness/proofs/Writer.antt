@@ -6,8 +6,7 @@ use Rattle.writer.proofs.write.Reads as write-reads
 
 pub write : Unique write-contract.ended (λ M. write-contract.clauses {M = M})
 write = record {
-  free = λ M 𝓤 H A mem run κs a g. refl;
   told = write-reads.Learnt;
-  says = λ M 𝓤 H A mem run κs a g z e. refl;
+  says = λ M 𝓤 H A mem run. refl;
   one = λ κs a z z′ ws ws′ h h′. (λ i. (h ∙ sym h′) i .answer, λ i. (tt, (tt, (tt, ((h ∙ sym h′) i .buffer, (tt, tt))))));
 }

@@ -20,19 +20,17 @@ Contract T = (M : Type 1) (𝓤 : URA M) (H : Heap 𝓤) → Atoms 𝓤 → (Mem
 abbrev pub Told : Ended → Type 1
 Told T = (κs : Lfts (T .signature .lifetimes)) → Args (T .signature) κs → Res (T .signature) κs → AtExit T κs → Type 0
 
--- the `ensures` is this fact, and nothing else
+-- a contract that asks nothing of the caller, so that every input is one, and tells this fact
+abbrev pub plainly : {M : Type 1} (𝓤 : URA M) (T : Ended) → Told T → Clauses 𝓤 T
+plainly 𝓤 T told κs a = record { ghost = Unit {0}; requires = λ g. emp 𝓤; ensures = λ g z e. fact 𝓤 (told κs a z e) }
+
+-- the contract as it is written is that one, and says nothing else
 abbrev pub Says : (T : Ended) → Contract T → Told T → Type 2
 Says T c told =
-    (M : Type 1) (𝓤 : URA M) (H : Heap 𝓤) (A : Atoms 𝓤) (mem : Memory → SProp 𝓤) (run : Routine → Fun 𝓤) (κs : Lfts (T .signature .lifetimes)) (a : Args (T .signature) κs) (g : c M 𝓤 H A mem run κs a .ghost) (z : Res (T .signature) κs) (e : AtExit T κs) → c M 𝓤 H A mem run κs a .ensures g z e ≡ fact 𝓤 (told κs a z e)
-
--- nothing is asked of the caller: every input is one
-abbrev pub Free : (T : Ended) → Contract T → Type 2
-Free T c =
-    (M : Type 1) (𝓤 : URA M) (H : Heap 𝓤) (A : Atoms 𝓤) (mem : Memory → SProp 𝓤) (run : Routine → Fun 𝓤) (κs : Lfts (T .signature .lifetimes)) (a : Args (T .signature) κs) (g : c M 𝓤 H A mem run κs a .ghost) → c M 𝓤 H A mem run κs a .requires g ≡ emp 𝓤
+    (M : Type 1) (𝓤 : URA M) (H : Heap 𝓤) (A : Atoms 𝓤) (mem : Memory → SProp 𝓤) (run : Routine → Fun 𝓤) → c M 𝓤 H A mem run ≡ plainly 𝓤 T told
 
 -- Two outcomes of one call that the promise allows are the same. Lent memory is what of the parameters can have changed: ws and ws′ are its contents at exit.
 pub record Unique (T : Ended) (c : Contract T) : Type 2 where
-  pub free : Free T c
   pub told : Told T
   pub says : Says T c told
   pub one :
@@ -40,7 +38,6 @@ pub record Unique (T : Ended) (c : Contract T) : Type 2 where
 
 -- The exceptions hand back a part of what was lent: of their result this is said of what `content` sees of it, and not of its address.
 pub record UniqueContent (T : Ended) (c : Contract T) (X : Type 0) (content : (κs : Lfts (T .signature .lifetimes)) → Res (T .signature) κs → X) : Type 2 where
-  pub free : Free T c
   pub told : Told T
   pub says : Says T c told
   pub one :
