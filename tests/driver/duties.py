@@ -191,7 +191,8 @@ def late_answers(bench):
         return 'called again after %f s' % (time.monotonic() - gave_up)
     if end.error_text() != 'gmv_driver: waited on -1 and gave up after 3 sends, the circuit ended':
         return 'giving up is not said: %s' % end.error_text()
-    if '2 circuits opened since the driver started, gave up 1 time' not in said(bench.programs, bench.path('s'))[0]:
+    sentence = '2 circuits opened since the driver started, gave up 1 time'
+    if not wait_for(lambda: sentence in said(bench.programs, bench.path('s'))[0]):
         return 'giving up is not counted: %s' % said(bench.programs, bench.path('s'))[0]
     peer.block()
     peer.reply('AA', '0', '7')  # an answer to something else
