@@ -9,17 +9,27 @@ use lib.Dec.{ltb, leb, eqb}
 use borrow.Author.Tests.{le-leb, lt-ltb, le-ltb}
 use Rattle.lists.proofs.Tests.{cond-ind}
 use Rattle.data_bytes.specs.DataBytes.{allAllowed}
+use Rattle.lists.specs.Bytes.{same}
 use Rattle.fields.specs.Fields.{bytesOf}
-use Rattle.numbers.specs.Numbers.{numberField, greatestSent}
+use Rattle.fields.specs.declared.Field.{Field}
+use Rattle.numbers.specs.Numbers.{numberField, greatestSent, greatestExpected, textOf}
 use Rattle.verdict.specs.Verdict.{numberOf}
 use Rattle.verdict.specs.declared.Verdict.{Verdict}
 use Rattle.verdict.specs.declared.Verdict.the-variants.{Accepted, Byte, Long, Shape, Count, Check, Interrupted}
 use Rattle.numbers.specs.declared.SequenceNumber.{SequenceNumber}
-use Rattle.header.specs.Header.{headerOf, acknowledgmentOf}
+use Rattle.numbers.specs.declared.SequenceNumber.the-variants.{MinusOne, Number}
+use Rattle.numbers.specs.declared.NumberField.{NumberField}
+use Rattle.numbers.specs.declared.NumberField.the-variants.{Missing, NotNumber, Present}
+use Rattle.header.specs.Header.{headerOf, acknowledgmentOf, codeField}
 use Rattle.header.specs.declared.Header.{Header}
 use Rattle.header.specs.declared.Header.the-variants.{Unreadable, Readable}
-use Rattle.header.specs.declared.Acknowledgment.the-variants.{Unreadable as NoAnswer}
-use Rattle.sender.specs.Sender.{validSender, waitingMessage, acted, closes, isOpen, openIn, openOf, endedOf, resetOf, againOf, dueIn, checked, timerOf, withBlock, dataBlock, blockIn, blockReadOf, refused, takesNumber, takenIn, submittedHeader, validLimit, submitOf}
+use Rattle.header.specs.declared.Acknowledgment.{Acknowledgment}
+use Rattle.header.specs.declared.Acknowledgment.the-variants.{Unreadable as NoAnswer, Readable as AnAnswer}
+use Rattle.header.specs.declared.Code.{Code}
+use Rattle.header.specs.declared.Code.the-variants.{AA, AE, AR}
+use Rattle.header.specs.declared.CodeField.{CodeField}
+use Rattle.header.specs.declared.CodeField.the-variants.{Other, Known}
+use Rattle.sender.specs.Sender.{validSender, waitingMessage, acted, closes, isOpen, openIn, openOf, endedOf, resetOf, againOf, dueIn, checked, timerOf, withBlock, dataBlock, blockIn, blockReadOf, validResends, queryNone, queryNumber, hearResynchronizing, hearQuerying, knownNumber, hearSending, hearWith, heardOf, answeredBy, refused, takesNumber, takenIn, submittedHeader, validLimit, submitOf}
 use Rattle.sender.specs.declared.Persisted.{Persisted}
 use Rattle.sender.specs.declared.Waiting.{Waiting}
 use Rattle.sender.specs.declared.Waiting.the-variants.{Closed, Idle, Resynchronizing, Querying, Sending}
@@ -28,7 +38,7 @@ use Rattle.sender.specs.declared.NumberedMessage.{NumberedMessage}
 use Rattle.sender.specs.declared.NumberedMessage.the-variants.{Nothing, Numbered}
 use Rattle.sender.specs.declared.Event.the-variants.{NoEvent, Abandoned}
 use Rattle.sender.specs.declared.Acted.{Acted}
-use Rattle.sender_theorems.specs.Acts.{Act, opened, ended, reset, timer, block, submit, actOf}
+use Rattle.sender_theorems.specs.Acts.{Act, opened, ended, reset, timer, block, submit, actOf, dueBlock, fallsDue}
 use Rattle.sender_theorems.specs.History.{waitsOf, isAbandoned}
 
 abbrev isSome : NumberedMessage → Bool
@@ -108,14 +118,6 @@ module _ (r : ℕ) (s : Sender) (l : r ≤ 99) (v : validSender s ≡ true) (m :
       ∙ ap (withBlock 9) (sym timer-due)
 
 -- ---- and nothing else gives up
-abbrev pub IsDue : Act → Type 0
-IsDue opened = ⊥
-IsDue ended = ⊥
-IsDue reset = ⊥
-IsDue (timer r) = r ≡ r
-IsDue (block r v d) = r ≡ r
-IsDue (submit limit d) = ⊥
-
 goes-on-so : {P : Type 0} → true ≡ false → P
 goes-on-so e = let z : _≡_ {A = ℕ} 0 1 = cc in absurd (omega arith)
 
@@ -163,11 +165,85 @@ module _ (s : Sender) where
       (λ b. refl))
       (λ a. refl)
 
--- "gives up exactly when a resend falls due": only the timer and a block that was read give up
-pub only-due : (a : Act) (s : Sender) → isAbandoned (actOf a s .event) ≡ true → IsDue a
+  -- an answer that can be read, whatever it says
+  none-quiet : Quiet (queryNone s)
+  none-quiet = cond-ind Quiet (eqb (s .persisted .delivered + 1) (s .persisted .first)) _ _ (λ z. refl) (λ z. refl)
+
+  number-quiet : (e : ℕ) → Quiet (queryNumber s e)
+  number-quiet e =
+      cond-ind Quiet (eqb e (s .persisted .delivered + 1)) _ _ (λ z. refl)
+      (λ z. cond-ind Quiet (eqb e (s .persisted .delivered + 2)) _ _ (λ y. cond-ind Quiet (ltb (s .persisted .delivered) (s .persisted .last)) _ _ (λ x. refl) (λ x. refl)) (λ y. refl))
+
+  resynchronizing-quiet : (c : Code) (v : SequenceNumber) → Quiet (hearResynchronizing s c v)
+  resynchronizing-quiet AA MinusOne = refl
+  resynchronizing-quiet AA (Number e) = refl
+  resynchronizing-quiet AE v = refl
+  resynchronizing-quiet AR v = refl
+
+  querying-quiet : (c : Code) (v : SequenceNumber) → Quiet (hearQuerying s c v)
+  querying-quiet AA MinusOne = none-quiet
+  querying-quiet AA (Number e) = number-quiet e
+  querying-quiet AE v = refl
+  querying-quiet AR v = refl
+
+  known-quiet : (c : Code) (e : ℕ) → Quiet (knownNumber s c e)
+  known-quiet c e = cond-ind Quiet (eqb e (s .persisted .delivered + 1)) _ _ (λ z. refl) (λ z. refl)
+
+  sending-quiet : (c : Code) (v : SequenceNumber) → Quiet (hearSending s c v)
+  sending-quiet AA (Number e) = known-quiet AA e
+  sending-quiet AE (Number e) = known-quiet AE e
+  sending-quiet AR (Number e) = cond-ind Quiet (eqb e (s .persisted .delivered + 2)) _ _ (λ z. refl) (λ z. refl)
+  sending-quiet AA MinusOne = refl
+  sending-quiet AE MinusOne = refl
+  sending-quiet AR MinusOne = refl
+
+  with-quiet : (w : Waiting) (c : Code) (v : SequenceNumber) → Quiet (hearWith s w c v)
+  with-quiet Closed c v = refl
+  with-quiet Idle c v = refl
+  with-quiet Resynchronizing c v = resynchronizing-quiet c v
+  with-quiet Querying c v = querying-quiet c v
+  with-quiet Sending c v = sending-quiet c v
+
+  heard-quiet : (c : CodeField) (n : NumberField) → Quiet (heardOf s c n)
+  heard-quiet (Known c) (Present v) = with-quiet (s .waiting) c v
+  heard-quiet (Known c) Missing = refl
+  heard-quiet (Known c) NotNumber = refl
+  heard-quiet Other n = refl
+
+  answered-quiet : (id : List ℕ) (c : CodeField) (n : NumberField) (m : NumberedMessage) → Quiet (answeredBy s id c n m)
+  answered-quiet id c n Nothing = refl
+  answered-quiet id c n (Numbered v) = cond-ind Quiet (same id (textOf v)) _ _ (λ z. heard-quiet c n) (λ z. refl)
+
+  readable-quiet : (r t n : ℕ) (d : List ℕ) (c i e : Field) → eqb t 78 ≡ false → acknowledgmentOf d ≡ AnAnswer c i e → Quiet (blockReadOf r s (Accepted t n) d)
+  unfolding blockReadOf
+  readable-quiet r t n d c i e type is =
+      cond-ind Quiet (validResends r) _ _
+      (λ a. cond-ind Quiet (validSender s) _ _
+      (λ b. cond-ind Quiet (isOpen (s .waiting)) _ _
+      (λ x. rw (type, is) (answered-quiet (bytesOf i d) (codeField (bytesOf c d)) (numberField greatestExpected (bytesOf e d)) (waitingMessage (s .persisted) (s .waiting))))
+      (λ x. refl))
+      (λ b. refl))
+      (λ a. refl)
+
+  accepted-due : (r t n : ℕ) (d : List ℕ) → isAbandoned (blockReadOf r s (Accepted t n) d .event) ≡ true → dueBlock (Accepted t n) d ≡ true
+  accepted-due r t n d h = go (eqb t 78) refl (acknowledgmentOf d) refl
+    where
+      go : (b : Bool) → eqb t 78 ≡ b → (k : Acknowledgment) → acknowledgmentOf d ≡ k → dueBlock (Accepted t n) d ≡ true
+      go true type k is = rw type refl
+      go false type NoAnswer is = rw (type, is) refl
+      go false type (AnAnswer c i e) is = goes-on-so (sym h ∙ readable-quiet r t n d c i e type is)
+
+-- "gives up exactly when a resend falls due": no other act does, in any state
+pub only-due : (a : Act) (s : Sender) → isAbandoned (actOf a s .event) ≡ true → fallsDue a ≡ true
 only-due opened s h = goes-on-so (sym h ∙ open-quiet s)
 only-due ended s h = goes-on-so (sym h ∙ ended-quiet s)
 only-due reset s h = goes-on-so (sym h ∙ reset-quiet s)
 only-due (timer r) s h = refl
-only-due (block r v d) s h = refl
+only-due (block r (Accepted t n) d) s h = accepted-due s r t n d h
+only-due (block r (Byte p) d) s h = refl
+only-due (block r Long d) s h = refl
+only-due (block r Shape d) s h = refl
+only-due (block r Count d) s h = refl
+only-due (block r Check d) s h = refl
+only-due (block r Interrupted d) s h = refl
 only-due (submit limit d) s h = goes-on-so (sym h ∙ submit-quiet s limit d)
