@@ -10,10 +10,11 @@ export PATH := $(PATH):$(HOME)/.cargo/bin
 
 archive := target/staticlib/libgiamuvich.a
 header := target/include/giamuvich.h
+driver := target/driver/gmv_driver
 proved_sources := crates.txt $(shell find crates -type f \( -name '*.rt' -o -name '*.antt' \))
 
-# The library and its header for a driver, and the tools, all proved.
-all: setup prove $(archive) $(header) sample
+# The library and its header for a driver, and the tools, all proved; and the example driver.
+all: setup prove $(archive) $(header) $(driver) sample
 
 # Installs Debian packages that are lacking. Needs no network where nothing is.
 setup:
@@ -29,6 +30,10 @@ $(archive): $(proved_sources) | setup
 $(header): include/giamuvich.h
 	@mkdir -p $(@D)
 	cp $< $@
+
+# Both ends of a link, and linkstatus beside it.
+$(driver): $(archive) $(header) $(shell find examples/driver -name '*.[ch]')
+	tests/driver/build $(@D)
 
 # Offset of SB, number (0: accepted), data length, for each block of the capture.
 sample: prove
