@@ -35,7 +35,7 @@ static void stop(const char *why)
 }
 
 /* Memory of just this length, so that a tool which watches memory sees a byte too much. */
-static bytes room(size_t length)
+static bytes zeroed(size_t length)
 {
     bytes made = {malloc(length > 0 ? length : 1), length};
 
@@ -57,7 +57,7 @@ static unsigned digit(char c)
 static bytes from_digits(const char *word)
 {
     size_t length = strcmp(word, "-") == 0 ? 0 : strlen(word);
-    bytes made = room(length / 2);
+    bytes made = zeroed(length / 2);
 
     if (length % 2 != 0)
         stop("half a byte");
@@ -96,7 +96,7 @@ static void fresh_reader(const char *limit)
 {
     reader_limit = number_in(limit);
     free(reader_buffer.at);
-    reader_buffer = room((size_t)reader_limit);
+    reader_buffer = zeroed((size_t)reader_limit);
     if (gmv_reader_fresh(reader, GMV_READER_WORDS) != GMV_OK)
         stop("no fresh reader");
 }
@@ -148,7 +148,7 @@ static void say_written(uint64_t number, const uint64_t *report, bytes buffer)
 static void write_minimal(const char *limit, bytes data)
 {
     uint64_t report[GMV_REPORT_WORDS] = {0};
-    bytes buffer = room(data.length + 3);
+    bytes buffer = zeroed(data.length + 3);
 
     say_written(gmv_minimal_write(number_in(limit), data.at, data.length, buffer.at, buffer.length, 0, report,
                                   GMV_REPORT_WORDS),
@@ -159,7 +159,7 @@ static void write_minimal(const char *limit, bytes data)
 static void write_hybrid(const char *limit, const char *type, bytes data)
 {
     uint64_t report[GMV_REPORT_WORDS] = {0};
-    bytes buffer = room(data.length + 15);
+    bytes buffer = zeroed(data.length + 15);
 
     say_written(gmv_hybrid_write(SB, EB, number_in(limit), (uint8_t)type[0], data.at, data.length, buffer.at,
                                  buffer.length, 0, report, GMV_REPORT_WORDS),
@@ -204,7 +204,7 @@ static void read_answer(bytes message)
 static void write_answer(bytes id, const char *code, const char *value)
 {
     uint64_t report[GMV_REPORT_WORDS] = {0};
-    bytes buffer = room(93); /* the longest answer */
+    bytes buffer = zeroed(93); /* the longest answer */
 
     say_written(gmv_answer_write(id.at, id.length, number_in(code), number_in(value), buffer.at, buffer.length,
                                  0, report, GMV_REPORT_WORDS),
@@ -215,7 +215,7 @@ static void write_answer(bytes id, const char *code, const char *value)
 static void write_control(const char *type, const char *value)
 {
     uint64_t report[GMV_REPORT_WORDS] = {0};
-    bytes buffer = room(33); /* the longest control message */
+    bytes buffer = zeroed(33); /* the longest control message */
 
     say_written(gmv_control_write((const uint8_t *)type, strlen(type), number_in(value), buffer.at,
                                   buffer.length, 0, report, GMV_REPORT_WORDS),

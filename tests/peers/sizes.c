@@ -6,14 +6,14 @@
 
 #include "giamuvich.h"
 
-enum { SB = 0x0B, EB = 0x1C, D = 128, ROOM = 400, WORDS = 16 };
+enum { SB = 0x0B, EB = 0x1C, D = 128, CAPACITY = 400, WORDS = 16 };
 
 static const uint8_t message[] = "MSH|^~\\&|||||||ADT|1|P|2.3.1|1\r";
 static const uint8_t answer[] = "MSH|^~\\&|||||||ACK|1|P|2.3.1\rMSA|AA|1||1\r";
 static const uint8_t block[] = "\x0B" "A\r" "\x1C\r";
 static const uint8_t id[20] = "12345678901234567890";
 static const uint8_t type[3] = {'A', 'D', 'T'};
-static uint8_t data[D], buffer[ROOM];
+static uint8_t data[D], buffer[CAPACITY];
 static uint64_t state[WORDS], words[WORDS];
 
 /* Fresh words for each try. */
@@ -46,7 +46,7 @@ static uint64_t *no_number(void)
     do {                                                                                               \
         size_t n = 0;                                                                                  \
         uint64_t number = GMV_TOO_SHORT;                                                               \
-        for (; n < ROOM && (number = (call)) == GMV_TOO_SHORT; n++)                                    \
+        for (; n < CAPACITY && (number = (call)) == GMV_TOO_SHORT; n++)                                    \
             ;                                                                                          \
         if (number != GMV_OK)                                                                          \
             printf("%s: refused by %d\n", name, (int)number);                                          \
@@ -63,7 +63,7 @@ static void blocks(void)
     LEAST("verdict", gmv_minimal_check(D, block, sizeof block - 1, words, n));
     LEAST("hybrid-block", gmv_hybrid_write(SB, EB, D, GMV_DATA_BLOCK, data, D, buffer, n, 0, words, GMV_REPORT_WORDS));
     LEAST("minimal-block", gmv_minimal_write(D, data, D, buffer, n, 0, words, GMV_REPORT_WORDS));
-    LEAST("writer-report", gmv_minimal_write(D, data, D, buffer, ROOM, 0, words, n));
+    LEAST("writer-report", gmv_minimal_write(D, data, D, buffer, CAPACITY, 0, words, n));
 }
 
 static void messages(void)
@@ -88,7 +88,7 @@ static void ends(void)
     LEAST("receiver-state", gmv_receiver_fresh(state, n));
     LEAST("receiver-report",
           gmv_minimal_receive(D, GMV_CODE_AA, no_number(), GMV_RECEIVER_WORDS, GMV_OK, GMV_DATA_BLOCK, message,
-                              sizeof message - 1, buffer, ROOM, 0, words, n));
+                              sizeof message - 1, buffer, CAPACITY, 0, words, n));
     LEAST("hybrid-reply", gmv_hybrid_receive(SB, EB, D, GMV_CODE_AA, no_number(), GMV_RECEIVER_WORDS, GMV_OK,
                                              GMV_DATA_BLOCK, message, sizeof message - 1, buffer, n, 0, words,
                                              GMV_RECEIVED_WORDS));
