@@ -50,9 +50,9 @@ def written_here_read_there(counting, library):
         stream = library.block(largest) + library.block(b"B")
         case.equal(len(stream), 99994 + 3 + 4, "bytes on the line")
         case.equal(pythonhl7.readblock([stream]), ["ValueError", b"B"], "limit as it comes, in one part")
-        cut = [stream[at : at + 700] for at in range(0, len(stream), 700)]
-        case.equal(pythonhl7.readblock(cut), ["ValueError", "InvalidBlockError", b"B"], "the same in small parts")
-        for parts in ([stream], cut):
+        pieces = [stream[at : at + 700] for at in range(0, len(stream), 700)]
+        case.equal(pythonhl7.readblock(pieces), ["ValueError", "InvalidBlockError", b"B"], "the same in small parts")
+        for parts in ([stream], pieces):
             case.equal(pythonhl7.readblock(parts, limit=2**17), [largest, b"B"], "limit of 128 KiB")
 
 
@@ -146,7 +146,7 @@ BLOCK = len(A) + 3
 LONG_TEXT = A + b"x" * 70000
 HYBRID = b"D23\rA\r00007015"
 
-# name: the stream; our verdicts (offset, number, place, data), by hand from document 01, with D of 4,096; and
+# name: the stream; our verdicts (offset, number, forbidden, data), by hand from document 01, with D of 4,096; and
 # what was seen of python3-hl7's three readers.
 BAD = {
     "two good blocks": {

@@ -42,10 +42,10 @@ class Library:
         self.ask("reader", limit)
 
     def read_part(self, part):
-        """The verdicts (offset, number, place, data) that a part of the stream brings."""
+        """The verdicts (offset, number, forbidden, data) that a part of the stream brings."""
         return [
-            (int(offset), int(number), int(place), undigits(data))
-            for offset, number, place, data in self.ask("part", digits(part))
+            (int(offset), int(number), int(forbidden), undigits(data))
+            for offset, number, forbidden, data in self.ask("part", digits(part))
         ]
 
     def read(self, limit, parts):
@@ -53,8 +53,8 @@ class Library:
         return [verdict for part in parts for verdict in self.read_part(part)]
 
     def _number_place_bytes(self, *words):
-        [[number, place, data]] = self.ask(*words)
-        return int(number), int(place), undigits(data)
+        [[number, forbidden, data]] = self.ask(*words)
+        return int(number), int(forbidden), undigits(data)
 
     def check(self, limit, block):
         return self._number_place_bytes("check", limit, digits(block))
