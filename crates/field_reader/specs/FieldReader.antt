@@ -37,5 +37,5 @@ afterOf at NoField = at
 afterOf at (Found f d after) = after
 
 -- "gives the next field each time": the reader, with the message that it holds, behind the field that it gave
-abbrev pub wentOn : FieldReader → FieldReader
-wentOn r = record { message = r .message; position = afterOf (r .position) (nextOf (now (r .message)) (r .position)) }
+abbrev pub advanced : FieldReader → FieldReader
+advanced r = record { message = r .message; position = afterOf (r .position) (nextOf (now (r .message)) (r .position)) }

@@ -4,7 +4,7 @@
 use fields::Field;
 use fields::find_field;
 ghost use mathlib.Core.Path.{_≡_};
-ghost use Rattle.field_reader.specs.FieldReader.{nextOf, afterOf, wentOn};
+ghost use Rattle.field_reader.specs.FieldReader.{nextOf, afterOf, advanced};
 
 // The field separator.
 const BAR: u8 = 124;
@@ -72,7 +72,7 @@ pub fn peek<'a>(reader: FieldReader<'a>) -> NextField
 
 // The next field, each time: the reader goes on behind it.
 pub fn next<'s, 'a>(reader: &'s mut FieldReader<'a>) -> NextField
-    ensures { λ r. ⌜ (r ≡ nextOf (now (now (reader .entry) .message)) (now (reader .entry) .position)) × (now (reader .exit) ≡ wentOn (now (reader .entry))) ⌝ }
+    ensures { λ r. ⌜ (r ≡ nextOf (now (now (reader .entry) .message)) (now (reader .entry) .position)) × (now (reader .exit) ≡ advanced (now (reader .entry))) ⌝ }
 {
     let position = reader.position;
     let found = field_at(reader.message, position);

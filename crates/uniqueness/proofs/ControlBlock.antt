@@ -1,6 +1,7 @@
 -- The public functions of the crate control_block.
-use mathlib.Core.Path.{refl, sym, _∙_}
+use mathlib.Core.Path.{refl}
 use Rattle.uniqueness.specs.Unique.{Unique}
+use Rattle.uniqueness.proofs.Once.{once}
 use Rattle.control_block.proofs.write_control_block as write-control-block-contract
 use Rattle.control_block.proofs.write_control_block.Reads as write-control-block-reads
 
@@ -8,5 +9,5 @@ pub write-control-block : Unique write-control-block-contract.ended (λ M. write
 write-control-block = record {
   told = write-control-block-reads.Learnt;
   says = λ M 𝓤 H A mem run. refl;
-  one = λ κs a z z′ ws ws′ h h′. (λ i. (h ∙ sym h′) i .answer, λ i. (tt, (tt, (tt, ((h ∙ sym h′) i .buffer, (tt, tt))))));
+  one = λ κs a z z′ ws ws′ h h′. once h h′ (λ y. y .answer) (λ y. (tt, (tt, (tt, (y .buffer, (tt, tt))))));
 }

@@ -1,7 +1,7 @@
 -- The public functions of the crate field_reader. Those over the struct are proved by hand and have no reading of their contract: what it says is written out here again.
 use mathlib.Core.Path.{_≡_, refl, sym, _∙_}
 use denote.Ref.{now}
-use Rattle.field_reader.specs.FieldReader.{nextOf, wentOn}
+use Rattle.field_reader.specs.FieldReader.{nextOf, advanced}
 use Rattle.uniqueness.specs.Unique.{Unique}
 use Rattle.field_reader.proofs.read_from as read-from-contract
 use Rattle.field_reader.proofs.peek as peek-contract
@@ -24,7 +24,7 @@ peek = record {
 
 pub next : Unique next-contract.ended (λ M. next-contract.clauses {M = M})
 next = record {
-  told = λ κs a z e. (z ≡ nextOf (now (a .0 .now .message)) (a .0 .now .position)) × (e .0 .now ≡ wentOn (a .0 .now));
+  told = λ κs a z e. (z ≡ nextOf (now (a .0 .now .message)) (a .0 .now .position)) × (e .0 .now ≡ advanced (a .0 .now));
   says = λ M 𝓤 H A mem run. refl;
   one = λ κs a z z′ ws ws′ h h′. (h .0 ∙ sym (h′ .0), λ i. ((h .1 ∙ sym (h′ .1)) i, tt));
 }

@@ -15,6 +15,7 @@ pub mod MessageCalls
 pub mod MessageInterface
 pub mod Messages
 pub mod Numbers
+pub mod Once
 pub mod ReadCalls
 pub mod ReaderBuffer
 pub mod Receiver

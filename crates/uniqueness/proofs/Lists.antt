@@ -4,6 +4,7 @@ use mathlib.Core.List.{List}
 use Prim.Native.Nat.{ℕ}
 use denote.Ref.{now}
 use Rattle.uniqueness.specs.Unique.{Unique, UniqueContent}
+use Rattle.uniqueness.proofs.Once.{once}
 use Rattle.lists.proofs.copy_bytes as copy-bytes-contract
 use Rattle.lists.proofs.copy_bytes.Reads as copy-bytes-reads
 use Rattle.lists.proofs.part_of as part-of-contract
@@ -13,7 +14,7 @@ pub copy-bytes : Unique copy-bytes-contract.ended (λ M. copy-bytes-contract.cla
 copy-bytes = record {
   told = copy-bytes-reads.Learnt;
   says = λ M 𝓤 H A mem run. refl;
-  one = λ κs a z z′ ws ws′ h h′. (refl, λ i. ((h ∙ sym h′) i, (tt, tt)));
+  one = λ κs a z z′ ws ws′ h h′. once h h′ (λ y. tt) (λ y. (y, (tt, tt)));
 }
 
 pub part-of : UniqueContent part-of-contract.ended (λ M. part-of-contract.clauses {M = M}) (List ℕ) (λ κs z. now z)

@@ -1,6 +1,7 @@
 -- The public functions of the crate message_calls.
 use mathlib.Core.Path.{refl, sym, _∙_}
 use Rattle.uniqueness.specs.Unique.{Unique}
+use Rattle.uniqueness.proofs.Once.{once}
 use Rattle.message_calls.proofs.read_header_words as read-header-words-contract
 use Rattle.message_calls.proofs.read_header_words.Reads as read-header-words-reads
 use Rattle.message_calls.proofs.read_answer_words as read-answer-words-contract
@@ -16,14 +17,14 @@ pub read-header-words : Unique read-header-words-contract.ended (λ M. read-head
 read-header-words = record {
   told = read-header-words-reads.Learnt;
   says = λ M 𝓤 H A mem run. refl;
-  one = λ κs a z z′ ws ws′ h h′. (λ i. (h ∙ sym h′) i .number, λ i. (tt, ((h ∙ sym h′) i .words, tt)));
+  one = λ κs a z z′ ws ws′ h h′. once h h′ (λ y. y .number) (λ y. (tt, (y .words, tt)));
 }
 
 pub read-answer-words : Unique read-answer-words-contract.ended (λ M. read-answer-words-contract.clauses {M = M})
 read-answer-words = record {
   told = read-answer-words-reads.Learnt;
   says = λ M 𝓤 H A mem run. refl;
-  one = λ κs a z z′ ws ws′ h h′. (λ i. (h ∙ sym h′) i .number, λ i. (tt, ((h ∙ sym h′) i .words, tt)));
+  one = λ κs a z z′ ws ws′ h h′. once h h′ (λ y. y .number) (λ y. (tt, (y .words, tt)));
 }
 
 pub control-of : Unique control-of-contract.ended (λ M. control-of-contract.clauses {M = M})
@@ -37,12 +38,12 @@ pub write-answer-words : Unique write-answer-words-contract.ended (λ M. write-a
 write-answer-words = record {
   told = write-answer-words-reads.Learnt;
   says = λ M 𝓤 H A mem run. refl;
-  one = λ κs a z z′ ws ws′ h h′. (λ i. (h ∙ sym h′) i .number, λ i. (tt, (tt, (tt, ((h ∙ sym h′) i .buffer, (tt, ((h ∙ sym h′) i .report, tt)))))));
+  one = λ κs a z z′ ws ws′ h h′. once h h′ (λ y. y .number) (λ y. (tt, (tt, (tt, (y .buffer, (tt, (y .report, tt)))))));
 }
 
 pub write-control-words : Unique write-control-words-contract.ended (λ M. write-control-words-contract.clauses {M = M})
 write-control-words = record {
   told = write-control-words-reads.Learnt;
   says = λ M 𝓤 H A mem run. refl;
-  one = λ κs a z z′ ws ws′ h h′. (λ i. (h ∙ sym h′) i .number, λ i. (tt, (tt, ((h ∙ sym h′) i .buffer, (tt, ((h ∙ sym h′) i .report, tt))))));
+  one = λ κs a z z′ ws ws′ h h′. once h h′ (λ y. y .number) (λ y. (tt, (tt, (y .buffer, (tt, (y .report, tt))))));
 }

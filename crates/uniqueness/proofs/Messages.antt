@@ -1,6 +1,7 @@
 -- The public functions of the crate messages.
 use mathlib.Core.Path.{refl, sym, _∙_}
 use Rattle.uniqueness.specs.Unique.{Unique}
+use Rattle.uniqueness.proofs.Once.{once}
 use Rattle.messages.proofs.write_answer as write-answer-contract
 use Rattle.messages.proofs.write_answer.Reads as write-answer-reads
 use Rattle.messages.proofs.is_type as is-type-contract
@@ -16,7 +17,7 @@ pub write-answer : Unique write-answer-contract.ended (λ M. write-answer-contra
 write-answer = record {
   told = write-answer-reads.Learnt;
   says = λ M 𝓤 H A mem run. refl;
-  one = λ κs a z z′ ws ws′ h h′. (λ i. (h ∙ sym h′) i .answer, λ i. (tt, (tt, (tt, ((h ∙ sym h′) i .buffer, (tt, tt))))));
+  one = λ κs a z z′ ws ws′ h h′. once h h′ (λ y. y .answer) (λ y. (tt, (tt, (tt, (y .buffer, (tt, tt))))));
 }
 
 pub is-type : Unique is-type-contract.ended (λ M. is-type-contract.clauses {M = M})
@@ -30,7 +31,7 @@ pub write-control : Unique write-control-contract.ended (λ M. write-control-con
 write-control = record {
   told = write-control-reads.Learnt;
   says = λ M 𝓤 H A mem run. refl;
-  one = λ κs a z z′ ws ws′ h h′. (λ i. (h ∙ sym h′) i .answer, λ i. (tt, (tt, ((h ∙ sym h′) i .buffer, (tt, tt)))));
+  one = λ κs a z z′ ws ws′ h h′. once h h′ (λ y. y .answer) (λ y. (tt, (tt, (y .buffer, (tt, tt)))));
 }
 
 pub MessageType-from-letters : Unique MessageType-from-letters-contract.ended (λ M. MessageType-from-letters-contract.clauses {M = M})

@@ -1,6 +1,7 @@
 -- The public functions of the crate numbers.
 use mathlib.Core.Path.{refl, sym, _∙_}
 use Rattle.uniqueness.specs.Unique.{Unique}
+use Rattle.uniqueness.proofs.Once.{once}
 use Rattle.numbers.proofs.is_text as is-text-contract
 use Rattle.numbers.proofs.is_text.Reads as is-text-reads
 use Rattle.numbers.proofs.read_number as read-number-contract
@@ -35,5 +36,5 @@ pub write-number : Unique write-number-contract.ended (λ M. write-number-contra
 write-number = record {
   told = write-number-reads.Learnt;
   says = λ M 𝓤 H A mem run. refl;
-  one = λ κs a z z′ ws ws′ h h′. (refl, λ i. ((h ∙ sym h′) i, (tt, (tt, tt))));
+  one = λ κs a z z′ ws ws′ h h′. once h h′ (λ y. tt) (λ y. (y, (tt, (tt, tt))));
 }

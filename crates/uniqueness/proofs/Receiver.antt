@@ -1,6 +1,7 @@
 -- The public functions of the crate receiver.
-use mathlib.Core.Path.{refl, sym, _∙_}
+use mathlib.Core.Path.{refl}
 use Rattle.uniqueness.specs.Unique.{Unique}
+use Rattle.uniqueness.proofs.Once.{once}
 use Rattle.receiver.proofs.receive as receive-contract
 use Rattle.receiver.proofs.receive.Reads as receive-reads
 
@@ -8,5 +9,5 @@ pub receive : Unique receive-contract.ended (λ M. receive-contract.clauses {M =
 receive = record {
   told = receive-reads.Learnt;
   says = λ M 𝓤 H A mem run. refl;
-  one = λ κs a z z′ ws ws′ h h′. (λ i. (h ∙ sym h′) i .answer, λ i. (tt, (tt, (tt, (tt, (tt, ((h ∙ sym h′) i .buffer, (tt, tt))))))));
+  one = λ κs a z z′ ws ws′ h h′. once h h′ (λ y. y .answer) (λ y. (tt, (tt, (tt, (tt, (tt, (y .buffer, (tt, tt))))))));
 }

@@ -1,6 +1,7 @@
 -- The public functions of the crate receiver_calls.
-use mathlib.Core.Path.{refl, sym, _∙_}
+use mathlib.Core.Path.{refl}
 use Rattle.uniqueness.specs.Unique.{Unique}
+use Rattle.uniqueness.proofs.Once.{once}
 use Rattle.receiver_calls.proofs.fresh_receiver_words as fresh-receiver-words-contract
 use Rattle.receiver_calls.proofs.fresh_receiver_words.Reads as fresh-receiver-words-reads
 use Rattle.receiver_calls.proofs.received_words as received-words-contract
@@ -10,12 +11,12 @@ pub fresh-receiver-words : Unique fresh-receiver-words-contract.ended (λ M. fre
 fresh-receiver-words = record {
   told = fresh-receiver-words-reads.Learnt;
   says = λ M 𝓤 H A mem run. refl;
-  one = λ κs a z z′ ws ws′ h h′. (λ i. (h ∙ sym h′) i .number, λ i. ((h ∙ sym h′) i .state, tt));
+  one = λ κs a z z′ ws ws′ h h′. once h h′ (λ y. y .number) (λ y. (y .state, tt));
 }
 
 pub received-words : Unique received-words-contract.ended (λ M. received-words-contract.clauses {M = M})
 received-words = record {
   told = received-words-reads.Learnt;
   says = λ M 𝓤 H A mem run. refl;
-  one = λ κs a z z′ ws ws′ h h′. (λ i. (h ∙ sym h′) i .number, λ i. (tt, (tt, ((h ∙ sym h′) i .state, (tt, (tt, (tt, ((h ∙ sym h′) i .buffer, (tt, ((h ∙ sym h′) i .report, tt))))))))));
+  one = λ κs a z z′ ws ws′ h h′. once h h′ (λ y. y .number) (λ y. (tt, (tt, (y .state, (tt, (tt, (tt, (y .buffer, (tt, (y .report, tt))))))))));
 }

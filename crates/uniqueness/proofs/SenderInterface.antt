@@ -1,6 +1,7 @@
 -- The public functions of the crate sender_interface.
-use mathlib.Core.Path.{refl, sym, _∙_}
+use mathlib.Core.Path.{refl}
 use Rattle.uniqueness.specs.Unique.{Unique}
+use Rattle.uniqueness.proofs.Once.{once}
 use Rattle.sender_interface.proofs.gmv_sender_fresh as gmv-sender-fresh-contract
 use Rattle.sender_interface.proofs.gmv_sender_fresh.Reads as gmv-sender-fresh-reads
 use Rattle.sender_interface.proofs.gmv_sender_submit as gmv-sender-submit-contract
@@ -20,47 +21,47 @@ pub gmv-sender-fresh : Unique gmv-sender-fresh-contract.ended (λ M. gmv-sender-
 gmv-sender-fresh = record {
   told = gmv-sender-fresh-reads.Learnt;
   says = λ M 𝓤 H A mem run. refl;
-  one = λ κs a z z′ ws ws′ h h′. (λ i. (h ∙ sym h′) i .number, λ i. (tt, ((h ∙ sym h′) i .state, tt)));
+  one = λ κs a z z′ ws ws′ h h′. once h h′ (λ y. y .number) (λ y. (tt, (y .state, tt)));
 }
 
 pub gmv-sender-submit : Unique gmv-sender-submit-contract.ended (λ M. gmv-sender-submit-contract.clauses {M = M})
 gmv-sender-submit = record {
   told = gmv-sender-submit-reads.Learnt;
   says = λ M 𝓤 H A mem run. refl;
-  one = λ κs a z z′ ws ws′ h h′. (λ i. (h ∙ sym h′) i .number, λ i. (tt, (tt, ((h ∙ sym h′) i .state, ((h ∙ sym h′) i .report, tt)))));
+  one = λ κs a z z′ ws ws′ h h′. once h h′ (λ y. y .number) (λ y. (tt, (tt, (y .state, (y .report, tt)))));
 }
 
 pub gmv-sender-open : Unique gmv-sender-open-contract.ended (λ M. gmv-sender-open-contract.clauses {M = M})
 gmv-sender-open = record {
   told = gmv-sender-open-reads.Learnt;
   says = λ M 𝓤 H A mem run. refl;
-  one = λ κs a z z′ ws ws′ h h′. (λ i. (h ∙ sym h′) i .number, λ i. ((h ∙ sym h′) i .state, ((h ∙ sym h′) i .report, tt)));
+  one = λ κs a z z′ ws ws′ h h′. once h h′ (λ y. y .number) (λ y. (y .state, (y .report, tt)));
 }
 
 pub gmv-sender-ended : Unique gmv-sender-ended-contract.ended (λ M. gmv-sender-ended-contract.clauses {M = M})
 gmv-sender-ended = record {
   told = gmv-sender-ended-reads.Learnt;
   says = λ M 𝓤 H A mem run. refl;
-  one = λ κs a z z′ ws ws′ h h′. (λ i. (h ∙ sym h′) i .number, λ i. ((h ∙ sym h′) i .state, ((h ∙ sym h′) i .report, tt)));
+  one = λ κs a z z′ ws ws′ h h′. once h h′ (λ y. y .number) (λ y. (y .state, (y .report, tt)));
 }
 
 pub gmv-sender-reset : Unique gmv-sender-reset-contract.ended (λ M. gmv-sender-reset-contract.clauses {M = M})
 gmv-sender-reset = record {
   told = gmv-sender-reset-reads.Learnt;
   says = λ M 𝓤 H A mem run. refl;
-  one = λ κs a z z′ ws ws′ h h′. (λ i. (h ∙ sym h′) i .number, λ i. ((h ∙ sym h′) i .state, ((h ∙ sym h′) i .report, tt)));
+  one = λ κs a z z′ ws ws′ h h′. once h h′ (λ y. y .number) (λ y. (y .state, (y .report, tt)));
 }
 
 pub gmv-sender-timer : Unique gmv-sender-timer-contract.ended (λ M. gmv-sender-timer-contract.clauses {M = M})
 gmv-sender-timer = record {
   told = gmv-sender-timer-reads.Learnt;
   says = λ M 𝓤 H A mem run. refl;
-  one = λ κs a z z′ ws ws′ h h′. (λ i. (h ∙ sym h′) i .number, λ i. (tt, ((h ∙ sym h′) i .state, ((h ∙ sym h′) i .report, tt))));
+  one = λ κs a z z′ ws ws′ h h′. once h h′ (λ y. y .number) (λ y. (tt, (y .state, (y .report, tt))));
 }
 
 pub gmv-sender-block : Unique gmv-sender-block-contract.ended (λ M. gmv-sender-block-contract.clauses {M = M})
 gmv-sender-block = record {
   told = gmv-sender-block-reads.Learnt;
   says = λ M 𝓤 H A mem run. refl;
-  one = λ κs a z z′ ws ws′ h h′. (λ i. (h ∙ sym h′) i .number, λ i. (tt, (tt, (tt, (tt, ((h ∙ sym h′) i .state, ((h ∙ sym h′) i .report, tt)))))));
+  one = λ κs a z z′ ws ws′ h h′. once h h′ (λ y. y .number) (λ y. (tt, (tt, (tt, (tt, (y .state, (y .report, tt)))))));
 }

@@ -1,6 +1,7 @@
 -- The public functions of the crate station.
 use mathlib.Core.Path.{refl, sym, _∙_}
 use Rattle.uniqueness.specs.Unique.{Unique}
+use Rattle.uniqueness.proofs.Once.{once}
 use Rattle.station.proofs.good_block as good-block-contract
 use Rattle.station.proofs.good_block.Reads as good-block-reads
 use Rattle.station.proofs.bad_block as bad-block-contract
@@ -16,7 +17,7 @@ pub good-block : Unique good-block-contract.ended (λ M. good-block-contract.cla
 good-block = record {
   told = good-block-reads.Learnt;
   says = λ M 𝓤 H A mem run. refl;
-  one = λ κs a z z′ ws ws′ h h′. (λ i. (h ∙ sym h′) i .answer, λ i. (tt, (tt, (tt, (tt, ((h ∙ sym h′) i .buffer, tt))))));
+  one = λ κs a z z′ ws ws′ h h′. once h h′ (λ y. y .answer) (λ y. (tt, (tt, (tt, (tt, (y .buffer, tt))))));
 }
 
 pub bad-block : Unique bad-block-contract.ended (λ M. bad-block-contract.clauses {M = M})

@@ -1,6 +1,7 @@
 -- The public functions of the crate station_calls.
-use mathlib.Core.Path.{refl, sym, _∙_}
+use mathlib.Core.Path.{refl}
 use Rattle.uniqueness.specs.Unique.{Unique}
+use Rattle.uniqueness.proofs.Once.{once}
 use Rattle.station_calls.proofs.fresh_station_words as fresh-station-words-contract
 use Rattle.station_calls.proofs.fresh_station_words.Reads as fresh-station-words-reads
 use Rattle.station_calls.proofs.opened_words as opened-words-contract
@@ -18,40 +19,40 @@ pub fresh-station-words : Unique fresh-station-words-contract.ended (λ M. fresh
 fresh-station-words = record {
   told = fresh-station-words-reads.Learnt;
   says = λ M 𝓤 H A mem run. refl;
-  one = λ κs a z z′ ws ws′ h h′. (λ i. (h ∙ sym h′) i .number, λ i. ((h ∙ sym h′) i .state, tt));
+  one = λ κs a z z′ ws ws′ h h′. once h h′ (λ y. y .number) (λ y. (y .state, tt));
 }
 
 pub opened-words : Unique opened-words-contract.ended (λ M. opened-words-contract.clauses {M = M})
 opened-words = record {
   told = opened-words-reads.Learnt;
   says = λ M 𝓤 H A mem run. refl;
-  one = λ κs a z z′ ws ws′ h h′. (λ i. (h ∙ sym h′) i .number, λ i. ((h ∙ sym h′) i .state, ((h ∙ sym h′) i .report, tt)));
+  one = λ κs a z z′ ws ws′ h h′. once h h′ (λ y. y .number) (λ y. (y .state, (y .report, tt)));
 }
 
 pub bad-words : Unique bad-words-contract.ended (λ M. bad-words-contract.clauses {M = M})
 bad-words = record {
   told = bad-words-reads.Learnt;
   says = λ M 𝓤 H A mem run. refl;
-  one = λ κs a z z′ ws ws′ h h′. (λ i. (h ∙ sym h′) i .number, λ i. ((h ∙ sym h′) i .state, ((h ∙ sym h′) i .report, tt)));
+  one = λ κs a z z′ ws ws′ h h′. once h h′ (λ y. y .number) (λ y. (y .state, (y .report, tt)));
 }
 
 pub enquiry-words : Unique enquiry-words-contract.ended (λ M. enquiry-words-contract.clauses {M = M})
 enquiry-words = record {
   told = enquiry-words-reads.Learnt;
   says = λ M 𝓤 H A mem run. refl;
-  one = λ κs a z z′ ws ws′ h h′. (λ i. (h ∙ sym h′) i .number, λ i. ((h ∙ sym h′) i .state, ((h ∙ sym h′) i .report, tt)));
+  one = λ κs a z z′ ws ws′ h h′. once h h′ (λ y. y .number) (λ y. (y .state, (y .report, tt)));
 }
 
 pub end-words : Unique end-words-contract.ended (λ M. end-words-contract.clauses {M = M})
 end-words = record {
   told = end-words-reads.Learnt;
   says = λ M 𝓤 H A mem run. refl;
-  one = λ κs a z z′ ws ws′ h h′. (λ i. (h ∙ sym h′) i .number, λ i. ((h ∙ sym h′) i .state, ((h ∙ sym h′) i .report, tt)));
+  one = λ κs a z z′ ws ws′ h h′. once h h′ (λ y. y .number) (λ y. (y .state, (y .report, tt)));
 }
 
 pub block-words : Unique block-words-contract.ended (λ M. block-words-contract.clauses {M = M})
 block-words = record {
   told = block-words-reads.Learnt;
   says = λ M 𝓤 H A mem run. refl;
-  one = λ κs a z z′ ws ws′ h h′. (λ i. (h ∙ sym h′) i .number, λ i. (tt, (tt, (tt, ((h ∙ sym h′) i .buffer, ((h ∙ sym h′) i .state, ((h ∙ sym h′) i .report, tt)))))));
+  one = λ κs a z z′ ws ws′ h h′. once h h′ (λ y. y .number) (λ y. (tt, (tt, (tt, (y .buffer, (y .state, (y .report, tt)))))));
 }

@@ -1,6 +1,7 @@
 -- The public functions of the crate stream.
 use mathlib.Core.Path.{refl, sym, _∙_}
 use Rattle.uniqueness.specs.Unique.{Unique}
+use Rattle.uniqueness.proofs.Once.{once}
 use Rattle.stream.proofs.Reader.new as Reader-new-contract
 use Rattle.stream.proofs.Reader.new.Reads as Reader-new-reads
 use Rattle.stream.proofs.read as read-contract
@@ -17,5 +18,5 @@ pub read : Unique read-contract.ended (λ M. read-contract.clauses {M = M})
 read = record {
   told = read-reads.Learnt;
   says = λ M 𝓤 H A mem run. refl;
-  one = λ κs a z z′ ws ws′ h h′. (λ i. (h ∙ sym h′) i .reading, λ i. (tt, (tt, (tt, ((h ∙ sym h′) i .buffer, tt)))));
+  one = λ κs a z z′ ws ws′ h h′. once h h′ (λ y. y .reading) (λ y. (tt, (tt, (tt, (y .buffer, tt)))));
 }

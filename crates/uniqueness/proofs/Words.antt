@@ -1,6 +1,7 @@
 -- The public functions of the crate words.
 use mathlib.Core.Path.{refl, sym, _∙_}
 use Rattle.uniqueness.specs.Unique.{Unique}
+use Rattle.uniqueness.proofs.Once.{once}
 use Rattle.words.proofs.write_reader as write-reader-contract
 use Rattle.words.proofs.write_reader.Reads as write-reader-reads
 use Rattle.words.proofs.read_reader as read-reader-contract
@@ -20,7 +21,7 @@ pub write-reader : Unique write-reader-contract.ended (λ M. write-reader-contra
 write-reader = record {
   told = write-reader-reads.Learnt;
   says = λ M 𝓤 H A mem run. refl;
-  one = λ κs a z z′ ws ws′ h h′. (refl, λ i. ((h ∙ sym h′) i, (tt, tt)));
+  one = λ κs a z z′ ws ws′ h h′. once h h′ (λ y. tt) (λ y. (y, (tt, tt)));
 }
 
 pub read-reader : Unique read-reader-contract.ended (λ M. read-reader-contract.clauses {M = M})
@@ -34,21 +35,21 @@ pub write-verdict : Unique write-verdict-contract.ended (λ M. write-verdict-con
 write-verdict = record {
   told = write-verdict-reads.Learnt;
   says = λ M 𝓤 H A mem run. refl;
-  one = λ κs a z z′ ws ws′ h h′. (refl, λ i. ((h ∙ sym h′) i, (tt, (tt, (tt, (tt, tt))))));
+  one = λ κs a z z′ ws ws′ h h′. once h h′ (λ y. tt) (λ y. (y, (tt, (tt, (tt, (tt, tt))))));
 }
 
 pub write-pending : Unique write-pending-contract.ended (λ M. write-pending-contract.clauses {M = M})
 write-pending = record {
   told = write-pending-reads.Learnt;
   says = λ M 𝓤 H A mem run. refl;
-  one = λ κs a z z′ ws ws′ h h′. (refl, λ i. ((h ∙ sym h′) i, (tt, tt)));
+  one = λ κs a z z′ ws ws′ h h′. once h h′ (λ y. tt) (λ y. (y, (tt, tt)));
 }
 
 pub write-report : Unique write-report-contract.ended (λ M. write-report-contract.clauses {M = M})
 write-report = record {
   told = write-report-reads.Learnt;
   says = λ M 𝓤 H A mem run. refl;
-  one = λ κs a z z′ ws ws′ h h′. (refl, λ i. ((h ∙ sym h′) i, (tt, (tt, tt))));
+  one = λ κs a z z′ ws ws′ h h′. once h h′ (λ y. tt) (λ y. (y, (tt, (tt, tt))));
 }
 
 pub type-byte : Unique type-byte-contract.ended (λ M. type-byte-contract.clauses {M = M})
