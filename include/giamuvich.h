@@ -2,12 +2,13 @@
  * with sequence numbers, and the X3.28 receiving station, for a C line driver.
  *
  * The parts, each built on those before it but for the last, which stands by itself:
- *   - Blocks. Hybrid blocks (HL7 implementation guide, appendix C.2.2) and minimal blocks (C.4.2)
- *     are read from a line in parts of any length, checked whole, and written.
+ *   - Blocks. Hybrid blocks (HL7 implementation guide, appendix C.2.2) and minimal blocks (C.4.2,
+ *     the framing that is known as MLLP, release 1) are read from a line in parts of any length,
+ *     checked whole, and written.
  *   - Messages. Of the messages in the blocks the header fields are read that sequence numbers need,
  *     a message is read field by field, and answers and control messages are written.
  *   - The receiver of sequence numbers. It says what to persist of each block, and writes the reply
- *     block.
+ *     block. It has messages stored that carry a sequence number (MSH-13), and rejects the others.
  *   - The sender of sequence numbers. It says what to send now, counts the sends, and says which
  *     transactions are delivered. The messages stay in the host's log.
  *   - The X3.28 receiving station (appendix C.3.1.5 and C.3.3.2). It says what to reply to each
@@ -23,28 +24,45 @@
  *   - each pointer has memory of the length that is passed with it (a length of 0 may come with
  *     any pointer, also a null pointer),
  *   - memory that a function may change overlaps nothing else that is passed in the same call,
- *     (C itself asks that a pointer to words is aligned for them, and that no other thread changes the
- *     memory meanwhile)
+ *   - a pointer to words is aligned for uint64_t, and no other thread changes the memory during the
+ *     call (C itself asks for both),
+ *   - input is initialised. A state is input: its words are what an earlier call left in them.
+ *     Memory that a function only writes need not be initialised: a verdict, a report, fields, the
+ *     buffer of a writer, a reply, a station or a fresh reader, and the state at a .._fresh function
+ *     and at gmv_station_open. No answer depends on what it held, and what is not written stays as
+ *     it was,
  *   - for the receiver, the sender and the station, the duties in their sections.
  *
  * Settings are plain numbers and are checked in every call that takes them:
- *   start_block, end_block  the bytes SB and EB of a hybrid link. They differ, each is at most
- *                           255, and neither is CR (0D) or lies in 20 to 7E. Minimal links have
- *                           0B and 1C, fixed.
+ *   start_block, end_block  the bytes SB and EB of a hybrid link; 0B and 1C where nothing else is
+ *                           agreed (GMV_START_BLOCK_DEFAULT, GMV_END_BLOCK_DEFAULT). They differ,
+ *                           each is at most 255, and neither is CR (0D) or lies in 20 to 7E. Minimal
+ *                           links have 0B and 1C, fixed.
  *   data_limit              the most data bytes that a block may have, 1 to 99994; for a receiver or
  *                           a sender 128 to 99994. Both ends of a link have the same.
  *   resends                 how often a sender sends a message again, 0 to 99; GMV_RESENDS_DEFAULT
  *                           where nothing else is agreed.
  *
  * Every function returns a number of the table below; 0 says that the call was done. A check returns
- * the number of the block that it was given. A read returns 0 also where the block that it found is
- * refused: that block's number is verdict[GMV_VERDICT_NUMBER]. So do a receiver and a sender that
- * are told of a refused block, or find data without a header (9): its number is in their report.
+ * the number of the block that it was given, 0 or 3 to 8. A read returns 0 also where the block that
+ * it found is refused: that block's number is verdict[GMV_VERDICT_NUMBER]. So do a receiver and a
+ * sender that are told of a refused block, or find data without a header (9): its number is in their
+ * report.
+ *
+ * 1 and 2 say that the driver called wrongly, and 11 that words encode no state, so that a stored
+ * word is bad: stop the link. But a sender also answers 11 to an act that does not apply now, and
+ * that is ordinary: to a submission while it is frozen, and to a timer or a block while no circuit is
+ * open, so to the next block after it gave up or froze.
+ *
+ * A call that is refused by 1 or 2 changes nothing: a verdict, a report or fields still hold what an
+ * earlier call left there. So it is with the 11 of a reader, a receiver and a station, and with the 9
+ * of a function that reads a message. Every other refusal writes the verdict or the report anew: a
+ * check's 3 to 8, a writer's 3, 4, 5, 9 and 10, and a sender's 11, 4, 3, 9 and 10.
  *
  * Refusals come in the order 1, 2, 11, and then those of the block: reading 8, 4, 5, 3, 6, 7;
  * writing 4, 5, 3. Minimal reading has 8, 4, 5, 3 only, and 5 there means only EB without CR. For
- * messages: reading 2, 9 (gmv_field_next: 2 only); writing 1, 2, 3, 9, 10. A receiver and a station have 1, 2, 11 only, and so
- * has a sender but for gmv_sender_submit: 1, 2, 11, 4, 3, 9, 10.
+ * messages: reading 2, 9 (gmv_field_next: 2 only); writing 1, 2, 3, 9, 10. A receiver and a station
+ * have 1, 2, 11 only, and so has a sender but for gmv_sender_submit: 1, 2, 11, 4, 3, 9, 10.
  */
 #ifndef GIAMUVICH_H
 #define GIAMUVICH_H
@@ -83,12 +101,15 @@ enum {
                             frozen) */
 };
 
+/* SB and EB of a hybrid link, where nothing else is agreed. A minimal link has these, fixed. */
+enum { GMV_START_BLOCK_DEFAULT = 0x0B, GMV_END_BLOCK_DEFAULT = 0x1C };
+
 /* Block types: the byte after SB of a hybrid block. A minimal block counts as a data block. */
 enum { GMV_DATA_BLOCK = 'D', GMV_NAK_BLOCK = 'N' };
 
 /* The words of a verdict. */
 enum {
-    /* 1: the words below speak of a block; 0: no block ended yet, and the words below but
+    /* 1: the words below speak of a block; 0: no block ended in this call, and the words below but
        GMV_VERDICT_USED are 0. A check always leaves 1. */
     GMV_VERDICT_FOUND = 0,
     /* where the block's SB stood in the stream, counted from 0 at the fresh state; for a check 0 */
@@ -318,14 +339,33 @@ uint64_t gmv_control_write(const uint8_t *type, size_t type_length, uint64_t num
                            uint8_t *buffer, size_t buffer_length, size_t start,
                            uint64_t *report, size_t report_words);
 
+/* ---- The two ends of a link ----
+ *
+ * A line carries the blocks of one sender and the replies of one receiver. It may lose and damage
+ * them, but keeps their order and brings none twice. A circuit is one connection of the line. A
+ * tenancy is one sender with its log, from gmv_sender_fresh on, over as many circuits as it takes.
+ * Persisted is what a crash and a power cut leave. Both ends have the same settings of blocks, and
+ * pass the same ones in every call.
+ *
+ * The duties below are needed so that each transaction is stored once and in order (docs/LINK.md has
+ * the theorem, docs/HOST.md the duties as a checklist). On a plain serial device, where no hangup
+ * reaches the other end, they are not kept: the line is not empty at a new circuit. */
+
 /* ---- The receiver of sequence numbers ----
  *
  * The driver's duties besides memory:
  *   - the state and the transaction named in the report are persisted, as one act, before the
  *     reply goes out,
  *   - one block at a time: the reply to a block is decided after the state of the block before it
- *     is persisted. The call changes the state in memory first: a driver that cannot persist it sends
- *     nothing and stops, or goes on from what is persisted,
+ *     is persisted,
+ *   - blocks are offered in the order in which they were read; one that is refused is offered again
+ *     before any later one, or dropped; what was read and not acted on is dropped with its circuit
+ *     (else a transaction can be stored twice: docs/LINK.md, run 11),
+ *   - the call changes the state in memory first: a driver that cannot persist it sends nothing, no
+ *     reply that was decided before either, ends the circuit and goes on from what is persisted, as
+ *     after a crash,
+ *   - what is found at a start is made durable before anything rests on it: an earlier process may
+ *     have ended before it was (a renamed file whose folder is not synced),
  *   - the reply buffer is not the reader's buffer: the data of the block still lies in that,
  *   - of a refused block the words of the verdict are passed as they are (type 0, length 0),
  *   - when a circuit ends, a reply that was not yet sent is dropped, and the reader starts afresh
@@ -341,8 +381,8 @@ enum {
 
 /* The words of a receiver's report. */
 enum {
-    GMV_RECEIVED_TRANSACTION = 0,  /* the number of the transaction to persist with the state; 0:
-                                      none */
+    GMV_RECEIVED_TRANSACTION = 0,  /* the number of the transaction to persist with the state (its
+                                      message is the block's data as it came); 0: none */
     GMV_RECEIVED_REPLY_LENGTH = 1, /* the bytes of the reply block; 0: no reply */
     GMV_RECEIVED_BLOCK = 2,        /* the block's number: 0, or 3 to 9 */
     GMV_RECEIVED_WORDS = 3
@@ -356,9 +396,14 @@ uint64_t gmv_receiver_fresh(uint64_t *state, size_t state_words);
 /* The receiver's act on a block that its reader gave.
  *
  * block_number is the verdict's number (0 accepted, or 3 to 8), block_type its type, and data the
- * data of an accepted block. application is the application's verdict on a transaction that is due,
- * GMV_CODE_AA or GMV_CODE_AE (it is looked at only for such a one, but must be one of the two).
- * data_limit is at least 128.
+ * data of an accepted block. data_limit is at least 128.
+ *
+ * application is the application's verdict on a transaction that is due, GMV_CODE_AA or GMV_CODE_AE
+ * (it is looked at only for such a one, but must be one of the two). To ask the application about
+ * what is due and about nothing else, act on a copy of the state first, with GMV_CODE_AA. Only where
+ * GMV_RECEIVED_TRANSACTION is not 0 then, ask it. Then act on the state itself, with its verdict.
+ * (Nothing is kept between calls: what the first one wrote is written over.) A driver that asks
+ * before the call runs the application again at each resend.
  *
  * The reply block is written into the buffer from offset start on, of which only the reply's bytes
  * change; the buffer from start on has at least data_limit + 15 bytes (minimal: + 3), whatever the
@@ -402,11 +447,17 @@ uint64_t gmv_minimal_receive(uint64_t data_limit,
  *
  * The driver's duties besides memory:
  *   - the first GMV_SENDER_PERSISTED_WORDS words of the state are persisted, as one act, before the
- *     next block goes out. An act changes the state in memory first: a driver that cannot persist it
- *     sends nothing and stops, or goes on from what is persisted,
- *   - a message is persisted in the log before the state that counts it as submitted, and stays there
- *     until the persisted GMV_SENDER_DELIVERED has passed it; while frozen nothing can be submitted
- *     (11), and the host keeps what it has,
+ *     next block goes out,
+ *   - an act changes the state in memory first: a driver that cannot persist it sends nothing, also
+ *     nothing that was named before, ends the circuit and goes on from what is persisted, as after a
+ *     crash,
+ *   - what is found at a start, the log too, is made durable before anything rests on it: an earlier
+ *     process may have ended before it was (a renamed file whose folder is not synced),
+ *   - before the first circuit is opened the control block is written once, to try it: a bad type is
+ *     refused only there (1), while opening and the timer would count sends that cannot be made,
+ *   - a message is persisted in the log before the state that counts it as submitted, is the only one
+ *     of its number, and stays there until the persisted GMV_SENDER_DELIVERED has passed it; while
+ *     frozen nothing can be submitted (11), and the host keeps what it has,
  *   - sends go out in the order in which the reports named them; an older one that is not yet
  *     written may be dropped for a newer one; a block of which a part is written is finished, or the
  *     circuit is ended,
@@ -414,11 +465,14 @@ uint64_t gmv_minimal_receive(uint64_t data_limit,
  *     names none (a dropped answer among them), and is stopped where nothing waits,
  *   - after GMV_EVENT_ABANDONED and GMV_EVENT_FROZE the circuit has ended for the sender: the driver
  *     closes the line, and does not call gmv_sender_ended (it would answer 11),
- *   - when a circuit ends, sends named and not yet written are dropped; at a new circuit the reader
- *     starts afresh (gmv_reader_fresh),
- *   - each tenant begins with a new sender (gmv_sender_fresh), and the line is empty in both
- *     directions then, at each new circuit and after a crash of either end (docs/LINK.md),
- *   - resends is the same in every call of one sender (else a count may exceed resends + 1). */
+ *   - each block that the reader finds on an open circuit is reported, a refused one too,
+ *   - when a circuit ends, and after a crash, sends named and not yet written are dropped, and so are
+ *     blocks that were read and not yet reported; at a new circuit the reader starts afresh
+ *     (gmv_reader_fresh),
+ *   - each tenant begins with a new sender (gmv_sender_fresh) and a log of its own, and the line is
+ *     empty in both directions then, at each new circuit and after a crash of either end,
+ *   - the type of control messages and resends are the same in every call of one sender (with another
+ *     resends a count may exceed resends + 1). */
 
 /* How often a message is sent again, where nothing else is agreed. */
 enum { GMV_RESENDS_DEFAULT = 3 };
@@ -461,12 +515,16 @@ enum {
 /* What happened. */
 enum {
     GMV_EVENT_NONE = 0,      /* nothing but what the other words say */
-    GMV_EVENT_DELIVERED = 1, /* a transaction is known to be delivered */
+    GMV_EVENT_DELIVERED = 1, /* a transaction is known to be delivered. One number can be told twice:
+                                before a crash that came before the state was persisted, and after it
+                                (then with code 0). Persist first and tell then; a crash in between
+                                leaves it untold, and the persisted GMV_SENDER_DELIVERED says it */
     GMV_EVENT_ABANDONED = 2, /* a send fell due with all sends spent: the circuit ended */
     GMV_EVENT_FROZE = 3,     /* an answer that cannot be: frozen until an operator resets; the circuit
                                 ended. gmv_answer_read reads the answer from the same data, and what it
                                 answered is what waited in the state before the call */
-    GMV_EVENT_DROPPED = 4    /* an answer to something else was dropped */
+    GMV_EVENT_DROPPED = 4    /* an answer was dropped, as something else waits. Where nothing waits an
+                                answer is dropped too, and not told: GMV_EVENT_NONE */
 };
 
 /* The words of an act's report. */
@@ -553,7 +611,8 @@ uint64_t gmv_sender_timer(uint64_t resends, uint64_t *state, size_t state_words,
  *     n waits   AA, n or AE, n n is delivered
  *               AR, n + 1      n is delivered, its verdict unknown
  * After each of these the next transaction is sent and waits, if it was submitted. Every other code or
- * number freezes the sender. With nothing waiting nothing is done (GMV_ACT_BLOCK is still said).
+ * number freezes the sender. With nothing waiting nothing is done and nothing is told, also of an
+ * answer (event 0, not GMV_EVENT_DROPPED), but GMV_ACT_BLOCK.
  *
  * 1: resends is over 99, or block_number is none of 0, 3 to 8. 11: no circuit is open. */
 uint64_t gmv_sender_block(uint64_t resends, uint64_t block_number, uint64_t block_type,
@@ -585,9 +644,14 @@ uint64_t gmv_minimal_control_block(uint64_t data_limit,
  *
  * The driver's duties besides memory:
  *   - it frames the units that come from the line, checks each block (TERM, BCC, text length, the
- *     character that ends it), and reports each unit once, in the order in which they came,
+ *     character that ends it), and reports each unit once, in the order in which they came; a block
+ *     that is cut off (Timer B) is discarded and not reported,
  *   - it opens the station when it has become slave (the ACK0 of that is its own affair), and may
  *     open it again at any time,
+ *   - when Timer D runs out, and when it sends an EOT of its own, it calls gmv_station_end (000,
+ *     C.3.1.5: "BLK is reset to "one" upon a timer-D timeout or upon transmission or reception of
+ *     EOT"), and opens the station anew when it has become slave again. Timer D runs while the
+ *     station is open, anew from each reply,
  *   - it lends the same message buffer, unaltered, in every call of gmv_station_block,
  *   - it takes a complete message out of the buffer before it reports the next block. */
 
@@ -676,7 +740,8 @@ uint64_t gmv_station_bad(uint64_t *state, size_t state_words,
 uint64_t gmv_station_enquiry(uint64_t *state, size_t state_words,
                              uint64_t *report, size_t report_words);
 
-/* EOT was received: the station closes and forgets the text held. No reply. */
+/* EOT was received, or the driver sent one of its own, or Timer D ran out: the station closes and
+ * forgets the text held. No reply. (After GMV_REPLY_EOT it has closed already.) */
 uint64_t gmv_station_end(uint64_t *state, size_t state_words,
                          uint64_t *report, size_t report_words);
 

@@ -87,6 +87,8 @@ void test_receiver(void);
 void test_sender(void);
 void test_link(void);
 void test_station(void);
+void test_lent(void);
+void test_duties(void);
 void test_stack(void);
 
 #endif

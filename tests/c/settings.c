@@ -1,6 +1,8 @@
 /* Settings: 1 exactly where one is outside its range, in every function and before all else. */
 #include "harness.h"
 
+#include <string.h>
+
 enum { WORD = sizeof(uint64_t) };
 
 typedef struct {
@@ -114,8 +116,28 @@ static void every_kind_of_limit(settings link)
     end_memory(&m);
 }
 
+/* The defaults are what a minimal block has, and what document 01's cases have. */
+static void defaults(void)
+{
+    static const uint8_t p1[] = "\x0B" "D23\r" "00005" "067" "\x1C\r";
+    uint8_t block[32];
+    uint64_t report[GMV_REPORT_WORDS];
+
+    CHECK(GMV_START_BLOCK_DEFAULT == 0x0B && GMV_END_BLOCK_DEFAULT == 0x1C);
+    CHECK(gmv_minimal_write(1, NULL, 0, block, sizeof block, 0, report, GMV_REPORT_WORDS) ==
+          GMV_OK);
+    CHECK(report[GMV_REPORT_BLOCK_LENGTH] == 3);
+    CHECK(block[0] == GMV_START_BLOCK_DEFAULT && block[1] == GMV_END_BLOCK_DEFAULT);
+    CHECK(gmv_hybrid_write(GMV_START_BLOCK_DEFAULT, GMV_END_BLOCK_DEFAULT, 1, 'D', NULL, 0, block,
+                           sizeof block, 0, report, GMV_REPORT_WORDS) == GMV_OK);
+    CHECK(report[GMV_REPORT_BLOCK_LENGTH] == sizeof p1 - 1);
+    CHECK(memcmp(block, p1, sizeof p1 - 1) == 0);
+}
+
 void test_settings(void)
 {
+    begin_test("settings: 0B and 1C are the defaults, and a minimal block's");
+    defaults();
     begin_test("settings: SB and EB from 0 to 300, all pairs");
     every_start_and_end_byte();
     begin_test("settings: SB and EB far over a byte");

@@ -530,6 +530,27 @@ static void received_eot(void)
     end_station(&s);
 }
 
+/* Timer D runs out in the middle of a message: the driver is no slave any more, and what comes then
+ * is dropped without a reply. When it has become slave again, block 1 begins a new message. */
+static void timer_d(void)
+{
+    station s = open_station(1, 0, 6);
+
+    appends(&s, GMV_ETB, TEXT("ABCD"));
+    acts(&s, gmv_station_end, (outcome){GMV_REPLY_NONE, 0, 0, 0, closed});
+    drops(&s, 2, GMV_ETX, TEXT("E"), GMV_REPLY_NONE);
+    drops(&s, 1, GMV_ETX, TEXT("E"), GMV_REPLY_NONE);
+    opens(&s);
+    drops(&s, 2, GMV_ETX, TEXT("E"), GMV_REPLY_NAK);
+    appends(&s, GMV_ETX, TEXT("xy"));
+    CHECK(buffer_begins(&s, "xyCD"));
+    acts(&s, gmv_station_end, (outcome){GMV_REPLY_NONE, 0, 0, 0, closed});
+    opens(&s);
+    drops(&s, 2, GMV_ETB, TEXT("E"), GMV_REPLY_NAK);
+    appends(&s, GMV_ETB, TEXT("z"));
+    end_station(&s);
+}
+
 static void closed_station(void)
 {
     station s = new_station(closed, 4);
@@ -770,6 +791,7 @@ static void test_texts(void)
 static void test_openings(void)
 {
     run("station: EOT received", received_eot);
+    run("station: Timer D runs out, and block 1 after the next opening", timer_d);
     run("station: closed, everything is dropped without reply", closed_station);
     run("station: opened again at any time", opened_again);
     run("station: opening takes any words", opens_any_words);

@@ -5,6 +5,7 @@
 
 use crate::compare::Outcome;
 use crate::library;
+use crate::line::Arrived;
 use crate::link_counts::{Counts, Kind};
 use crate::link_deviation::Deviation;
 use crate::link_ends::{named, Entry, Message, ReceivingEnd, Report, SendingEnd};
@@ -14,7 +15,7 @@ use host::ends_ffi::names::{
     SENDER_LAST, SENDER_PERSISTED_WORDS, SENDER_RESYNCHRONIZED, SENDER_WORDS, SEND_RESYNCHRONIZE,
     SEND_TRANSACTION,
 };
-use host::ffi::names::MINUS_ONE;
+use host::ffi::names::{CODE_AA, MINUS_ONE};
 use host::message_model;
 use host::model::Settings;
 use host::receiver_model::Incoming;
@@ -44,6 +45,15 @@ pub struct Beginning {
     pub log: Vec<Vec<u8>>,
     pub old_expected: u64,
     pub deviation: Deviation,
+}
+
+/// A block as an end is told of it.
+fn incoming(arrived: &Arrived) -> Incoming<'_> {
+    Incoming {
+        number: arrived.number,
+        block_type: arrived.block_type,
+        data: &arrived.data,
+    }
 }
 
 impl Link {
@@ -129,8 +139,7 @@ impl Link {
         self.opened = true;
         self.sending.reader.restart()?;
         self.receiving.reader.restart()?;
-        self.sending.arrived = None;
-        self.receiving.arrived = None;
+        self.drop_read_blocks();
         self.sending.named.clear();
         Ok(())
     }
@@ -191,6 +200,7 @@ impl Link {
         self.counts.add(Kind::SenderPersists);
         let words = &self.sending.state[..SENDER_PERSISTED_WORDS];
         self.sending.persisted.copy_from_slice(words);
+        self.sending.durable = self.sending.persisted;
         self.check()
     }
 
@@ -268,11 +278,7 @@ impl Link {
             return Ok(());
         };
         self.answer_otherwise(&mut arrived);
-        let block = Incoming {
-            number: arrived.number,
-            block_type: arrived.block_type,
-            data: &arrived.data,
-        };
+        let block = incoming(&arrived);
         let resends = self.told_resends();
         let act = Act::Block { resends, block };
         if !self.sending.has_circuit() {
@@ -295,6 +301,7 @@ impl Link {
     /// The sender crashes: what is not persisted is lost, and the lines are empty.
     pub fn sender_crashes(&mut self) -> Outcome {
         self.count_crash(Kind::SenderCrash);
+        self.sender_finds();
         let end = &mut self.sending;
         end.state = [0; SENDER_WORDS];
         end.state[..SENDER_PERSISTED_WORDS].copy_from_slice(&end.persisted);
@@ -331,17 +338,38 @@ impl Link {
         self.check()
     }
 
-    /// The receiver's act on the block that was read; nothing of it is persisted yet.
-    pub fn receives(&mut self, application: u64) -> Outcome {
+    /// The receiver is lent a byte too few: it refuses the block by 2, and nothing changes.
+    pub fn refuses(&mut self, arrived: &Arrived) -> Outcome {
+        self.counts.add(Kind::RefusedBlock);
+        let mut report = [u64::MAX; RECEIVED_WORDS];
+        let (mut state, short) = (self.receiving.state, &mut self.buffer[1..]);
+        let (settings, block) = (&self.settings, incoming(arrived));
+        let number =
+            ends_ffi::receive(settings, CODE_AA, &mut state, &block, short, 0, &mut report);
+        if number != 2 || state != self.receiving.state || report != [u64::MAX; RECEIVED_WORDS] {
+            return Err(format!("a byte too few was answered by {number}"));
+        }
+        self.check()
+    }
+
+    /// The receiver refuses the block that was read. It is offered again before any later one, or
+    /// dropped.
+    pub fn receiver_refuses(&mut self, is_dropped: bool) -> Outcome {
         let Some(arrived) = self.receiving.arrived.take() else {
             return Ok(());
         };
-        self.counts.add(Kind::Receives);
-        let block = Incoming {
-            number: arrived.number,
-            block_type: arrived.block_type,
-            data: &arrived.data,
+        self.refuses(&arrived)?;
+        self.receiving.arrived = (!is_dropped).then_some(arrived);
+        Ok(())
+    }
+
+    /// The receiver's act on the block that was read; nothing of it is persisted yet.
+    pub fn receives(&mut self, application: u64) -> Outcome {
+        let Some(arrived) = self.next_to_decide()? else {
+            return Ok(());
         };
+        self.counts.add(Kind::Receives);
+        let block = incoming(&arrived);
         let mut report = [0; RECEIVED_WORDS];
         let (end, buffer) = (&mut self.receiving, &mut self.buffer);
         if self.deviation == Deviation::DecidesFromPersisted {
@@ -363,18 +391,23 @@ impl Link {
             }
             end.transactions.push((arrived.data, application));
         }
+        end.arrived = end.held_back.take();
         self.check()
     }
 
     /// The receiver persists its word and the transactions as one act.
     pub fn receiver_persists(&mut self) -> Outcome {
         self.counts.add(Kind::ReceiverPersists);
+        if self.store_fails() {
+            return self.check();
+        }
         let end = &mut self.receiving;
         let is_half = end.persisted_count == end.transactions.len();
         end.persisted_count = end.transactions.len();
         if is_half || self.deviation != Deviation::PersistsInTwoActs {
             end.persisted = end.state;
         }
+        end.durable = (end.persisted, end.persisted_count);
         self.check()
     }
 
@@ -401,11 +434,13 @@ impl Link {
     /// The receiver crashes. The sender's circuit stays open: it does not know.
     pub fn receiver_crashes(&mut self) -> Outcome {
         self.count_crash(Kind::ReceiverCrash);
+        self.receiver_finds();
         let end = &mut self.receiving;
         end.state = end.persisted;
         end.transactions.truncate(end.persisted_count);
         end.owed.clear();
         end.arrived = None;
+        end.held_back = None;
         end.reader.restart()?;
         self.forward.clear();
         self.back.clear();

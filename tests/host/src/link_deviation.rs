@@ -3,10 +3,11 @@
 
 use crate::line::Arrived;
 use crate::link::Link;
+use crate::link_counts::Kind;
 use crate::link_ends::control_id;
 use host::ends_ffi::names::{
     ACT_EVENT, ACT_SEND, ACT_SENDS, ACT_SEND_NUMBER, ACT_WORDS, EVENT_DELIVERED, EVENT_DROPPED,
-    SENDER_WORDS, SEND_NOTHING,
+    SENDER_PERSISTED_WORDS, SENDER_WORDS, SEND_NOTHING,
 };
 use host::message_model;
 
@@ -28,6 +29,16 @@ pub enum Deviation {
     ReceiverRepliesFirst,
     PersistsInTwoActs,
     DecidesFromPersisted,
+    /// A block that the receiver refused is offered again after a later one.
+    DecidesOutOfOrder,
+    /// What an end has read and not acted on is acted on at the next circuit, the tenancy's first too.
+    ReceiverKeepsReadBlocks,
+    SenderKeepsReadBlocks,
+    /// Storing fails, and the receiver goes back to what is stored; replies decided before still go out.
+    RepliesAfterFailedStore,
+    /// A restart goes on from what it finds, which a power cut can still undo.
+    ReceiverFindsUndurable,
+    SenderFindsUndurable,
     RequestsOutOfOrder,
     RequestsTwice,
     AnswersTwice,
@@ -58,7 +69,76 @@ impl Deviation {
     }
 }
 
+/// What a restart finds and takes for stored. The first crash comes when what the end holds can be
+/// seen and is not yet durable; the next one is a power cut, and what was durable is there again.
+fn found<T: PartialEq>(held: T, persisted: T, durable: T) -> T {
+    if durable == persisted {
+        held
+    } else {
+        durable
+    }
+}
+
 impl Link {
+    /// What a restarted sender finds.
+    pub fn sender_finds(&mut self) {
+        if self.deviation == Deviation::SenderFindsUndurable {
+            let end = &mut self.sending;
+            let mut held = end.persisted;
+            held.copy_from_slice(&end.state[..SENDER_PERSISTED_WORDS]);
+            end.persisted = found(held, end.persisted, end.durable);
+        }
+    }
+
+    /// What a restarted receiver finds.
+    pub fn receiver_finds(&mut self) {
+        if self.deviation == Deviation::ReceiverFindsUndurable {
+            let end = &mut self.receiving;
+            let held = (end.state, end.transactions.len());
+            let persisted = (end.persisted, end.persisted_count);
+            (end.persisted, end.persisted_count) = found(held, persisted, end.durable);
+        }
+    }
+
+    /// Whether storing fails now, and the receiver goes back to what is stored.
+    pub fn store_fails(&mut self) -> bool {
+        let is_due = self.counts.get(Kind::ReceiverPersists) % 3 == 2;
+        let fails = is_due && self.deviation == Deviation::RepliesAfterFailedStore;
+        if fails {
+            let end = &mut self.receiving;
+            end.state = end.persisted;
+            end.transactions.truncate(end.persisted_count);
+        }
+        fails
+    }
+
+    /// The block that the receiver acts on next: the one that was read; but out of order, that one is
+    /// refused and held back until after the next.
+    pub fn next_to_decide(&mut self) -> Result<Option<Arrived>, String> {
+        let is_due = self.counts.get(Kind::ReceiverReads) % 3 == 2;
+        let holds_back = is_due && self.deviation == Deviation::DecidesOutOfOrder;
+        let Some(arrived) = self.receiving.arrived.take() else {
+            return Ok(None);
+        };
+        if !holds_back || self.receiving.held_back.is_some() {
+            return Ok(Some(arrived));
+        }
+        self.refuses(&arrived)?;
+        self.receiving.held_back = Some(arrived);
+        Ok(None)
+    }
+
+    /// What was read and not acted on goes with its circuit.
+    pub fn drop_read_blocks(&mut self) {
+        if self.deviation != Deviation::SenderKeepsReadBlocks {
+            self.sending.arrived = None;
+        }
+        if self.deviation != Deviation::ReceiverKeepsReadBlocks {
+            self.receiving.arrived = None;
+        }
+        self.receiving.held_back = None;
+    }
+
     /// r as the sender is told it.
     pub fn told_resends(&self) -> u64 {
         match self.deviation {

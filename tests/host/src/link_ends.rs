@@ -20,11 +20,12 @@ pub struct Entry {
     pub waits: Option<Message>,
 }
 
-/// The sending end: its words, those persisted, what was named and not yet written, its reader, a
-/// block that was read and not yet reported, and the history.
+/// The sending end: its words, those persisted and those that a power cut leaves, what was named and
+/// not yet written, its reader, a block that was read and not yet reported, and the history.
 pub struct SendingEnd {
     pub state: [u64; SENDER_WORDS],
     pub persisted: [u64; SENDER_PERSISTED_WORDS],
+    pub durable: [u64; SENDER_PERSISTED_WORDS],
     pub named: VecDeque<Message>,
     pub reader: Reader,
     pub arrived: Option<Arrived>,
@@ -38,6 +39,7 @@ impl SendingEnd {
         SendingEnd {
             state,
             persisted,
+            durable: persisted,
             named: VecDeque::new(),
             reader: Reader::new(settings),
             arrived: None,
@@ -71,17 +73,19 @@ impl SendingEnd {
     }
 }
 
-/// The receiving end: its word and the transactions with their verdicts, as they are held and as
-/// they are persisted; the replies not yet sent; its reader, and a block that was read and not yet
-/// acted on.
+/// The receiving end: its word and the transactions with their verdicts, as they are held, as they
+/// are persisted and as a power cut leaves them; the replies not yet sent; its reader, a block that
+/// was read and not yet acted on, and one that was refused and is held back.
 pub struct ReceivingEnd {
     pub state: [u64; 1],
     pub transactions: Vec<(Vec<u8>, u64)>,
     pub persisted: [u64; 1],
     pub persisted_count: usize,
+    pub durable: ([u64; 1], usize),
     pub owed: VecDeque<Vec<u8>>,
     pub reader: Reader,
     pub arrived: Option<Arrived>,
+    pub held_back: Option<Arrived>,
 }
 
 impl ReceivingEnd {
@@ -91,9 +95,11 @@ impl ReceivingEnd {
             transactions: Vec::new(),
             persisted: [expected],
             persisted_count: 0,
+            durable: ([expected], 0),
             owed: VecDeque::new(),
             reader: Reader::new(settings),
             arrived: None,
+            held_back: None,
         }
     }
 

@@ -3,7 +3,7 @@
 
 use crate::compare::Outcome;
 use crate::library;
-use crate::line::{damaged, replace, without_block, Effect};
+use crate::line::{damaged, replace, without_block, Arrived, Effect};
 use crate::link::Link;
 use crate::link_counts::Kind;
 use crate::link_deviation::Deviation;
@@ -21,6 +21,7 @@ pub struct Weather {
     pub timer: usize,
     pub ended: usize,
     pub refused_act: usize,
+    pub refused_block: usize,
     pub part: usize,
 }
 
@@ -36,6 +37,7 @@ impl Weather {
             timer: random.pick(&[200, 60, 25, 10]),
             ended: random.pick(&[NEVER, 300, 80]),
             refused_act: random.pick(&[NEVER, 100, 40]),
+            refused_block: random.pick(&[NEVER, 40, 10]),
             part: random.pick(&[1, 8, 64, 64, NEVER, NEVER, NEVER, NEVER]),
         }
     }
@@ -46,6 +48,26 @@ impl Weather {
             NEVER => random.pick(&[1, 20, NEVER, NEVER, NEVER, NEVER]),
             most => random.between(1, most),
         }
+    }
+}
+
+/// The answer AA to a request.
+fn answer(id: &str, number: u64) -> Result<Vec<u8>, String> {
+    let (mut message, mut report) = (vec![0; 128], [0; 2]);
+    let found = ffi::answer_write(id.as_bytes(), CODE_AA, number, &mut message, 0, &mut report);
+    message.truncate(report[0] as usize);
+    match found {
+        0 => Ok(message),
+        _ => Err(format!("the answer to {id} was refused by {found}")),
+    }
+}
+
+/// A data block that a reader has accepted.
+fn accepted(data: Vec<u8>) -> Arrived {
+    Arrived {
+        number: 0,
+        block_type: u64::from(b'D'),
+        data,
     }
 }
 
@@ -128,6 +150,9 @@ impl Link {
         }
         if random.one_in(weather.refused_act) {
             return self.refused_act(random.below(4));
+        }
+        if random.one_in(weather.refused_block) {
+            return self.receiver_refuses(random.one_in(2));
         }
         let has_circuit = self.sending.has_circuit();
         if has_circuit && random.one_in(weather.timer) {
@@ -217,11 +242,13 @@ impl Link {
     }
 
     /// What an earlier run left: its answers to -1 or 0 and to the first number, not yet sent or on
-    /// the line; and, only with that deviation, its first transaction on the line to the receiver.
+    /// the line; and, only with those deviations, its first transaction on the line to the receiver,
+    /// or a block that an end has read and not acted on.
     pub fn leave_old_blocks(&mut self, random: &mut Random) -> Outcome {
         let resynchronizes = self.deviation.resynchronizes();
         let control = if resynchronizes { "-1" } else { "0" };
         let first = self.first.to_string();
+        let request = format!("MSH|^~\\&|||||||ADT|{first}|P|2.3.1|{first}\rOLD|").into_bytes();
         let is_owed = random.one_in(2);
         for (id, number) in [(control, MINUS_ONE), (&first[..], self.first)] {
             let block = self.old_answer(id, number)?;
@@ -231,21 +258,20 @@ impl Link {
                 self.back.extend(block);
             }
         }
-        if self.deviation == Deviation::OldRequest {
-            let data = format!("MSH|^~\\&|||||||ADT|{first}|P|2.3.1|{first}\rOLD|");
-            self.forward = self.block(data.as_bytes())?;
+        match self.deviation {
+            Deviation::OldRequest => self.forward = self.block(&request)?,
+            Deviation::ReceiverKeepsReadBlocks => self.receiving.arrived = Some(accepted(request)),
+            Deviation::SenderKeepsReadBlocks => {
+                self.sending.arrived = Some(accepted(answer(control, MINUS_ONE)?));
+            }
+            _ => {}
         }
         Ok(())
     }
 
     /// An earlier run's answer, as a block.
     pub fn old_answer(&self, id: &str, number: u64) -> Result<Vec<u8>, String> {
-        let (mut message, mut report) = (vec![0; 128], [0; 2]);
-        let found = ffi::answer_write(id.as_bytes(), CODE_AA, number, &mut message, 0, &mut report);
-        match found {
-            0 => self.block(&message[..report[0] as usize]),
-            _ => Err(format!("the answer to {id} was refused by {found}")),
-        }
+        self.block(&answer(id, number)?)
     }
 
     fn block(&self, data: &[u8]) -> Result<Vec<u8>, String> {

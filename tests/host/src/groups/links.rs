@@ -135,9 +135,11 @@ fn link_run(random: &mut Random, deviation: Deviation) -> Result<Counts, [String
     let old_expected = beginning.old_expected;
     let mut link = Link::new(beginning).map_err(|why| [why, String::new()])?;
     let leaves_old_blocks = match deviation {
-        Deviation::OldAnswers | Deviation::NotResynchronizedOldAnswers | Deviation::OldRequest => {
-            true
-        }
+        Deviation::OldAnswers
+        | Deviation::NotResynchronizedOldAnswers
+        | Deviation::OldRequest
+        | Deviation::ReceiverKeepsReadBlocks
+        | Deviation::SenderKeepsReadBlocks => true,
         Deviation::NotResynchronized => false,
         _ => random.one_in(3),
     };
@@ -169,7 +171,7 @@ pub fn links(compare: &mut Compare) -> Outcome {
 /// How many link runs may pass before what is wrong is found.
 const RUNS_TO_FIND: usize = 20_000;
 
-const DEVIATIONS: [(Deviation, &str); 18] = [
+const DEVIATIONS: [(Deviation, &str); 24] = [
     (
         Deviation::NotResynchronized,
         "no resynchronizing exchange, and an old expected number",
@@ -199,6 +201,30 @@ const DEVIATIONS: [(Deviation, &str); 18] = [
     (
         Deviation::DecidesFromPersisted,
         "the receiver decides from what it stored",
+    ),
+    (
+        Deviation::DecidesOutOfOrder,
+        "a block that was refused is offered after a later one",
+    ),
+    (
+        Deviation::ReceiverKeepsReadBlocks,
+        "the receiver acts on a block that was read on an earlier circuit",
+    ),
+    (
+        Deviation::SenderKeepsReadBlocks,
+        "the sender acts on a block that was read on an earlier circuit",
+    ),
+    (
+        Deviation::RepliesAfterFailedStore,
+        "storing fails, and replies decided before go out",
+    ),
+    (
+        Deviation::ReceiverFindsUndurable,
+        "a restarted receiver goes on from what is not durable",
+    ),
+    (
+        Deviation::SenderFindsUndurable,
+        "a restarted sender goes on from what is not durable",
     ),
     (Deviation::RequestsOutOfOrder, "requests out of order"),
     (Deviation::RequestsTwice, "requests that come again later"),
