@@ -14,17 +14,37 @@
 
 static int stop_pipe[2] = {-1, -1};
 static volatile sig_atomic_t stopping;
+static const char *program = "gmv_driver";
+static int failure = 1;
+
+void time_of_day(char *text)
+{
+    const time_t seconds = time(NULL);
+    struct tm parts;
+
+    if (localtime_r(&seconds, &parts) == NULL ||
+        strftime(text, TIME_TEXT, "%Y-%m-%d %H:%M:%S", &parts) == 0)
+        strcpy(text, "no time");
+}
+
+void name_program(const char *name, int status)
+{
+    program = name;
+    failure = status;
+}
 
 void fail(const char *format, ...)
 {
+    char time[TIME_TEXT];
     va_list values;
 
-    fprintf(stderr, "gmv_driver: ");
+    time_of_day(time);
+    fprintf(stderr, "%s %s: ", time, program);
     va_start(values, format);
     vfprintf(stderr, format, values);
     va_end(values);
     fprintf(stderr, "\n");
-    exit(1);
+    exit(failure);
 }
 
 void require_done(uint64_t number, const char *function)
@@ -49,6 +69,11 @@ long long now(void)
     if (clock_gettime(CLOCK_MONOTONIC, &time) != 0)
         fail("no clock: %s", strerror(errno));
     return (long long)time.tv_sec * 1000 + time.tv_nsec / 1000000;
+}
+
+long long earliest(long long a, long long b)
+{
+    return a < b ? a : b;
 }
 
 static void note_stop(int signal_number)

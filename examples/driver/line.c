@@ -5,6 +5,7 @@
 #include <limits.h>
 #include <netdb.h>
 #include <netinet/in.h>
+#include <netinet/tcp.h>
 #include <poll.h>
 #include <stdio.h>
 #include <stdlib.h>
@@ -14,9 +15,13 @@
 #include <unistd.h>
 
 #include "common.h"
-#include "status.h"
+#include "said.h"
 
-enum { LEAST_BACKOFF = 10, MOST_BACKOFF = 500, CONNECT_LIMIT = 2000 };
+enum { LEAST_PAUSE = 10, MOST_CALL_PAUSE = 500, MOST_HANGUP_PAUSE = 5000, CONNECT_LIMIT = 2000 };
+#define NOBODY_CALLS "nobody calls"
+#define NOT_CALLED "not called yet"
+#define ENDED "the circuit ended"
+enum { PROBES = 3 /* without an answer, a second apart, until a peer is taken for gone */ };
 
 static int set_nonblocking(int descriptor)
 {
@@ -31,7 +36,7 @@ static int listen_on(const char *port)
     struct sockaddr_in address;
     socklen_t length = sizeof address;
     const int yes = 1;
-    char *end;
+    char *end, time[TIME_TEXT];
     unsigned long number = strtoul(port, &end, 10);
     int listening = socket(AF_INET, SOCK_STREAM, 0);
 
@@ -47,9 +52,18 @@ static int listen_on(const char *port)
         listen(listening, 1) != 0 ||
         getsockname(listening, (struct sockaddr *)&address, &length) != 0)
         fail("cannot listen on port %s: %s", port, strerror(errno));
-    printf("listening on %d\n", (int)ntohs(address.sin_port));
+    time_of_day(time);
+    printf("%s gmv_driver: listening on %d\n", time, (int)ntohs(address.sin_port));
     fflush(stdout);
     return listening;
+}
+
+/* Only a symbolic link that a terminal server makes anew stands for one circuit. */
+static int is_plain_device(const char *path)
+{
+    struct stat status;
+
+    return lstat(path, &status) == 0 && !S_ISLNK(status.st_mode);
 }
 
 void line_prepare(line *line, const settings *link)
@@ -58,16 +72,26 @@ void line_prepare(line *line, const settings *link)
     line->link = link;
     line->listening = link->kind == TCP_LISTEN ? listen_on(link->address) : -1;
     line->circuit = -1;
-    line->backoff = LEAST_BACKOFF;
+    line->pause = LEAST_PAUSE;
+    line->since = now();
+    strcpy(line->peer, link->kind == TCP_LISTEN ? NOBODY_CALLS : NOT_CALLED);
+    if (link->kind == TERMINAL && is_plain_device(link->address))
+        say_plain_device(link->address);
 }
 
 /* ---- opening a circuit: a descriptor that does not block, or -1 */
 
-static struct addrinfo *addresses_of(const char *host_and_port)
+static void note_reason(line *line, const char *reason)
 {
-    char host[256];
-    const char *colon = strrchr(host_and_port, ':');
+    snprintf(line->peer, sizeof line->peer, "%s", reason);
+}
+
+static struct addrinfo *addresses_of(line *line)
+{
+    const char *host_and_port = line->link->address, *colon = strrchr(host_and_port, ':');
     struct addrinfo hints, *found = NULL;
+    char host[256];
+    int problem;
 
     if (colon == NULL || (size_t)(colon - host_and_port) >= sizeof host)
         fail("%s is not HOST:PORT", host_and_port);
@@ -75,7 +99,21 @@ static struct addrinfo *addresses_of(const char *host_and_port)
     host[colon - host_and_port] = '\0';
     memset(&hints, 0, sizeof hints);
     hints.ai_socktype = SOCK_STREAM;
-    return getaddrinfo(host, colon + 1, &hints, &found) == 0 ? found : NULL;
+    problem = getaddrinfo(host, colon + 1, &hints, &found);
+    if (problem != 0)
+        note_reason(line, gai_strerror(problem));
+    return problem == 0 ? found : NULL;
+}
+
+/* A peer that vanished without a word is found out, also by an end that only listens to what comes. */
+static int keep_alive(int circuit, const settings *link)
+{
+    const int yes = 1, silence = (int)link->keepalive, between = 1, probes = PROBES;
+
+    return setsockopt(circuit, SOL_SOCKET, SO_KEEPALIVE, &yes, sizeof yes) == 0 &&
+           setsockopt(circuit, IPPROTO_TCP, TCP_KEEPIDLE, &silence, sizeof silence) == 0 &&
+           setsockopt(circuit, IPPROTO_TCP, TCP_KEEPINTVL, &between, sizeof between) == 0 &&
+           setsockopt(circuit, IPPROTO_TCP, TCP_KEEPCNT, &probes, sizeof probes) == 0;
 }
 
 /* Waits for a connection that is being made. Returns 0 when it is. */
@@ -85,10 +123,12 @@ static int finish_connecting(int circuit)
     int error = 0;
     socklen_t length = sizeof error;
 
+    errno = ETIMEDOUT;
     if (poll(waits, 2, CONNECT_LIMIT) <= 0 || waits[0].revents == 0)
         return -1;
     if (getsockopt(circuit, SOL_SOCKET, SO_ERROR, &error, &length) != 0)
         return -1;
+    errno = error;
     return error == 0 ? 0 : -1;
 }
 
@@ -105,38 +145,49 @@ static int reaches_itself(int circuit)
            own_length == peer_length && memcmp(&own, &peer, own_length) == 0;
 }
 
-static int connect_to(const struct addrinfo *address)
+/* Returns the circuit, or -1 with errno. */
+static int connect_to(const struct addrinfo *address, const settings *link)
 {
-    int circuit = socket(address->ai_family, address->ai_socktype, address->ai_protocol);
+    int circuit = socket(address->ai_family, address->ai_socktype, address->ai_protocol), error;
 
     if (circuit < 0)
         return -1;
-    if (set_nonblocking(circuit) == 0 &&
+    if (set_nonblocking(circuit) == 0 && keep_alive(circuit, link) &&
         (connect(circuit, address->ai_addr, address->ai_addrlen) == 0 ||
-         ((errno == EINPROGRESS || errno == EINTR) && finish_connecting(circuit) == 0)) &&
-        !reaches_itself(circuit))
-        return circuit;
+         ((errno == EINPROGRESS || errno == EINTR) && finish_connecting(circuit) == 0))) {
+        if (!reaches_itself(circuit))
+            return circuit;
+        errno = ECONNREFUSED;
+    }
+    error = errno;
     close(circuit);
+    errno = error;
     return -1;
 }
 
-static int open_connection(const char *host_and_port)
+static int open_connection(line *line)
 {
-    struct addrinfo *addresses = addresses_of(host_and_port);
+    struct addrinfo *addresses = addresses_of(line);
     int circuit = -1;
 
-    for (struct addrinfo *at = addresses; at != NULL && circuit < 0; at = at->ai_next)
-        circuit = connect_to(at);
+    for (struct addrinfo *at = addresses; at != NULL && circuit < 0; at = at->ai_next) {
+        circuit = connect_to(at, line->link);
+        if (circuit < 0)
+            note_reason(line, strerror(errno));
+    }
     if (addresses != NULL)
         freeaddrinfo(addresses);
+    if (circuit < 0)
+        say_call_failed(line->link->address, line->peer);
     return circuit;
 }
 
-static int accept_caller(int listening)
+static int accept_caller(line *line)
 {
-    int circuit = accept(listening, NULL, NULL);
+    int circuit = accept(line->listening, NULL, NULL);
 
-    if (circuit >= 0 && set_nonblocking(circuit) != 0) {
+    if (circuit >= 0 && (set_nonblocking(circuit) != 0 || !keep_alive(circuit, line->link))) {
+        note_reason(line, strerror(errno));
         close(circuit);
         return -1;
     }
@@ -176,11 +227,19 @@ static int open_terminal(line *line)
     struct stat status, after;
     int terminal;
 
-    if (lstat(path, &status) != 0 || (S_ISLNK(status.st_mode) && is_same_link(&status, &line->used)))
+    if (lstat(path, &status) != 0) {
+        note_reason(line, strerror(errno));
         return -1;
+    }
+    if (S_ISLNK(status.st_mode) && is_same_link(&status, &line->used)) {
+        note_reason(line, "the terminal server has made no new link");
+        return -1;
+    }
     terminal = open(path, O_RDWR | O_NOCTTY | O_NONBLOCK);
-    if (terminal < 0)
+    if (terminal < 0) {
+        note_reason(line, strerror(errno));
         return -1;
+    }
     if (!isatty(terminal) && errno == ENOTTY)
         fail("%s is no terminal", path);
     if (lstat(path, &after) != 0 || !is_same_link(&status, &after) || make_raw(terminal) != 0) {
@@ -191,46 +250,107 @@ static int open_terminal(line *line)
     return terminal;
 }
 
+/* Who is at the other end: a TCP address, or the terminal. */
+static void note_peer(line *line)
+{
+    struct sockaddr_storage address;
+    socklen_t length = sizeof address;
+    char host[256], port[32];
+
+    if (line->link->kind == TERMINAL)
+        snprintf(line->peer, sizeof line->peer, "%.200s", line->link->address);
+    else if (getpeername(line->circuit, (struct sockaddr *)&address, &length) == 0 &&
+             getnameinfo((struct sockaddr *)&address, length, host, sizeof host, port, sizeof port,
+                         NI_NUMERICHOST | NI_NUMERICSERV) == 0)
+        snprintf(line->peer, sizeof line->peer, "%.200s:%.20s", host, port);
+    else
+        strcpy(line->peer, "a peer that is gone");
+}
+
+static void note_opened(line *line)
+{
+    note_peer(line);
+    line->answered = 0;
+    line->since = now();
+    if (line->ended[0] != '\0')
+        say_new_caller(line->peer, line->ended);
+    line->ended[0] = '\0';
+}
+
+/* The pause before the next try doubles, up to a limit. */
+static void wait_longer(line *line, long most)
+{
+    line->next_try = now() + line->pause;
+    line->pause = line->pause * 2 < most ? line->pause * 2 : most;
+}
+
+static int open_circuit_of(line *line)
+{
+    switch (line->link->kind) {
+    case TCP_CONNECT:
+        return open_connection(line);
+    case TCP_LISTEN:
+        return accept_caller(line);
+    case TERMINAL:
+        return open_terminal(line);
+    default:
+        fail("no line");
+    }
+}
+
 int line_open(line *line)
 {
     if (line->circuit >= 0 || now() < line->next_try)
         return 0;
-    switch (line->link->kind) {
-    case TCP_CONNECT:
-        line->circuit = open_connection(line->link->address);
-        break;
-    case TCP_LISTEN:
-        line->circuit = accept_caller(line->listening);
-        if (line->circuit < 0 && errno == EAGAIN)
-            return 0; /* nobody calls, and line_wait sees who does */
-        break;
-    case TERMINAL:
-        line->circuit = open_terminal(line);
-        break;
-    default:
-        fail("no line");
-    }
+    line->circuit = open_circuit_of(line);
     if (line->circuit >= 0) {
-        line->backoff = LEAST_BACKOFF;
+        note_opened(line);
         return 1;
     }
-    line->next_try = now() + line->backoff;
-    line->backoff = line->backoff * 2 < MOST_BACKOFF ? line->backoff * 2 : MOST_BACKOFF;
+    if (line->link->kind == TCP_LISTEN && errno == EAGAIN) {
+        if (line->ended[0] != '\0')
+            say_new_caller("gone already", line->ended);
+        line->ended[0] = '\0';
+        return 0; /* nobody calls, and line_wait sees who does */
+    }
+    wait_longer(line, line->pause > MOST_CALL_PAUSE ? line->pause : MOST_CALL_PAUSE);
     return 0;
 }
 
-void line_close(line *line)
+/* A peer that takes the call and hangs up is called again after a pause that grows. */
+static void note_hangup(line *line)
+{
+    line->hung_up++;
+    if (line->link->kind == TCP_CONNECT)
+        say_hung_up(line->peer);
+    if (line->link->kind != TCP_LISTEN)
+        wait_longer(line, MOST_HANGUP_PAUSE);
+}
+
+void line_close(line *line, int hung_up)
 {
     if (line->circuit < 0)
         return;
     close(line->circuit);
     line->circuit = -1;
-    line->next_try = line->link->kind == TCP_LISTEN ? 0 : now() + line->backoff;
+    line->since = now();
+    line->next_try = line->link->kind == TCP_LISTEN ? 0 : now() + LEAST_PAUSE;
+    if (line->answered)
+        line->pause = LEAST_PAUSE;
+    else if (hung_up)
+        note_hangup(line);
+    strcpy(line->peer, line->link->kind == TCP_LISTEN ? NOBODY_CALLS : ENDED);
+}
+
+void line_answered(line *line)
+{
+    line->answered = 1;
+    line->hung_up = 0;
 }
 
 void line_pause(line *line, long milliseconds)
 {
-    if (line->link->kind != TCP_LISTEN)
+    if (line->link->kind != TCP_LISTEN && line->next_try < now() + milliseconds)
         line->next_try = now() + milliseconds;
 }
 
@@ -240,7 +360,7 @@ void line_finish(line *line)
     if (line->listening >= 0)
         close(line->listening);
     line->listening = -1;
-    line_close(line);
+    line_close(line, 0);
 }
 
 long long line_next_try(const line *line)
@@ -252,11 +372,16 @@ long long line_next_try(const line *line)
 
 /* ---- an open circuit */
 
-static int is_called(const line *line)
+int line_is_called(line *line)
 {
     struct pollfd call = {line->listening, POLLIN, 0};
 
-    return line->listening >= 0 && poll(&call, 1, 0) > 0;
+    if (line->listening < 0 || line->circuit < 0 || poll(&call, 1, 0) <= 0)
+        return 0;
+    line->called++;
+    line->called_at = now();
+    strcpy(line->ended, line->peer);
+    return 1;
 }
 
 /* A new caller means that the circuit has ended, even where this end has not heard of it yet. Asked
@@ -270,11 +395,7 @@ ssize_t line_read(line *line, uint8_t *bytes, size_t size)
         count = 0;
     else if (count <= 0)
         return -1;
-    if (is_called(line)) {
-        say_new_caller();
-        return -1;
-    }
-    return count;
+    return line_is_called(line) ? -1 : count;
 }
 
 ssize_t line_write(line *line, const uint8_t *bytes, size_t length)
@@ -318,6 +439,7 @@ int line_wait(const line *line, int writing, long long until)
     return seen;
 }
 
+/* A peer that does not read keeps nobody else out: a new caller ends the circuit here too. */
 int line_write_all(line *line, const uint8_t *bytes, size_t length, long long until)
 {
     size_t written = 0;
@@ -329,12 +451,22 @@ int line_write_all(line *line, const uint8_t *bytes, size_t length, long long un
             return -1;
         written += (size_t)count;
         if (count == 0) {
-            struct pollfd waits[2] = {{line->circuit, POLLOUT, 0}, {stop_descriptor(), POLLIN, 0}};
+            struct pollfd waits[3] = {{line->circuit, POLLOUT, 0},
+                                      {line->listening, POLLIN, 0},
+                                      {stop_descriptor(), POLLIN, 0}};
 
-            poll(waits, 2, milliseconds_until(until));
-            if (now() >= until || stop_requested())
+            poll(waits, 3, milliseconds_until(until));
+            if (now() >= until || stop_requested() || line_is_called(line))
                 return -1;
         }
     }
     return 0;
+}
+
+void line_show(const line *line, running_details *running)
+{
+    running->turned = (uint64_t)now();
+    running->circuit_open = line->circuit >= 0;
+    running->since = (uint64_t)line->since;
+    strcpy(running->peer, line->peer);
 }

@@ -15,7 +15,7 @@ static int usage(void)
             "gmv_driver reset DIR\n"
             "LINE: --minimal-connect HOST:PORT | --minimal-listen PORT | --hybrid-tty PATH\n"
             "OPTIONS: --data-limit D, --timer MILLISECONDS, --resends R, --type ADT,\n"
-            "  --application AA|AE, --start-block BYTE, --end-block BYTE\n");
+            "  --application AA|AE, --start-block BYTE, --end-block BYTE, --keepalive SECONDS\n");
     return 2;
 }
 

@@ -9,12 +9,13 @@
 #include "common.h"
 #include "store.h"
 
-enum { RECORD_LENGTH = 2048 };
+enum { RECORD_LENGTH = 4096 };
 
-#define SENDER_TITLE "giamuvich sender 1"
-#define SENDER_LIVE_TITLE "giamuvich sender live 1"
-#define RECEIVER_TITLE "giamuvich receiver 1"
-#define RECEIVER_LIVE_TITLE "giamuvich receiver live 1"
+#define SENDER_TITLE "giamuvich sender "
+#define SENDER_LIVE_TITLE "giamuvich sender live 2\n"
+#define RECEIVER_TITLE "giamuvich receiver "
+#define RECEIVER_LIVE_TITLE "giamuvich receiver live 2\n"
+#define FORM_FILE "form" /* there once the folder's state has a check */
 
 /* The names of the words, in the library's order. */
 static const char *const sender_names[GMV_SENDER_WORDS] = {
@@ -22,11 +23,16 @@ static const char *const sender_names[GMV_SENDER_WORDS] = {
 static const char *const report_names[GMV_ACT_WORDS] = {
     "act_send", "act_send_number", "act_sends", "act_event", "act_delivered", "act_code",
     "act_block", "act_forbidden_offset"};
-static const char *const receiver_names[] = {"expected", "stored"};
-static const char *const sender_count_names[] = {"circuits", "given_up"};
+static const char *const receiver_names[] = {"expected", "stored", "cleared", "cleared_after"};
+static const char *const sender_count_names[] = {"circuits", "given_up", "given_up_since",
+                                                 "refused_since", "last_refused", "dropped_since",
+                                                 "hung_up"};
 static const char *const count_names[] = {"circuits", "blocks", "refused", "last_refused", "rejected",
-                                          "circuit_open"};
-enum { SENDER_COUNT_WORDS = 2, COUNT_WORDS = 6 };
+                                          "refused_since", "rejected_since", "called", "called_at",
+                                          "cleared_since"};
+static const char *const running_names[] = {"process", "turned", "circuit_open", "since"};
+enum { FIRST_FORM_WORDS = 2, RECEIVER_RECORD_WORDS = 4, SENDER_COUNT_WORDS = 7, COUNT_WORDS = 10,
+       RUNNING_WORDS = 4 };
 
 /* ---- text that is made */
 
@@ -63,6 +69,34 @@ static void add_freeze(text *to, const sender_record *record)
             freeze->control_id, freeze->expected);
 }
 
+static void add_running(text *to, const running_details *running)
+{
+    const uint64_t words[RUNNING_WORDS] = {running->process, running->turned, running->circuit_open,
+                                           running->since};
+
+    add_words(to, running_names, words, RUNNING_WORDS);
+    add(to, "settings %s\npeer %s\n", running->settings, running->peer);
+}
+
+/* CRC-32, as in zip files: it sees every change within 32 bits, so every wrong digit. */
+static unsigned long check_of(const char *bytes, size_t length)
+{
+    uint32_t check = 0xFFFFFFFF;
+
+    for (size_t i = 0; i < length; i++) {
+        check ^= (uint8_t)bytes[i];
+        for (int bit = 0; bit < 8; bit++)
+            check = (check >> 1) ^ ((check & 1) != 0 ? 0xEDB88320 : 0);
+    }
+    return check ^ 0xFFFFFFFF;
+}
+
+static void store_text(const char *folder, text *made)
+{
+    add(made, "check %08lx\nend\n", check_of(made->bytes, made->length));
+    store_durably(folder, "state", made->bytes, made->length);
+}
+
 /* ---- text that is read: what was made, line by line */
 
 /* Takes the text up to and with the line's end where it begins so; else leaves it and returns 0. */
@@ -96,14 +130,14 @@ static int takes_words(const char **at, const char *const *names, uint64_t *word
     return 1;
 }
 
-static int takes_text(const char **at, const char *name, char *value)
+static int takes_text(const char **at, const char *name, char *value, size_t size)
 {
     size_t length;
 
     if (!takes(at, name) || !takes(at, " "))
         return 0;
     length = strcspn(*at, "\n");
-    if (length >= FREEZE_TEXT)
+    if (length >= size)
         return 0;
     memcpy(value, *at, length);
     value[length] = '\0';
@@ -117,14 +151,47 @@ static int takes_freeze(const char **at, sender_record *record)
 
     if (record->words[GMV_SENDER_FROZEN] != 1)
         return 1;
-    return takes_text(at, "waited", freeze->waited) && takes_text(at, "code", freeze->code) &&
-           takes_text(at, "control_id", freeze->control_id) &&
-           takes_text(at, "expected", freeze->expected);
+    return takes_text(at, "waited", freeze->waited, FREEZE_TEXT) &&
+           takes_text(at, "code", freeze->code, FREEZE_TEXT) &&
+           takes_text(at, "control_id", freeze->control_id, FREEZE_TEXT) &&
+           takes_text(at, "expected", freeze->expected, FREEZE_TEXT);
+}
+
+static int takes_running(const char **at, running_details *running)
+{
+    uint64_t words[RUNNING_WORDS];
+
+    if (!takes_words(at, running_names, words, RUNNING_WORDS))
+        return 0;
+    running->process = words[0];
+    running->turned = words[1];
+    running->circuit_open = words[2];
+    running->since = words[3];
+    return takes_text(at, "settings", running->settings, RUNNING_TEXT) &&
+           takes_text(at, "peer", running->peer, RUNNING_TEXT);
 }
 
 static int takes_end(const char **at)
 {
     return takes(at, "end\n") && **at == '\0';
+}
+
+/* The check is of all bytes before its own line. */
+static int takes_check(const char **at, const char *bytes)
+{
+    char wanted[32];
+
+    snprintf(wanted, sizeof wanted, "check %08lx\n", check_of(bytes, (size_t)(*at - bytes)));
+    return takes(at, wanted);
+}
+
+/* A state's title and its form: 1, without a check, or 2. */
+static int takes_title(const char **at, const char *title, uint64_t *unchecked)
+{
+    if (!takes(at, title))
+        return 0;
+    *unchecked = (uint64_t)takes(at, "1\n");
+    return *unchecked || takes(at, "2\n");
 }
 
 /* The file's text with a 0 after it; a 0 in it ends it, and then its last line is missing. */
@@ -136,11 +203,30 @@ static const char *read_text(const char *folder, const char *name, char *bytes)
     path_of(path, folder, name);
     length = read_file(path, bytes, RECORD_LENGTH);
     if (length < 0)
-        return errno == ENOENT ? RECORD_MISSING : "cannot be read";
+        return errno == ENOENT ? RECORD_MISSING : RECORD_UNREADABLE;
     if (length == RECORD_LENGTH || memchr(bytes, '\0', (size_t)length) != NULL)
         return "is damaged";
     bytes[length] = '\0';
     return NULL;
+}
+
+/* A state of the first form is taken once: the driver writes it again with a check, and asks for it then. */
+static const char *unchecked_problem(const char *folder, uint64_t unchecked)
+{
+    char path[PATH_LENGTH];
+
+    path_of(path, folder, FORM_FILE);
+    return unchecked && !is_missing(path) ? "has lost its check: it is not what the driver wrote"
+                                                 : NULL;
+}
+
+void require_checks(const char *folder)
+{
+    char path[PATH_LENGTH];
+
+    path_of(path, folder, FORM_FILE);
+    if (is_missing(path))
+        store_durably(folder, FORM_FILE, "2\n", 2);
 }
 
 /* ---- words that are a state: an act that applies to every state of that kind is tried on a copy */
@@ -174,77 +260,78 @@ static int is_receiver(const uint64_t *words)
 
 /* ---- the sender */
 
-static int takes_sender_live(const char **at, uint64_t *report, sender_counts *counts)
-{
-    uint64_t counted[SENDER_COUNT_WORDS];
-
-    if (!takes_words(at, report_names, report, GMV_ACT_WORDS) ||
-        !takes_words(at, sender_count_names, counted, SENDER_COUNT_WORDS))
-        return 0;
-    counts->circuits = counted[0];
-    counts->given_up = counted[1];
-    return 1;
-}
-
-/* Of a state, report and counts are NULL. */
-static const char *sender_from(const char *bytes, const char *title, size_t words,
-                               sender_record *record, uint64_t *report, sender_counts *counts)
-{
-    const char *at = bytes;
-
-    memset(record, 0, sizeof *record);
-    if (!takes(&at, title) || !takes(&at, "\n") ||
-        !takes_words(&at, sender_names, record->words, words))
-        return "is damaged";
-    if (report != NULL && !takes_sender_live(&at, report, counts))
-        return "is damaged";
-    if (!takes_freeze(&at, record) || !takes_end(&at))
-        return "is damaged";
-    return is_sender(record->words) ? NULL : "has words that are no sender's state";
-}
-
 const char *read_sender(const char *folder, sender_record *record)
 {
     char bytes[RECORD_LENGTH + 1];
-    const char *problem = read_text(folder, "state", bytes);
+    const char *at = bytes, *problem = read_text(folder, "state", bytes);
 
+    memset(record, 0, sizeof *record);
     if (problem != NULL)
         return problem;
-    return sender_from(bytes, SENDER_TITLE, GMV_SENDER_PERSISTED_WORDS, record, NULL, NULL);
+    if (!takes_title(&at, SENDER_TITLE, &record->unchecked) ||
+        !takes_words(&at, sender_names, record->words, GMV_SENDER_PERSISTED_WORDS) ||
+        !takes_freeze(&at, record) || !(record->unchecked || takes_check(&at, bytes)) || !takes_end(&at))
+        return "is damaged";
+    if (!is_sender(record->words))
+        return "has words that are no sender's state";
+    return unchecked_problem(folder, record->unchecked);
+}
+
+static int takes_sender_counts(const char **at, sender_counts *counts)
+{
+    uint64_t counted[SENDER_COUNT_WORDS];
+
+    if (!takes_words(at, sender_count_names, counted, SENDER_COUNT_WORDS))
+        return 0;
+    counts->circuits = counted[0];
+    counts->given_up = counted[1];
+    counts->given_up_since = counted[2];
+    counts->refused_since = counted[3];
+    counts->last_refused = counted[4];
+    counts->dropped_since = counted[5];
+    counts->hung_up = counted[6];
+    return 1;
 }
 
 const char *read_sender_live(const char *folder, sender_record *record, uint64_t *report,
-                             sender_counts *counts)
+                             sender_counts *counts, running_details *running)
 {
     char bytes[RECORD_LENGTH + 1];
-    const char *problem = read_text(folder, "live", bytes);
+    const char *at = bytes, *problem = read_text(folder, "live", bytes);
 
     if (problem != NULL)
         return problem;
-    return sender_from(bytes, SENDER_LIVE_TITLE, GMV_SENDER_WORDS, record, report, counts);
+    memset(record, 0, sizeof *record);
+    if (!takes(&at, SENDER_LIVE_TITLE) || !takes_words(&at, sender_names, record->words, GMV_SENDER_WORDS) ||
+        !takes_words(&at, report_names, report, GMV_ACT_WORDS) || !takes_sender_counts(&at, counts) ||
+        !takes_running(&at, running) || !takes_freeze(&at, record) || !takes_end(&at))
+        return "is damaged";
+    return is_sender(record->words) ? NULL : "has words that are no sender's state";
 }
 
 void store_sender(const char *folder, const sender_record *record)
 {
     text made = {"", 0};
 
-    add(&made, "%s\n", SENDER_TITLE);
+    add(&made, "%s2\n", SENDER_TITLE);
     add_words(&made, sender_names, record->words, GMV_SENDER_PERSISTED_WORDS);
     add_freeze(&made, record);
-    add(&made, "end\n");
-    store_durably(folder, "state", made.bytes, made.length);
+    store_text(folder, &made);
 }
 
 void show_sender(const char *folder, const sender_record *record, const uint64_t *report,
-                 const sender_counts *counts)
+                 const sender_counts *counts, const running_details *running)
 {
-    const uint64_t counted[SENDER_COUNT_WORDS] = {counts->circuits, counts->given_up};
+    const uint64_t counted[SENDER_COUNT_WORDS] = {
+        counts->circuits,      counts->given_up,     counts->given_up_since, counts->refused_since,
+        counts->last_refused, counts->dropped_since, counts->hung_up};
     text made = {"", 0};
 
-    add(&made, "%s\n", SENDER_LIVE_TITLE);
+    add(&made, "%s", SENDER_LIVE_TITLE);
     add_words(&made, sender_names, record->words, GMV_SENDER_WORDS);
     add_words(&made, report_names, report, GMV_ACT_WORDS);
     add_words(&made, sender_count_names, counted, SENDER_COUNT_WORDS);
+    add_running(&made, running);
     add_freeze(&made, record);
     add(&made, "end\n");
     store_lightly(folder, "live", made.bytes, made.length);
@@ -252,75 +339,97 @@ void show_sender(const char *folder, const sender_record *record, const uint64_t
 
 /* ---- the receiver */
 
-static const char *receiver_from(const char *bytes, const char *title, receiver_record *record,
-                                 receiver_counts *counts)
+static const char *receiver_of(const uint64_t *words, receiver_record *record)
 {
-    const char *at = bytes;
-    uint64_t words[2], counted[COUNT_WORDS];
-
-    if (!takes(&at, title) || !takes(&at, "\n") || !takes_words(&at, receiver_names, words, 2))
-        return "is damaged";
-    if (counts != NULL) {
-        if (!takes_words(&at, count_names, counted, COUNT_WORDS))
-            return "is damaged";
-        counts->circuits = counted[0];
-        counts->blocks = counted[1];
-        counts->refused = counted[2];
-        counts->last_refused = counted[3];
-        counts->rejected = counted[4];
-        counts->circuit_open = counted[5];
-    }
-    if (!takes_end(&at))
-        return "is damaged";
     record->words[GMV_RECEIVER_EXPECTED] = words[0];
     record->stored = words[1];
+    record->cleared = words[2];
+    record->cleared_after = words[3];
     return is_receiver(record->words) ? NULL : "has words that are no receiver's state";
 }
 
 const char *read_receiver(const char *folder, receiver_record *record)
 {
     char bytes[RECORD_LENGTH + 1];
-    const char *problem = read_text(folder, "state", bytes);
+    const char *at = bytes, *problem = read_text(folder, "state", bytes);
+    uint64_t words[RECEIVER_RECORD_WORDS] = {0};
 
-    return problem != NULL ? problem : receiver_from(bytes, RECEIVER_TITLE, record, NULL);
+    memset(record, 0, sizeof *record);
+    if (problem != NULL)
+        return problem;
+    if (!takes_title(&at, RECEIVER_TITLE, &record->unchecked) ||
+        !takes_words(&at, receiver_names, words, record->unchecked ? FIRST_FORM_WORDS : RECEIVER_RECORD_WORDS) ||
+        !(record->unchecked || takes_check(&at, bytes)) || !takes_end(&at))
+        return "is damaged";
+    problem = receiver_of(words, record);
+    return problem != NULL ? problem : unchecked_problem(folder, record->unchecked);
 }
 
-const char *read_receiver_live(const char *folder, receiver_record *record,
-                               receiver_counts *counts)
+static int takes_receiver_counts(const char **at, receiver_counts *counts)
+{
+    uint64_t counted[COUNT_WORDS];
+
+    if (!takes_words(at, count_names, counted, COUNT_WORDS))
+        return 0;
+    counts->circuits = counted[0];
+    counts->blocks = counted[1];
+    counts->refused = counted[2];
+    counts->last_refused = counted[3];
+    counts->rejected = counted[4];
+    counts->refused_since = counted[5];
+    counts->rejected_since = counted[6];
+    counts->called = counted[7];
+    counts->called_at = counted[8];
+    counts->cleared = counted[9];
+    return 1;
+}
+
+const char *read_receiver_live(const char *folder, receiver_record *record, receiver_counts *counts,
+                               running_details *running)
 {
     char bytes[RECORD_LENGTH + 1];
-    const char *problem = read_text(folder, "live", bytes);
+    const char *at = bytes, *problem = read_text(folder, "live", bytes);
+    uint64_t words[RECEIVER_RECORD_WORDS];
 
-    return problem != NULL ? problem : receiver_from(bytes, RECEIVER_LIVE_TITLE, record, counts);
+    if (problem != NULL)
+        return problem;
+    memset(record, 0, sizeof *record);
+    if (!takes(&at, RECEIVER_LIVE_TITLE) || !takes_words(&at, receiver_names, words, RECEIVER_RECORD_WORDS) ||
+        !takes_receiver_counts(&at, counts) || !takes_running(&at, running) || !takes_end(&at))
+        return "is damaged";
+    return receiver_of(words, record);
 }
 
-static void add_receiver(text *to, const char *title, const receiver_record *record)
+static void add_receiver(text *to, const receiver_record *record)
 {
-    const uint64_t words[2] = {record->words[GMV_RECEIVER_EXPECTED], record->stored};
+    const uint64_t words[RECEIVER_RECORD_WORDS] = {record->words[GMV_RECEIVER_EXPECTED], record->stored,
+                                                   record->cleared, record->cleared_after};
 
-    add(to, "%s\n", title);
-    add_words(to, receiver_names, words, 2);
+    add_words(to, receiver_names, words, RECEIVER_RECORD_WORDS);
 }
 
 void store_receiver(const char *folder, const receiver_record *record)
 {
     text made = {"", 0};
 
-    add_receiver(&made, RECEIVER_TITLE, record);
-    add(&made, "end\n");
-    store_durably(folder, "state", made.bytes, made.length);
+    add(&made, "%s2\n", RECEIVER_TITLE);
+    add_receiver(&made, record);
+    store_text(folder, &made);
 }
 
-void show_receiver(const char *folder, const receiver_record *record,
-                   const receiver_counts *counts)
+void show_receiver(const char *folder, const receiver_record *record, const receiver_counts *counts,
+                   const running_details *running)
 {
     const uint64_t counted[COUNT_WORDS] = {counts->circuits, counts->blocks, counts->refused,
-                                           counts->last_refused, counts->rejected,
-                                           counts->circuit_open};
+                                           counts->last_refused, counts->rejected, counts->refused_since,
+                                           counts->rejected_since, counts->called, counts->called_at,
+                                           counts->cleared};
     text made = {"", 0};
 
-    add_receiver(&made, RECEIVER_LIVE_TITLE, record);
+    add(&made, "%s", RECEIVER_LIVE_TITLE);
+    add_receiver(&made, record);
     add_words(&made, count_names, counted, COUNT_WORDS);
+    add_running(&made, running);
     add(&made, "end\n");
     store_lightly(folder, "live", made.bytes, made.length);
 }

@@ -4,16 +4,16 @@
 #include <stdio.h>
 #include <stdlib.h>
 #include <string.h>
-#include <time.h>
 #include <unistd.h>
 
 #include "common.h"
 #include "ends.h"
 #include "line.h"
 #include "link_calls.h"
+#include "log.h"
 #include "records.h"
+#include "said.h"
 #include "spool.h"
-#include "status.h"
 #include "store.h"
 
 enum { SPOOL_INTERVAL = 50 /* milliseconds between two looks at an empty spool */, PART = 4096 };
@@ -28,6 +28,8 @@ typedef struct {
     uint64_t persisted[GMV_SENDER_PERSISTED_WORDS]; /* and what of it is persisted */
     uint64_t report[GMV_ACT_WORDS];
     sender_counts counts;
+    running_details running;
+    int changed;                       /* since the read-out was written */
     uint64_t named, named_number;      /* the send that was named last and is not begun yet */
     char waited[FREEZE_TEXT];          /* what the send that was named last is of: -1, 0 or a number */
     uint8_t *block;                    /* the block that is going out */
@@ -41,12 +43,6 @@ typedef struct {
 
 static void persist(sending_end *end)
 {
-#ifdef GMV_FAULT_DELIVERED_TOO_EARLY
-    sender_record early = end->record;
-    early.words[GMV_SENDER_DELIVERED] += early.words[GMV_SENDER_WAITING] == GMV_WAITING_TRANSACTION;
-    store_sender(end->folder, &early);
-    return;
-#endif
     if (memcmp(end->persisted, end->record.words, sizeof end->persisted) == 0)
         return;
     store_sender(end->folder, &end->record);
@@ -75,9 +71,9 @@ static void name_send(sending_end *end)
 }
 
 /* The circuit is over: sends named and not written are dropped, also a block that is half written. */
-static void drop_circuit(sending_end *end)
+static void drop_circuit(sending_end *end, int hung_up)
 {
-    line_close(&end->line);
+    line_close(&end->line, hung_up);
     end->named = GMV_SEND_NOTHING;
     end->block_length = end->block_written = 0;
     end->timer = LLONG_MAX;
@@ -87,8 +83,23 @@ static void drop_circuit(sending_end *end)
 static void note_give_up(sending_end *end)
 {
     end->counts.given_up++;
+    end->counts.given_up_since++;
     line_pause(&end->line, end->link->timer < MOST_PAUSE ? end->link->timer : MOST_PAUSE);
     say_gave_up(end->waited, end->report[GMV_ACT_SENDS]);
+}
+
+/* What the operator is told counts from the last delivery on, or since nothing waited. */
+static void count_act(sending_end *end)
+{
+    const uint64_t event = end->report[GMV_ACT_EVENT], refused = end->report[GMV_ACT_BLOCK];
+
+    if (event == GMV_EVENT_DELIVERED || end->record.words[GMV_SENDER_WAITING] == GMV_WAITING_IDLE)
+        end->counts.given_up_since = end->counts.refused_since = end->counts.dropped_since = 0;
+    end->counts.dropped_since += event == GMV_EVENT_DROPPED;
+    if (refused != GMV_OK) {
+        end->counts.refused_since++;
+        end->counts.last_refused = refused;
+    }
 }
 
 static void write_out(sending_end *end);
@@ -97,21 +108,15 @@ static void write_out(sending_end *end);
 static void after_act(sending_end *end, uint64_t number, const char *function)
 {
     require_done(number, function);
-#ifdef GMV_FAULT_SEND_BEFORE_STORING
-    const struct timespec while_broken = {0, 20000000};
-    name_send(end);
-    write_out(end);
-    end->report[GMV_ACT_SEND] = GMV_SEND_NOTHING;
-    nanosleep(&while_broken, NULL);
-#endif
     persist(end);
     name_send(end);
     if (end->report[GMV_ACT_EVENT] == GMV_EVENT_ABANDONED ||
         end->report[GMV_ACT_EVENT] == GMV_EVENT_FROZE)
-        drop_circuit(end); /* the library has ended it already */
+        drop_circuit(end, 0); /* the library has ended it already */
     if (end->report[GMV_ACT_EVENT] == GMV_EVENT_ABANDONED)
         note_give_up(end);
-    show_sender(end->folder, &end->record, end->report, &end->counts);
+    count_act(end);
+    end->changed = 1;
     write_out(end);
 }
 
@@ -148,7 +153,7 @@ static int has_output(const sending_end *end)
 
 static void circuit_ended(sending_end *end)
 {
-    drop_circuit(end);
+    drop_circuit(end, 1);
     after_act(end, gmv_sender_ended(end->record.words, GMV_SENDER_WORDS, end->report, GMV_ACT_WORDS),
               "gmv_sender_ended");
 }
@@ -207,10 +212,13 @@ static void hear_block(sending_end *end)
 
     if (number == GMV_OK && end->report[GMV_ACT_EVENT] == GMV_EVENT_FROZE)
         note_freeze(end, data, length);
+    if (end->input.verdict[GMV_VERDICT_NUMBER] == GMV_OK)
+        line_answered(&end->line);
     after_act(end, number, "gmv_sender_block");
 }
 
-/* Each block is acted on, and what it changed persisted, before the next one is looked at. */
+/* Each block is acted on, and what it changed persisted, before the next one is looked at. What was read and
+ * not looked at goes with its circuit. */
 static void read_in(sending_end *end)
 {
     uint8_t part[PART];
@@ -221,10 +229,12 @@ static void read_in(sending_end *end)
         circuit_ended(end);
         return;
     }
-    while (used < (size_t)length && end->line.circuit >= 0) {
+    while (used < (size_t)length && end->line.circuit >= 0 && !stop_requested()) {
         used += input_take(&end->input, end->link, part + used, (size_t)length - used);
         if (end->input.verdict[GMV_VERDICT_FOUND] == 1)
             hear_block(end);
+        if (line_is_called(&end->line))
+            circuit_ended(end);
     }
 }
 
@@ -254,17 +264,17 @@ static int was_submitted(sending_end *end, size_t length)
  * only then the spool's file goes. Returns 1 where the spool had a file. */
 static int submit_next(sending_end *end)
 {
-    char name[SPOOL_NAME];
+    spool_file file;
     uint64_t number;
     ssize_t length;
 
-    if (!spool_first(end->folder, name))
+    if (!spool_first(end->folder, &file))
         return 0;
-    length = spool_read(end->folder, name, end->message, end->message_size);
+    length = spool_read(end->folder, &file, end->message, end->message_size);
     if (length < 0)
         return 1;
     if (was_submitted(end, (size_t)length)) {
-        spool_remove(end->folder, name);
+        spool_remove(end->folder, &file);
         return 1;
     }
     number = gmv_sender_submit(end->link->data_limit, end->message, (size_t)length,
@@ -273,13 +283,13 @@ static int submit_next(sending_end *end)
     case GMV_OK:
         log_store(end->folder, end->record.words[GMV_SENDER_LAST], end->message, (size_t)length);
         after_act(end, number, "gmv_sender_submit");
-        spool_remove(end->folder, name);
+        spool_remove(end->folder, &file);
         break;
     case GMV_LONG:
     case GMV_BYTE:
     case GMV_HEAD:
     case GMV_NUMBER:
-        spool_refuse(end->folder, name, number);
+        spool_refuse(end->folder, &file, number);
         break;
     default:
         require_done(number, "gmv_sender_submit");
@@ -289,24 +299,61 @@ static int submit_next(sending_end *end)
 
 /* ---- the loop */
 
+/* A message beyond the one that a crash may leave says that the state is an old one. */
+static void require_nothing_beyond(const sending_end *end, const char *log)
+{
+    const uint64_t greatest = greatest_number(log);
+
+    if (greatest > end->record.words[GMV_SENDER_LAST] + 1)
+        fail("%s/%llu.hl7 is there, and the state counts up to %llu: nothing is written over", log,
+             (unsigned long long)greatest, (unsigned long long)end->record.words[GMV_SENDER_LAST]);
+}
+
+/* What is found may be no more than visible, where a crash came before its sync. It is made durable before
+ * anything rests on it: the folder is synced, and the state written anew. */
+static void make_durable(const sending_end *end, const char *log)
+{
+    sync_folder(log);
+    store_sender(end->folder, &end->record);
+    require_checks(end->folder);
+}
+
 static void begin(sending_end *end, const char *folder, const settings *link)
 {
+    char log[PATH_LENGTH];
     const char *problem;
 
     memset(end, 0, sizeof *end);
     end->folder = folder;
     end->link = link;
+    path_of(log, folder, "log");
     problem = read_sender(folder, &end->record);
     if (problem != NULL)
         fail("%s/state %s", folder, problem);
+    require_nothing_beyond(end, log);
+    make_durable(end, log);
     memcpy(end->persisted, end->record.words, sizeof end->persisted);
+    end->running.process = (uint64_t)getpid();
+    settings_text(link, end->running.settings, RUNNING_TEXT);
+    end->changed = 1;
     end->block_size = link->data_limit + BLOCK_OVERHEAD;
     end->block = allocate(end->block_size);
     end->message_size = link->data_limit + 1; /* one more, so that a longer message is seen */
     end->message = allocate(end->message_size);
     input_allocate(&end->input, link);
     end->timer = LLONG_MAX;
-    show_sender(folder, &end->record, end->report, &end->counts);
+}
+
+/* Once a turn is enough, and without anything new once a second: then it is seen that the driver turns. */
+static void show(sending_end *end)
+{
+    if (!end->changed && now() < (long long)end->running.turned + BEAT)
+        return;
+    end->counts.hung_up = end->line.hung_up;
+    line_show(&end->line, &end->running);
+    show_sender(end->folder, &end->record, end->report, &end->counts, &end->running);
+    end->changed = 0;
+    say_repeats(0);
 }
 
 /* A new circuit: a fresh reader, and the library names -1 or 0. */
@@ -329,11 +376,6 @@ static void run_timer(sending_end *end)
               "gmv_sender_timer");
 }
 
-static long long earliest(long long a, long long b)
-{
-    return a < b ? a : b;
-}
-
 /* One turn. What came in is read before the timer is looked at: an answer that is there counts. */
 static void turn(sending_end *end)
 {
@@ -343,6 +385,7 @@ static void turn(sending_end *end)
     open_circuit(end);
     if (now() >= end->next_look && !submit_next(end))
         end->next_look = now() + SPOOL_INTERVAL;
+    show(end);
     until = earliest(end->next_look, earliest(end->timer, line_next_try(&end->line)));
     seen = line_wait(&end->line, has_output(end), until);
     if (seen & LINE_WRITABLE)
@@ -357,13 +400,15 @@ static void stay_frozen(sending_end *end)
 {
     line_finish(&end->line);
     say_froze(&end->record);
-    while (!stop_requested())
-        line_wait(&end->line, 0, LLONG_MAX);
+    while (!stop_requested()) {
+        show(end);
+        line_wait(&end->line, 0, now() + BEAT);
+    }
 }
 
 static void require_sender(const char *folder)
 {
-    if (folder_is_missing(folder))
+    if (is_missing(folder))
         fail("no such end: make it with gmv_driver sender-init %s FIRST", folder);
 }
 
@@ -376,11 +421,13 @@ void sender_run(const char *folder, const settings *link)
         fail("a driver runs on %s already", folder);
     begin(&end, folder, link);
     line_prepare(&end.line, link);
+    say_started(end.running.settings);
     while (!stop_requested() && end.record.words[GMV_SENDER_FROZEN] == 0)
         turn(&end);
     if (end.record.words[GMV_SENDER_FROZEN] == 1)
         stay_frozen(&end);
     line_finish(&end.line);
+    say_stopped();
     free(end.block);
     free(end.message);
     free(end.input.buffer);
@@ -408,10 +455,13 @@ void sender_create(const char *folder, const char *first)
     for (size_t i = 0; i < sizeof parts / sizeof parts[0]; i++) {
         path_of(path, folder, parts[i]);
         make_folder(path);
+        sync_folder(path);
     }
     path_of(path, folder, "..");
     sync_folder(path);
+    sync_folder(folder); /* no state without its folders */
     store_sender(folder, &record);
+    require_checks(folder);
 }
 
 void sender_reset(const char *folder)
@@ -431,4 +481,5 @@ void sender_reset(const char *folder)
         fail("the sender of %s is not frozen", folder);
     require_done(number, "gmv_sender_reset");
     store_sender(folder, &record);
+    require_checks(folder);
 }

@@ -1,6 +1,7 @@
 #include "settings.h"
 
 #include <errno.h>
+#include <stdio.h>
 #include <stdlib.h>
 #include <string.h>
 
@@ -49,13 +50,14 @@ static int application_of(settings *link, const char *value)
     return 0;
 }
 
-static int timer_of(settings *link, const char *value)
+/* A time of at least 1, in the unit of its option. */
+static int time_of(long *time, const char *value, uint64_t most)
 {
     uint64_t number;
 
-    if (number_of(value, 86400000, &number) != 0 || number == 0)
+    if (number_of(value, most, &number) != 0 || number == 0)
         return -1;
-    link->timer = (long)number;
+    *time = (long)number;
     return 0;
 }
 
@@ -64,7 +66,9 @@ static int option_of(settings *link, const char *option, const char *value)
     if (strcmp(option, "--data-limit") == 0)
         return number_of(value, UINT64_MAX, &link->data_limit);
     if (strcmp(option, "--timer") == 0)
-        return timer_of(link, value);
+        return time_of(&link->timer, value, 86400000);
+    if (strcmp(option, "--keepalive") == 0)
+        return time_of(&link->keepalive, value, 32767);
     if (strcmp(option, "--resends") == 0)
         return number_of(value, UINT64_MAX, &link->resends);
     if (strcmp(option, "--start-block") == 0)
@@ -82,14 +86,29 @@ static int option_of(settings *link, const char *option, const char *value)
 
 int settings_read(settings *link, int count, char **words)
 {
-    const settings defaults = {NO_LINE, 0, NULL, 0x0B, 0x1C, 4096, GMV_RESENDS_DEFAULT,
-                               GMV_CODE_AA, 2000, (const uint8_t *)"ADT"};
+    const settings defaults = {NO_LINE, 0, NULL, GMV_START_BLOCK_DEFAULT, GMV_END_BLOCK_DEFAULT, 4096,
+                               GMV_RESENDS_DEFAULT, GMV_CODE_AA, 2000, 30, (const uint8_t *)"ADT"};
 
     *link = defaults;
     for (int i = 0; i < count; i += 2)
         if (i + 1 >= count || option_of(link, words[i], words[i + 1]) != 0)
             return -1;
     return link->kind == NO_LINE ? -1 : 0;
+}
+
+/* An operator compares this with the link's sheet. */
+void settings_text(const settings *link, char *text, size_t size)
+{
+    static const char *const kinds[] = {"no line", "minimal-connect", "minimal-listen", "hybrid-tty"};
+    int length = snprintf(
+        text, size, "%s %.100s, data limit %llu, timer %ld, resends %llu, type %.3s, application %s",
+        kinds[link->kind], link->address, (unsigned long long)link->data_limit, link->timer,
+        (unsigned long long)link->resends, (const char *)link->type,
+        link->application == GMV_CODE_AA ? "AA" : "AE");
+
+    if (link->hybrid && length > 0 && (size_t)length < size)
+        snprintf(text + length, size - (size_t)length, ", start block %llu, end block %llu",
+                 (unsigned long long)link->start_block, (unsigned long long)link->end_block);
 }
 
 /* Acts on things that need no line, made for their check of the settings alone. */

@@ -8,7 +8,7 @@
 #include <unistd.h>
 
 #include "common.h"
-#include "status.h"
+#include "said.h"
 #include "store.h"
 
 static int is_file(const char *path)
@@ -19,7 +19,7 @@ static int is_file(const char *path)
 }
 
 /* Names that begin with a dot are of files that are not there yet. */
-int spool_first(const char *folder, char *name)
+int spool_first(const char *folder, spool_file *file)
 {
     char spool[PATH_LENGTH], path[PATH_LENGTH];
     struct dirent *entry;
@@ -33,12 +33,12 @@ int spool_first(const char *folder, char *name)
     while ((entry = readdir(entries)) != NULL) {
         if (entry->d_name[0] == '.' || strlen(entry->d_name) >= SPOOL_NAME)
             continue;
-        if (found && strcmp(entry->d_name, name) >= 0)
+        if (found && strcmp(entry->d_name, file->name) >= 0)
             continue;
         path_of(path, spool, entry->d_name);
         if (!is_file(path))
             continue;
-        strcpy(name, entry->d_name);
+        strcpy(file->name, entry->d_name);
         found = 1;
     }
     closedir(entries);
@@ -53,71 +53,78 @@ static void spool_path(char *path, const char *folder, const char *name)
     path_of(path, spool, name);
 }
 
-static ssize_t read_or_miss(const char *path, uint8_t *message, size_t size)
-{
-    ssize_t length = read_file(path, message, size);
-
-    if (length < 0 && errno != ENOENT)
-        fail("cannot read %s: %s", path, strerror(errno));
-    return length;
-}
-
-ssize_t spool_read(const char *folder, const char *name, uint8_t *message, size_t size)
+/* Looked at before it is read: where another one is put in its place between the two, that one stays. */
+ssize_t spool_read(const char *folder, spool_file *file, uint8_t *message, size_t size)
 {
     char path[PATH_LENGTH];
 
-    spool_path(path, folder, name);
+    spool_path(path, folder, file->name);
+    if (stat(path, &file->seen) != 0)
+        memset(&file->seen, 0, sizeof file->seen);
     return read_or_miss(path, message, size);
 }
 
-void spool_remove(const char *folder, const char *name)
+/* A second name is no change of the file. */
+static int is_seen_file(const char *path, const struct stat *seen)
+{
+    struct stat status;
+
+    return stat(path, &status) == 0 && status.st_dev == seen->st_dev && status.st_ino == seen->st_ino &&
+           status.st_size == seen->st_size && status.st_mtim.tv_sec == seen->st_mtim.tv_sec &&
+           status.st_mtim.tv_nsec == seen->st_mtim.tv_nsec;
+}
+
+void spool_remove(const char *folder, const spool_file *file)
 {
     char path[PATH_LENGTH];
 
-    spool_path(path, folder, name);
-    if (unlink(path) != 0 && errno != ENOENT)
+    spool_path(path, folder, file->name);
+    if (is_seen_file(path, &file->seen) && unlink(path) != 0 && errno != ENOENT)
         fail("cannot remove %s: %s", path, strerror(errno));
 }
 
-/* An earlier refused file of the same name stays: link does not replace, rename would. */
-void spool_refuse(const char *folder, const char *name, uint64_t number)
+/* Gives the file a second name in refused/: N-NAME, and N-NAME.1 and so on where there is another file of that
+ * name. A name that gets too long by it loses its last bytes. Returns -1 where the host took the file back. */
+static int link_refused(const char *folder, const char *path, const spool_file *file, uint64_t number, char *refused)
 {
-    char path[PATH_LENGTH], refused[PATH_LENGTH], refused_name[SPOOL_NAME + 64];
-    int made = -1;
+    char refused_name[SPOOL_NAME + 64], copy_text[32] = "";
+    size_t kept = strlen(file->name);
 
-    spool_path(path, folder, name);
-    for (int copy = 0; made != 0; copy++) {
-        snprintf(refused_name, sizeof refused_name, copy == 0 ? "refused/%d-%s" : "refused/%d-%s.%d",
-                 (int)number, name, copy);
+    for (int copy = 0;;) {
+        snprintf(refused_name, sizeof refused_name, "refused/%d-%.*s%s", (int)number, (int)kept, file->name,
+                 copy_text);
         path_of(refused, folder, refused_name);
-        made = link(path, refused);
-        if (made != 0 && errno != EEXIST)
+        if (link(path, refused) == 0)
+            return 0;
+        if (errno == EEXIST && is_seen_file(refused, &file->seen))
+            return 0; /* a crash came before the spool's name went */
+        if (errno == ENOENT && is_missing(path))
+            return -1;
+        if (errno == EEXIST)
+            snprintf(copy_text, sizeof copy_text, ".%d", ++copy);
+        else if (errno == ENAMETOOLONG && kept > 0)
+            kept--;
+        else
             fail("cannot move %s to %s: %s", path, refused, strerror(errno));
     }
-    spool_remove(folder, name);
-    say_refused_file(name, number);
 }
 
-static void log_name(char *name, uint64_t number)
+/* The new name survives a power cut before the old one goes. A file that the host put there after this one was
+ * read stays in the spool. */
+void spool_refuse(const char *folder, const spool_file *file, uint64_t number)
 {
-    snprintf(name, LOG_NAME, "%llu.hl7", (unsigned long long)number);
-}
+    char path[PATH_LENGTH], refused[PATH_LENGTH], refused_folder[PATH_LENGTH];
 
-void log_store(const char *folder, uint64_t number, const uint8_t *message, size_t length)
-{
-    char log[PATH_LENGTH], name[LOG_NAME];
-
-    path_of(log, folder, "log");
-    log_name(name, number);
-    store_durably(log, name, message, length);
-}
-
-ssize_t log_read(const char *folder, uint64_t number, uint8_t *message, size_t size)
-{
-    char log[PATH_LENGTH], path[PATH_LENGTH], name[LOG_NAME];
-
-    path_of(log, folder, "log");
-    log_name(name, number);
-    path_of(path, log, name);
-    return read_or_miss(path, message, size);
+    spool_path(path, folder, file->name);
+    path_of(refused_folder, folder, "refused");
+    if (link_refused(folder, path, file, number, refused) != 0)
+        return;
+    if (!is_seen_file(refused, &file->seen)) {
+        unlink(refused);
+        return;
+    }
+    sync_file(refused);
+    sync_folder(refused_folder);
+    spool_remove(folder, file);
+    say_refused_file(file->name, number);
 }

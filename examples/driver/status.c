@@ -1,13 +1,38 @@
 #include "status.h"
 
-/* Every sentence of the read-out, and then of a running driver. The values follow in the order in which
- * they are named. */
+#include <stdarg.h>
+#include <string.h>
+
+#include "common.h"
+
+/* Every sentence of the read-out. The values follow in the order in which they are named. First the reasons of the
+ * verdict, which stand in the first line. */
+#define R_FROZEN "frozen: do not reset before the books are compared"
+#define R_NO_DRIVER "no driver runs"
+#define R_STARTS "the driver is starting"
+#define R_UNKNOWN "it cannot be told whether a driver runs"
+#define R_HANGS "the driver has not turned for %llu s"
+#define R_NO_CIRCUIT "no circuit for %llu s: %s"
+#define R_GAVE_UP "gave up %s since the last delivery"
+#define R_HUNG_UP "%s ended without an answer"
+#define R_ANSWERS_REFUSED "%s refused since the last delivery, the last by %llu: %s"
+#define R_DROPPED "%s to something else since the last delivery"
+#define R_REFUSED_FILES "%s refused"
+#define R_OLD "the oldest of %llu not delivered waits for %llu s"
+#define R_NO_NUMBER "no number is left"
+#define R_UNCHECKED "the state has no check yet"
+#define R_BLOCKS_REFUSED "%s refused since the last transaction, the last by %llu: %s"
+#define R_REJECTED "%s answered AR since the last transaction"
+#define R_CALLED "%s ended by a new caller"
+#define R_CLEARED "-1 took the expected number %llu away after %s"
+#define R_BEYOND "a file at position %llu, and %s stored"
+
 #define FROZEN \
     "sender: frozen: waited on %s and got %s %s for control ID %s; an operator must reset it\n"
 #define NO_CIRCUIT "sender: no circuit open\n"
 #define NO_DRIVER "sender: no driver runs on this folder, no circuit open\n"
 #define STARTS "sender: the driver is starting, no circuit open\n"
-#define UNKNOWN "sender: it cannot be told whether a driver runs on this folder\n"
+#define SENDER_UNKNOWN "sender: it cannot be told whether a driver runs on this folder\n"
 #define IDLE "sender: a circuit is open and nothing waits\n"
 #define WAITS_RESYNCHRONIZE \
     "sender: waiting for the answer to -1 (resynchronizing), sent %s on this circuit\n"
@@ -17,12 +42,14 @@
     "sender: waiting for the answer to transaction %llu, sent %s on this circuit\n"
 #define NONE_DELIVERED "nothing delivered yet (first number %llu)\n"
 #define DELIVERED "delivered up to %llu (first number %llu)\n"
-#define UNACKNOWLEDGED "%llu submitted and not yet acknowledged\n"
+#define NOT_DELIVERED "%llu not delivered: %llu submitted, %llu in spool/, %llu in refused/\n"
+#define NOT_DELIVERED_SINCE \
+    "%llu not delivered: %llu submitted, %llu in spool/, %llu in refused/, the oldest for %llu s\n"
+#define EMPTY_FILES "%s refused, see refused/\n"
 #define NEXT_NUMBER "the next number to submit is %llu\n"
 #define NO_NUMBER "no number is left to submit\n"
 #define RESYNCHRONIZED "resynchronized with the receiver\n"
 #define NOT_RESYNCHRONIZED "not yet resynchronized with the receiver\n"
-#define REFUSED_FILES "%s refused, see refused/\n"
 #define CIRCUITS "%s opened since the driver started, gave up %s\n"
 #define ACT_DELIVERED "last act: %llu is delivered, %s\n"
 #define ACT_ABANDONED "last act: gave up after %s, the circuit ended\n"
@@ -31,6 +58,7 @@
 #define EXPECTS "receiver: expects %llu, %s stored\n"
 #define EXPECTS_ANY \
     "receiver: expects any number (nothing stored since it was resynchronized), %s stored\n"
+#define CLEARED "the last -1 took the expected number %llu away, after %s\n"
 #define RECEIVER_NO_DRIVER "no driver runs on this folder\n"
 #define RECEIVER_STARTS "the driver is starting, no circuit open\n"
 #define RECEIVER_UNKNOWN "it cannot be told whether a driver runs on this folder\n"
@@ -38,19 +66,26 @@
 #define RECEIVER_NO_CIRCUIT "no circuit open\n"
 #define BLOCKS "%s read on %s since the driver started, %llu refused, %llu answered AR\n"
 #define LAST_REFUSED "the last refused block was refused by %llu (%s)\n"
+#define TURNED "process %llu, last turned %llu s ago\n"
+#define SETTINGS "settings: %s\n"
+#define PEER "peer: %s\n"
+#define NO_PEER "no peer: %s\n"
 
-#define DRIVER "gmv_driver: "
-#define GAVE_UP "gmv_driver: waited on %s and gave up after %s, the circuit ended\n"
-#define REFUSED_FILE "gmv_driver: %s is refused by %llu\n"
-#define NEW_CALLER "gmv_driver: a new caller ended the circuit\n"
+/* Seconds after which a driver that does not turn, or a link without a circuit, is no passing thing; and after
+ * which somebody waits for a result that is not delivered. */
+enum { PASSING = 10, LATE = 60, TOO_LATE = 300 };
+/* As often as this one after the other, it is no passing thing either. */
+enum { TWICE = 2, OFTEN = 3 };
 
-enum { COUNTED = 48 };
-
-/* "1 time", "2 times". */
-static const char *counted(char *words, uint64_t count, const char *one, const char *more)
+const char *counted(char *words, uint64_t count, const char *one, const char *more)
 {
     snprintf(words, COUNTED, "%llu %s", (unsigned long long)count, count == 1 ? one : more);
     return words;
+}
+
+const char *or_nothing(const char *field, const char *otherwise)
+{
+    return field[0] == '\0' ? otherwise : field;
 }
 
 /* Why a block is refused. */
@@ -64,10 +99,143 @@ static const char *block_words(uint64_t number)
     return number < sizeof words / sizeof words[0] ? words[number] : "unknown";
 }
 
-static const char *or_nothing(const char *field, const char *otherwise)
+/* Seconds since a time of now(). */
+static unsigned long long seconds_since(uint64_t then)
 {
-    return field[0] == '\0' ? otherwise : field;
+    const long long passed = now() - (long long)then;
+
+    return passed < 0 ? 0 : (unsigned long long)passed / 1000;
 }
+
+/* ---- the verdict */
+
+void add_reason(verdict *verdict, enum severity severity, const char *format, ...)
+{
+    const size_t length = strlen(verdict->reasons);
+    va_list values;
+
+    va_start(values, format);
+    if (length + 2 < REASONS) {
+        strcpy(verdict->reasons + length, length == 0 ? "" : "; ");
+        vsnprintf(verdict->reasons + strlen(verdict->reasons), REASONS - strlen(verdict->reasons), format,
+                  values);
+    }
+    va_end(values);
+    if (severity > verdict->severity)
+        verdict->severity = severity;
+}
+
+void say_verdict(FILE *out, const verdict *verdict)
+{
+    static const char *const names[] = {"good", "warning", "critical", "unknown"};
+
+    fprintf(out, "%s%s%s\n", names[verdict->severity], verdict->reasons[0] == '\0' ? "" : ": ",
+            verdict->reasons);
+}
+
+/* What holds of every running driver. */
+static void judge_running(verdict *verdict, enum presence presence, const running_details *running)
+{
+    if (presence == DRIVER_STOPPED)
+        add_reason(verdict, CRITICAL, R_NO_DRIVER);
+    else if (presence == DRIVER_STARTS)
+        add_reason(verdict, WARNING, R_STARTS);
+    else if (presence == DRIVER_UNKNOWN)
+        add_reason(verdict, UNKNOWN, R_UNKNOWN);
+    else if (seconds_since(running->turned) >= PASSING)
+        add_reason(verdict, CRITICAL, R_HANGS, seconds_since(running->turned));
+}
+
+static void judge_circuit(verdict *verdict, enum presence presence, const running_details *running)
+{
+    if (presence == DRIVER_RUNS && !running->circuit_open && seconds_since(running->since) >= PASSING)
+        add_reason(verdict, WARNING, R_NO_CIRCUIT, seconds_since(running->since), running->peer);
+}
+
+static void judge_answers(verdict *verdict, const sender_counts *counts)
+{
+    char words[COUNTED];
+
+    if (counts->given_up_since != 0)
+        add_reason(verdict, WARNING, R_GAVE_UP, counted(words, counts->given_up_since, "time", "times"));
+    if (counts->hung_up >= OFTEN)
+        add_reason(verdict, WARNING, R_HUNG_UP, counted(words, counts->hung_up, "circuit", "circuits"));
+    if (counts->refused_since >= TWICE)
+        add_reason(verdict, WARNING, R_ANSWERS_REFUSED,
+                   counted(words, counts->refused_since, "answer", "answers"),
+                   (unsigned long long)counts->last_refused, block_words(counts->last_refused));
+    if (counts->dropped_since >= TWICE)
+        add_reason(verdict, WARNING, R_DROPPED, counted(words, counts->dropped_since, "answer", "answers"));
+}
+
+static uint64_t not_delivered(const undelivered *all)
+{
+    return all->waiting + all->spool.files + all->refused.files;
+}
+
+static void judge_undelivered(verdict *verdict, const undelivered *all)
+{
+    char files[COUNTED];
+
+    if (all->refused.files != 0)
+        add_reason(verdict, WARNING, R_REFUSED_FILES, counted(files, all->refused.files, "file", "files"));
+    if (not_delivered(all) != 0 && all->age >= LATE)
+        add_reason(verdict, all->age >= TOO_LATE ? CRITICAL : WARNING, R_OLD,
+                   (unsigned long long)not_delivered(all), (unsigned long long)all->age);
+}
+
+void judge_sender(verdict *verdict, const sender_status *status)
+{
+    const int frozen = status->record.words[GMV_SENDER_FROZEN] == 1;
+
+    if (frozen)
+        add_reason(verdict, CRITICAL, R_FROZEN);
+    judge_running(verdict, status->presence, &status->running);
+    if (!frozen)
+        judge_circuit(verdict, status->presence, &status->running);
+    if (status->presence == DRIVER_RUNS)
+        judge_answers(verdict, &status->counts);
+    judge_undelivered(verdict, &status->undelivered);
+    if (status->record.words[GMV_SENDER_LAST] >= GMV_LARGEST_NUMBER)
+        add_reason(verdict, WARNING, R_NO_NUMBER);
+    if (status->record.unchecked)
+        add_reason(verdict, WARNING, R_UNCHECKED);
+}
+
+static void judge_requests(verdict *verdict, const receiver_status *status)
+{
+    const receiver_counts *counts = &status->counts;
+    char words[COUNTED];
+
+    if (counts->refused_since >= TWICE)
+        add_reason(verdict, WARNING, R_BLOCKS_REFUSED,
+                   counted(words, counts->refused_since, "block", "blocks"),
+                   (unsigned long long)counts->last_refused, block_words(counts->last_refused));
+    if (counts->rejected_since >= TWICE)
+        add_reason(verdict, WARNING, R_REJECTED, counted(words, counts->rejected_since, "request", "requests"));
+    if (counts->called >= TWICE && seconds_since(counts->called_at) < TOO_LATE)
+        add_reason(verdict, WARNING, R_CALLED, counted(words, counts->called, "circuit", "circuits"));
+    if (counts->cleared != 0)
+        add_reason(verdict, WARNING, R_CLEARED, (unsigned long long)status->record.cleared,
+                   counted(words, status->record.cleared_after, "transaction", "transactions"));
+}
+
+void judge_receiver(verdict *verdict, const receiver_status *status)
+{
+    char stored[COUNTED];
+
+    judge_running(verdict, status->presence, &status->running);
+    judge_circuit(verdict, status->presence, &status->running);
+    if (status->presence == DRIVER_RUNS)
+        judge_requests(verdict, status);
+    if (status->greatest > status->record.stored + 1)
+        add_reason(verdict, CRITICAL, R_BEYOND, (unsigned long long)status->greatest,
+                   counted(stored, status->record.stored, "transaction", "transactions"));
+    if (status->record.unchecked)
+        add_reason(verdict, WARNING, R_UNCHECKED);
+}
+
+/* ---- the sender */
 
 static void say_frozen(FILE *out, const freeze_details *freeze)
 {
@@ -92,7 +260,7 @@ static void say_waiting(FILE *out, const uint64_t *words)
         fprintf(out, WAITS_TRANSACTION, (unsigned long long)words[GMV_SENDER_DELIVERED] + 1, sends);
 }
 
-void say_sender_state(FILE *out, const sender_record *record, enum presence presence)
+static void say_sender_state(FILE *out, const sender_record *record, enum presence presence)
 {
     if (record->words[GMV_SENDER_FROZEN] == 1)
         say_frozen(out, &record->freeze);
@@ -101,12 +269,26 @@ void say_sender_state(FILE *out, const sender_record *record, enum presence pres
     else if (presence == DRIVER_STARTS)
         fprintf(out, STARTS);
     else
-        fprintf(out, presence == DRIVER_STOPPED ? NO_DRIVER : UNKNOWN);
+        fprintf(out, presence == DRIVER_STOPPED ? NO_DRIVER : SENDER_UNKNOWN);
 }
 
-void say_sender_numbers(FILE *out, const sender_record *record)
+static void say_undelivered(FILE *out, const undelivered *all)
 {
-    const uint64_t *words = record->words;
+    const unsigned long long count = not_delivered(all), waiting = all->waiting, spool = all->spool.files,
+                             refused = all->refused.files;
+    char files[COUNTED];
+
+    if (count == 0)
+        fprintf(out, NOT_DELIVERED, count, waiting, spool, refused);
+    else
+        fprintf(out, NOT_DELIVERED_SINCE, count, waiting, spool, refused, (unsigned long long)all->age);
+    if (all->refused.empty != 0)
+        fprintf(out, EMPTY_FILES, counted(files, all->refused.empty, "empty file", "empty files"));
+}
+
+static void say_sender_numbers(FILE *out, const sender_status *status)
+{
+    const uint64_t *words = status->record.words;
     const unsigned long long first = words[GMV_SENDER_FIRST], delivered = words[GMV_SENDER_DELIVERED],
                              last = words[GMV_SENDER_LAST];
 
@@ -114,8 +296,8 @@ void say_sender_numbers(FILE *out, const sender_record *record)
         fprintf(out, NONE_DELIVERED, first);
     else
         fprintf(out, DELIVERED, delivered, first);
-    fprintf(out, UNACKNOWLEDGED, last - delivered);
-    if (last < 999999999999998ULL)
+    say_undelivered(out, &status->undelivered);
+    if (last < GMV_LARGEST_NUMBER)
         fprintf(out, NEXT_NUMBER, last + 1);
     else
         fprintf(out, NO_NUMBER);
@@ -139,73 +321,61 @@ static void say_act(FILE *out, const uint64_t *report)
         fprintf(out, ACT_DROPPED);
 }
 
-void say_refused_files(FILE *out, uint64_t count)
+static void say_running(FILE *out, const running_details *running)
 {
-    char files[COUNTED];
-
-    if (count != 0)
-        fprintf(out, REFUSED_FILES, counted(files, count, "file", "files"));
+    fprintf(out, TURNED, (unsigned long long)running->process, seconds_since(running->turned));
+    fprintf(out, SETTINGS, running->settings);
+    fprintf(out, running->circuit_open ? PEER : NO_PEER, running->peer);
 }
 
-void say_sender_live(FILE *out, const uint64_t *report, const sender_counts *counts)
+void say_sender(FILE *out, const sender_status *status)
 {
     char circuits[COUNTED], times[COUNTED];
 
-    fprintf(out, CIRCUITS, counted(circuits, counts->circuits, "circuit", "circuits"),
-            counted(times, counts->given_up, "time", "times"));
-    say_act(out, report);
+    say_sender_state(out, &status->record, status->presence);
+    say_sender_numbers(out, status);
+    if (status->presence != DRIVER_RUNS)
+        return;
+    fprintf(out, CIRCUITS, counted(circuits, status->counts.circuits, "circuit", "circuits"),
+            counted(times, status->counts.given_up, "time", "times"));
+    say_act(out, status->report);
+    say_running(out, &status->running);
 }
 
-static void say_receiver_live(FILE *out, const receiver_counts *counts)
+/* ---- the receiver */
+
+static void say_receiver_live(FILE *out, const receiver_status *status)
 {
+    const receiver_counts *counts = &status->counts;
     char blocks[COUNTED], circuits[COUNTED];
 
-    fprintf(out, counts->circuit_open ? RECEIVER_CIRCUIT : RECEIVER_NO_CIRCUIT);
+    fprintf(out, status->running.circuit_open ? RECEIVER_CIRCUIT : RECEIVER_NO_CIRCUIT);
     fprintf(out, BLOCKS, counted(blocks, counts->blocks, "block", "blocks"),
             counted(circuits, counts->circuits, "circuit", "circuits"),
             (unsigned long long)counts->refused, (unsigned long long)counts->rejected);
     if (counts->refused != 0)
         fprintf(out, LAST_REFUSED, (unsigned long long)counts->last_refused,
                 block_words(counts->last_refused));
+    say_running(out, &status->running);
 }
 
-void say_receiver(FILE *out, const receiver_record *record, enum presence presence,
-                  const receiver_counts *counts)
+void say_receiver(FILE *out, const receiver_status *status)
 {
-    char stored[COUNTED];
-
-    counted(stored, record->stored, "transaction", "transactions");
-    if (record->words[GMV_RECEIVER_EXPECTED] == 0)
-        fprintf(out, EXPECTS_ANY, stored);
-    else
-        fprintf(out, EXPECTS, (unsigned long long)record->words[GMV_RECEIVER_EXPECTED], stored);
-    if (presence == DRIVER_RUNS)
-        say_receiver_live(out, counts);
-    else if (presence == DRIVER_STARTS)
-        fprintf(out, RECEIVER_STARTS);
-    else
-        fprintf(out, presence == DRIVER_STOPPED ? RECEIVER_NO_DRIVER : RECEIVER_UNKNOWN);
-}
-
-void say_gave_up(const char *waited, uint64_t sends)
-{
+    const receiver_record *record = &status->record;
     char words[COUNTED];
 
-    fprintf(stderr, GAVE_UP, waited, counted(words, sends, "send", "sends"));
-}
-
-void say_froze(const sender_record *record)
-{
-    fprintf(stderr, DRIVER);
-    say_frozen(stderr, &record->freeze);
-}
-
-void say_refused_file(const char *name, uint64_t number)
-{
-    fprintf(stderr, REFUSED_FILE, name, (unsigned long long)number);
-}
-
-void say_new_caller(void)
-{
-    fprintf(stderr, NEW_CALLER);
+    counted(words, record->stored, "transaction", "transactions");
+    if (record->words[GMV_RECEIVER_EXPECTED] == 0)
+        fprintf(out, EXPECTS_ANY, words);
+    else
+        fprintf(out, EXPECTS, (unsigned long long)record->words[GMV_RECEIVER_EXPECTED], words);
+    if (record->cleared != 0)
+        fprintf(out, CLEARED, (unsigned long long)record->cleared,
+                counted(words, record->cleared_after, "transaction", "transactions"));
+    if (status->presence == DRIVER_RUNS)
+        say_receiver_live(out, status);
+    else if (status->presence == DRIVER_STARTS)
+        fprintf(out, RECEIVER_STARTS);
+    else
+        fprintf(out, status->presence == DRIVER_STOPPED ? RECEIVER_NO_DRIVER : RECEIVER_UNKNOWN);
 }

@@ -1,30 +1,65 @@
-/* A link's state in plain words, one fact to a line. */
+/* An end's state in plain words: a verdict with its reasons in the first line, then one fact to a line. */
 #ifndef STATUS_H
 #define STATUS_H
 
+#include <stddef.h>
 #include <stdio.h>
 
 #include "records.h"
+#include "store.h"
+
+enum { COUNTED = 48, REASONS = 2048 };
+
+/* "1 time", "2 times". */
+const char *counted(char *words, uint64_t count, const char *one, const char *more);
+const char *or_nothing(const char *field, const char *otherwise);
 
 /* Whether a driver runs on the folder. One that starts has not shown yet what it holds. */
 enum presence { DRIVER_STOPPED, DRIVER_RUNS, DRIVER_STARTS, DRIVER_UNKNOWN };
 
-/* The first line: what the sender is doing. Only of a running driver is said what waits. */
-void say_sender_state(FILE *out, const sender_record *record, enum presence presence);
-void say_sender_numbers(FILE *out, const sender_record *record);
-void say_refused_files(FILE *out, uint64_t count);
+/* As monitoring programs have it, the exit status too. */
+enum severity { GOOD = 0, WARNING = 1, CRITICAL = 2, UNKNOWN = 3 };
 
-/* Of the running driver: its counts and its last act. */
-void say_sender_live(FILE *out, const uint64_t *report, const sender_counts *counts);
+typedef struct {
+    enum severity severity;
+    char reasons[REASONS]; /* of every severity, joined */
+} verdict;
 
-/* counts are those of the running driver; they are not looked at where none runs. */
-void say_receiver(FILE *out, const receiver_record *record, enum presence presence,
-                  const receiver_counts *counts);
+void add_reason(verdict *verdict, enum severity severity, const char *format, ...)
+    __attribute__((format(printf, 3, 4)));
 
-/* What a running driver says on standard error, each in one line. */
-void say_gave_up(const char *waited, uint64_t sends);
-void say_froze(const sender_record *record);
-void say_refused_file(const char *name, uint64_t number);
-void say_new_caller(void);
+/* The first line. */
+void say_verdict(FILE *out, const verdict *verdict);
+
+/* What a sender has not delivered: in the log over the mark, in spool/ and in refused/. */
+typedef struct {
+    uint64_t waiting;
+    folder_summary spool, refused;
+    uint64_t age; /* seconds since the oldest of them was written; 0 where there is none */
+} undelivered;
+
+/* What is known of a sender's folder, and of a receiver's. What only a running driver shows is not looked at
+ * where none runs. */
+typedef struct {
+    enum presence presence;
+    sender_record record;
+    sender_counts counts;
+    running_details running;
+    uint64_t report[GMV_ACT_WORDS];
+    undelivered undelivered;
+} sender_status;
+
+typedef struct {
+    enum presence presence;
+    receiver_record record;
+    receiver_counts counts;
+    running_details running;
+    uint64_t greatest; /* the greatest position of a file of transactions/ */
+} receiver_status;
+
+void say_sender(FILE *out, const sender_status *status);
+void judge_sender(verdict *verdict, const sender_status *status);
+void say_receiver(FILE *out, const receiver_status *status);
+void judge_receiver(verdict *verdict, const receiver_status *status);
 
 #endif

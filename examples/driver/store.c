@@ -5,6 +5,7 @@
 #include <fcntl.h>
 #include <stdint.h>
 #include <stdio.h>
+#include <stdlib.h>
 #include <string.h>
 #include <sys/stat.h>
 #include <unistd.h>
@@ -25,13 +26,28 @@ void make_folder(const char *path)
         fail("cannot make the folder %s: %s", path, strerror(errno));
 }
 
+/* Returns 0 where what it names survives a power cut. */
+static int sync_path(const char *path)
+{
+    int file = open(path, O_RDONLY), synced;
+
+    if (file < 0)
+        return -1;
+    synced = fsync(file);
+    close(file);
+    return synced;
+}
+
 void sync_folder(const char *path)
 {
-    int folder = open(path, O_RDONLY);
-
-    if (folder < 0 || fsync(folder) != 0)
+    if (sync_path(path) != 0)
         fail("cannot sync the folder %s: %s", path, strerror(errno));
-    close(folder);
+}
+
+void sync_file(const char *path)
+{
+    if (sync_path(path) != 0)
+        fail("cannot sync %s: %s", path, strerror(errno));
 }
 
 static int write_all(int file, const uint8_t *bytes, size_t length)
@@ -56,7 +72,10 @@ static void store(const char *folder, const char *name, const void *bytes, size_
 
     path_of(path, folder, name);
     snprintf(new_path, sizeof new_path, "%s.new", path);
-    file = open(new_path, O_WRONLY | O_CREAT | O_TRUNC, 0666);
+    /* a power cut may leave both names to one file: what is there is not written over */
+    if (unlink(new_path) != 0 && errno != ENOENT)
+        fail("cannot remove %s: %s", new_path, strerror(errno));
+    file = open(new_path, O_WRONLY | O_CREAT | O_EXCL, 0666);
     if (file < 0 || write_all(file, bytes, length) != 0)
         fail("cannot write %s: %s", new_path, strerror(errno));
     if (sync && fsync(file) != 0) /* before the name: else the name could survive without the bytes */
@@ -100,21 +119,64 @@ ssize_t read_file(const char *path, void *buffer, size_t size)
     return count < 0 && length < size ? -1 : (ssize_t)length;
 }
 
-long count_files(const char *path)
+ssize_t read_or_miss(const char *path, void *buffer, size_t size)
+{
+    ssize_t length = read_file(path, buffer, size);
+
+    if (length < 0 && errno != ENOENT)
+        fail("cannot read %s: %s", path, strerror(errno));
+    return length;
+}
+
+static void count_file(int folder, const char *name, folder_summary *summary)
+{
+    struct stat status;
+
+    if (name[0] == '.' || fstatat(folder, name, &status, 0) != 0 || !S_ISREG(status.st_mode))
+        return;
+    if (status.st_size == 0) {
+        summary->empty++;
+        return;
+    }
+    if (summary->files == 0 || status.st_mtime < summary->oldest)
+        summary->oldest = status.st_mtime;
+    summary->files++;
+}
+
+int summarize_folder(const char *path, folder_summary *summary)
 {
     DIR *entries = opendir(path);
     struct dirent *entry;
-    long count = 0;
 
+    memset(summary, 0, sizeof *summary);
     if (entries == NULL)
         return errno == ENOENT ? 0 : -1;
     while ((entry = readdir(entries)) != NULL)
-        count += entry->d_name[0] != '.';
+        count_file(dirfd(entries), entry->d_name, summary);
     closedir(entries);
-    return count;
+    return 0;
 }
 
-int folder_is_missing(const char *path)
+uint64_t greatest_number(const char *path)
+{
+    DIR *entries = opendir(path);
+    struct dirent *entry;
+    uint64_t greatest = 0;
+
+    if (entries == NULL)
+        fail("cannot read %s: %s", path, strerror(errno));
+    while ((entry = readdir(entries)) != NULL) {
+        const size_t digits = strspn(entry->d_name, "0123456789");
+        const uint64_t number = strtoull(entry->d_name, NULL, 10);
+
+        if (digits != 0 && strcmp(entry->d_name + digits, ".hl7") == 0 && number > greatest)
+            greatest = number;
+    }
+    closedir(entries);
+    return greatest;
+}
+
+int is_missing(const char *path)
 {
     struct stat status;
 

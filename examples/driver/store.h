@@ -4,7 +4,9 @@
 #define STORE_H
 
 #include <stddef.h>
+#include <stdint.h>
 #include <sys/types.h>
+#include <time.h>
 
 enum { PATH_LENGTH = 4096 };
 
@@ -14,6 +16,7 @@ void path_of(char *path, const char *folder, const char *name);
 /* Makes a folder, which may be there already. */
 void make_folder(const char *path);
 void sync_folder(const char *path);
+void sync_file(const char *path);
 
 /* Returns when the file survives a crash. Ends the program where it cannot be stored. */
 void store_durably(const char *folder, const char *name, const void *bytes, size_t length);
@@ -24,11 +27,24 @@ void store_lightly(const char *folder, const char *name, const void *bytes, size
 /* Reads the first bytes of a file, at most size. Returns how many, or -1 with errno. */
 ssize_t read_file(const char *path, void *buffer, size_t size);
 
-/* How many files a folder has, without those whose names begin with a dot. One that is missing has
- * none. Returns -1 where it cannot be told. */
-long count_files(const char *path);
+/* The same, where the file may be missing: then it returns -1. Ends the program where it cannot be read. */
+ssize_t read_or_miss(const char *path, void *buffer, size_t size);
 
-int folder_is_missing(const char *path);
+/* The files of a folder, without those whose names begin with a dot: how many have bytes, how many are empty,
+ * and when the oldest one with bytes was written. */
+typedef struct {
+    uint64_t files, empty;
+    time_t oldest;
+} folder_summary;
+
+/* A folder that is missing has no files. Returns 0, or -1 where it cannot be told. */
+int summarize_folder(const char *path, folder_summary *summary);
+
+/* The greatest number of a file NUMBER.hl7 of the folder; 0 where there is none. */
+uint64_t greatest_number(const char *path);
+
+/* Whether there is nothing of that name. */
+int is_missing(const char *path);
 
 /* One driver at a time runs on a folder. The lock goes with the process, however that ends. What an
  * earlier driver showed is removed with it. Returns 0, or -1 where another process has it. */

@@ -6,7 +6,7 @@ import random
 import time
 
 from duties import text, wait_for
-from ends import Books, End, hold
+from ends import Books, End, change_state, hold
 from lines import NoLine
 
 MESSAGES = 2
@@ -27,8 +27,7 @@ class Windows:
         for folder, words in zip(folders, (['sender-init', folders[0], '1'], ['receiver-init', folders[1]])):
             os.spawnv(os.P_WAIT, os.path.join(self.programs, 'gmv_driver'), ['gmv_driver'] + words)
             hold(os.path.exists(os.path.join(folder, 'state')), '%s is not made', folder)
-        with open(os.path.join(folders[1], 'state'), 'w', encoding='ascii') as file:
-            file.write('giamuvich receiver 1\nexpected 2\nstored 0\nend\n')
+        change_state(os.path.join(folders[1], 'state'), expected=2)
         lines = (['--minimal-connect', '127.0.0.1:%d' % self.port], ['--minimal-listen', str(self.port)])
         self.ends = [End(self.programs, command, folder, line, OPTIONS)
                      for command, folder, line in zip(('send', 'receive'), folders, lines)]

@@ -10,7 +10,7 @@ import tempfile
 import time
 
 from blocks import Rules, Splitter
-from ends import Books, End, read, read_words
+from ends import Books, End, read, read_words, state_text
 from lines import open_terminal
 from readout import said
 
@@ -25,8 +25,22 @@ def answer(code, control_id, expected):
     return ('MSH|^~\\&|||||||ACK|%s|P|2.3.1\rMSA|%s|%s||%s\r' % (control_id, code, control_id, expected)).encode()
 
 
-def wait_for(fact, seconds=15):
-    limit = time.monotonic() + seconds
+def spoken(end):
+    """What a driver said, without the time of each line; a line without one is shown as it is."""
+    return [re.sub(r'^\d{4}-\d\d-\d\d \d\d:\d\d:\d\d gmv_driver: ', '', line)
+            for line in read(end.folder + '.errors').decode(errors='replace').splitlines()]
+
+
+def happened(end):
+    """The same without its start, its end and calls that nobody answers."""
+    return [line for line in spoken(end) if not re.match('started: |stopped$|cannot call ', line)]
+
+
+PATIENCE = [15]  # seconds until something that must happen is taken for not happening; less where a fault is sought
+
+
+def wait_for(fact, seconds=None):
+    limit = time.monotonic() + min(seconds or PATIENCE[0], PATIENCE[0])
     while not fact() and time.monotonic() < limit:
         time.sleep(0.005)
     return bool(fact())
@@ -44,8 +58,11 @@ class Bench:
 
     def driver(self, *words):
         """Runs a command to its end: the exit status and what it said."""
-        done = subprocess.run([os.path.join(self.programs, 'gmv_driver')] + list(words), timeout=30, check=False,
-                              stdout=subprocess.PIPE, stderr=subprocess.STDOUT, stdin=subprocess.DEVNULL)
+        try:
+            done = subprocess.run([os.path.join(self.programs, 'gmv_driver')] + list(words), timeout=2 * PATIENCE[0],
+                                  check=False, stdout=subprocess.PIPE, stderr=subprocess.STDOUT, stdin=subprocess.DEVNULL)
+        except subprocess.TimeoutExpired:
+            return -1, 'does not end'
         return done.returncode, done.stdout.decode()
 
     def start(self, command, name, line, *options):
@@ -149,14 +166,16 @@ def freezing(bench):
     if peer.block() is not None:
         return 'the circuit does not end with the freezing'
     sentence = 'sender: frozen: waited on 1 and got AR 7 for control ID 1; an operator must reset it'
-    if not wait_for(lambda: said(bench.programs, folder)[0][:1] == [sentence]):
+    if not wait_for(lambda: said(bench.programs, folder)[0][1:2] == [sentence]):
         return 'said is %s' % said(bench.programs, folder)[0]
-    if not wait_for(lambda: end.error_text() == 'gmv_driver: ' + sentence):
+    if said(bench.programs, folder)[1] != 2:
+        return 'a frozen sender is not critical'
+    if not wait_for(lambda: happened(end) == ['froze: waited on 1 and got AR 7 for control ID 1']):
         return 'the driver does not say in one line that it froze: %s' % end.error_text()
     status, words = bench.driver('reset', folder)
     if status != 1 or 'stop it first' not in words:
         return 'reset while it runs: %d %s' % (status, words)
-    if end.finish() != 0 or said(bench.programs, folder)[0][0] != sentence:
+    if end.finish() != 0 or said(bench.programs, folder)[0][1] != sentence:
         return 'the freezing is not persisted'
     bench.put('b', text(2))
     end = bench.start('send', 's', peer.line)
@@ -189,7 +208,7 @@ def late_answers(bench):
     peer.accept()
     if time.monotonic() < gave_up + 0.05:  # 0.3, less what this test itself was late
         return 'called again after %f s' % (time.monotonic() - gave_up)
-    if end.error_text() != 'gmv_driver: waited on -1 and gave up after 3 sends, the circuit ended':
+    if happened(end) != ['waited on -1 and gave up after 3 sends, the circuit ended']:
         return 'giving up is not said: %s' % end.error_text()
     sentence = '2 circuits opened since the driver started, gave up 1 time'
     if not wait_for(lambda: sentence in said(bench.programs, bench.path('s'))[0]):
@@ -213,11 +232,18 @@ def damaged_states(bench):
     """A state that cannot be read or is none stops the driver at once, and nothing is written."""
     sender, receiver = bench.sender(), bench.receiver()
     tries = [(sender, 'send', b'', 'is damaged'), (sender, 'send', None, 'is missing'),
-             (sender, 'send', read(sender, 'state').replace(b'delivered 0', b'delivered 5'), "no sender's state"),
+             (sender, 'send', state_text('giamuvich sender 2', dict(first=1, delivered=5, last=0, resynchronized=0, frozen=0)),
+              "no sender's state"),
+             (sender, 'send', read(sender, 'state').replace(b'last 0', b'last 1'), 'is damaged'),
+             (sender, 'send', b'giamuvich sender 1\nfirst 1\ndelivered 0\nlast 0\nresynchronized 0\nfrozen 0\nend\n',
+              'has lost its check'),
              (sender, 'send', read(receiver, 'state'), 'is damaged'),
              (receiver, 'receive', read(receiver, 'state')[:-1], 'is damaged'),
-             (receiver, 'receive', read(receiver, 'state').replace(b'expected 0', b'expected 1000000000000000'),
-              "no receiver's state"), (receiver, 'receive', None, 'is missing')]
+             (receiver, 'receive', state_text('giamuvich receiver 2', dict(expected=10 ** 15, stored=0, cleared=0,
+                                                                           cleared_after=0)), "no receiver's state"),
+             (receiver, 'receive', read(receiver, 'state').replace(b'stored 0', b'stored 7'), 'is damaged'),
+             (receiver, 'receive', b'giamuvich receiver 1\nexpected 0\nstored 0\nend\n', 'has lost its check'),
+             (receiver, 'receive', None, 'is missing')]
     for folder, command, content, wanted in tries:
         path = os.path.join(folder, 'state')
         if content is None:
@@ -246,7 +272,7 @@ def calling(bench):
     wait_for(lambda: os.path.exists(os.path.join(sender, 'live')))
     tries = [([], 2), (['send'], 2), (['send', sender], 2), (['send', sender] + line + line, 2),
              (['send', sender] + line + ['--timer', '0'], 2), (['send', sender] + line + ['--data-limit'], 2),
-             (receive + ['--application', 'AR'], 2), (receive + ['--type', 'ADTX'], 2),
+             (receive + ['--keepalive', '0'], 2), (receive + ['--application', 'AR'], 2), (receive + ['--type', 'ADTX'], 2),
              (receive + ['--data-limit', '127'], 1), (receive + ['--data-limit', '99995'], 1),
              (receive + ['--resends', '100'], 1), (receive + ['--type', 'Adt'], 1), (terminal, 1),
              (terminal + ['--start-block', '13'], 1), (terminal + ['--end-block', '0x0B'], 1),
@@ -258,11 +284,12 @@ def calling(bench):
         status, told = bench.driver(*words)
         if status != wanted or not told:
             return '%s: %d %s' % (words, status, told)
-    wanted = 'gmv_driver: no such end: make it with gmv_driver %s ' + bench.path('none')
+    wanted = 'no such end: make it with gmv_driver %s ' + bench.path('none')
     for command, init, more in (('send', 'sender-init', ' FIRST'), ('receive', 'receiver-init', ''),
                                 ('reset', 'sender-init', ' FIRST')):
-        told = bench.driver(command, bench.path('none'), *([] if command == 'reset' else line))
-        if told != (1, wanted % init + more + '\n') or os.path.exists(bench.path('none')):
+        status, told = bench.driver(command, bench.path('none'), *([] if command == 'reset' else line))
+        if status != 1 or told.split(' gmv_driver: ')[1:] != [wanted % init + more + '\n'] or \
+                os.path.exists(bench.path('none')):
             return '%s on a folder that is missing: %s' % (command, told)
     if bench.driver('sender-init', bench.path('y'), '999999999999998')[0] != 0:
         return 'the last first number is refused'
@@ -341,7 +368,8 @@ def newest_caller(bench):
         return 'the new circuit does not find a receiver with nothing stored'
     if os.listdir(os.path.join(bench.path('r'), 'transactions')):
         return 'the old circuit was still read'
-    if end.error_text() != 'gmv_driver: a new caller ended the circuit':
+    callers = tuple('127.0.0.1:%d' % circuit.getsockname()[1] for circuit in (new, old))
+    if happened(end) != ['a new caller, %s, ended the circuit with %s' % callers]:
         return 'it is not said: %s' % end.error_text()
     old.close()
     new.close()
@@ -384,7 +412,7 @@ def said_to_another(programs, folder):
     """What linkstatus says to a user who is not the driver's, where there is such a user."""
     done = subprocess.run([os.path.join(programs, 'linkstatus'), folder], stdout=subprocess.PIPE, check=False,
                           user=65534 if os.geteuid() == 0 else None)
-    return done.stdout.decode().splitlines()[:1], done.returncode
+    return done.stdout.decode().splitlines()[1:2], done.returncode
 
 
 def rights(bench):
@@ -399,7 +427,7 @@ def rights(bench):
         end.start()
         bench.ends.append(end)
         for mode, wanted in ((0o444, (['sender: no circuit open'], 0)),
-                             (0, (['sender: it cannot be told whether a driver runs on this folder'], 1))):
+                             (0, (['sender: it cannot be told whether a driver runs on this folder'], 3))):
             os.chmod(os.path.join(folder, 'lock'), mode)
             if not wait_for(lambda wanted=wanted: said_to_another(place, folder) == wanted):
                 return 'lock of mode %o: %s' % (mode, said_to_another(place, folder))
@@ -441,18 +469,16 @@ def unsynced_at(lines):
     None. The lines are those that trace.c wrote."""
     dirty, folders = set(), set()
     for line in lines:
-        act, path = line.split(' ', 1)
-        if path.endswith(('/live', '/live.new')):
-            continue  # need not survive
+        act, _, path, *more = line.split(' ')[1:]
         if act == 'write':
             dirty.add(path)
         elif act == 'sync':
             dirty.discard(path)
             folders.discard(path)
         elif act == 'rename':
-            if path + '.new' in dirty:
+            if path in dirty:
                 return path
-            folders.add(os.path.dirname(path))
+            folders.add(os.path.dirname(more[0]))
         elif act == 'block' and (dirty or folders):
             return sorted(dirty | folders)[0]
     return None
@@ -481,12 +507,12 @@ def syncing(bench):
             return 'ends badly'
     for path, least in zip(traces, (80, 120)):
         lines = read(path).decode().splitlines()
-        blocks, syncs = lines.count('block -'), len([line for line in lines if line.startswith('sync ')])
+        blocks, syncs = ([line.split(' ')[1] for line in lines].count(act) for act in ('block', 'sync'))
         if blocks < 21 or syncs < least:
             return '%d blocks and %d syncs are too few' % (blocks, syncs)
         if unsynced_at(lines):
             return 'not synced before a block: %s' % unsynced_at(lines)
-        if not unsynced_at([line for line in lines if not re.match('sync .*/state.new$', line)]):
+        if not unsynced_at([line for line in lines if not re.match('- sync .*/state.new$', line)]):
             return 'the check does not see a missing sync'
     return None
 

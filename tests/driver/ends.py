@@ -1,11 +1,15 @@
 """The two programs under test, their folders, and demand 3 of what is stored in them."""
 
+import collections
 import os
 import signal
 import subprocess
 import time
+import zlib
 
 NONE = 0
+ENDINGS = {'CRASH_AT', 'FAIL_SYNC_AT'}  # how a test has trace.c end a driver
+CHECKED = ('giamuvich sender 2', 'giamuvich receiver 2')  # the titles of the form that has a check
 
 
 class Violation(Exception):
@@ -22,12 +26,59 @@ def read(*path):
         return file.read()
 
 
+# ---- the state file: a title, lines of a name and a value, in form 2 a check of all that, and `end`
+
+
+def check_line(body):
+    return b'check %08x\n' % zlib.crc32(body)
+
+
+def state_text(title, words):
+    """A state file of these words, in the form that the title says."""
+    body = ''.join('%s\n' % line for line in [title] + ['%s %s' % pair for pair in words.items()]).encode()
+    return body + (check_line(body) if title in CHECKED else b'') + b'end\n'
+
+
+def state_of(data, what):
+    """The title and the words of a state file; `what` it is, where it is none."""
+    lines = (data or b'').decode(errors='replace').split('\n')
+    hold(lines[-2:] == ['end', ''] and all(' ' in line for line in lines[:-2]), '%s is not whole', what)
+    words = dict(line.split(' ', 1) for line in lines[1:-2])
+    checked = words.pop('check', None) is not None
+    body = data[:data.rindex(b'\ncheck ') + 1] if checked else b''
+    hold(data == body + check_line(body) + b'end\n' if checked else lines[0] not in CHECKED,
+         "%s's check does not hold", what)
+    return lines[0], {name: int(value) if value.isdigit() else value for name, value in words.items()}
+
+
 def read_words(*path):
     """A state file's lines as a dictionary."""
-    lines = read(*path).decode().split('\n')
-    hold(lines[-2:] == ['end', ''], '%s is not whole', os.path.join(*path))
-    pairs = [line.split(' ', 1) for line in lines[1:-2]]
-    return {name: int(value) if value.isdigit() else value for name, value in pairs}
+    return state_of(read(*path), os.path.join(*path))[1]
+
+
+def change_state(path, **changed):
+    """Other values for some words of a state file, as a test's beginning."""
+    title, words = state_of(read(path), path)
+    words.update(changed)
+    with open(path, 'wb') as file:
+        file.write(state_text(title, words))
+
+
+class Files:
+    """What an end's folder has. The disks that a power cut leaves answer to the same two calls."""
+
+    def __init__(self, folder):
+        self.folder = folder
+
+    def read(self, *path):
+        """The bytes of a file; None where there is none."""
+        try:
+            return read(self.folder, *path)
+        except FileNotFoundError:
+            return None
+
+    def names(self, name):
+        return os.listdir(os.path.join(self.folder, name))
 
 
 class End:
@@ -50,9 +101,11 @@ class End:
         if listens:
             said = self.process.stdout.readline().split()
             self.process.stdout.close()
-            if said[:2] != [b'listening', b'on']:
+            if not said and ENDINGS & set(environment or ()):
+                return  # it ended before it listened
+            if said[-3:-1] != [b'listening', b'on']:
                 raise RuntimeError('%s: %s' % (self.command, self.error_text()))
-            self.port = int(said[2])
+            self.port = int(said[-1])
 
     def signal(self, number):
         if self.process is not None:
@@ -90,6 +143,11 @@ class End:
         return read(self.folder + '.errors').decode(errors='replace')[-2000:].strip()
 
 
+# What an end has stored, counted from the tenancy's beginning.
+Sent = collections.namedtuple('Sent', 'submitted delivered resynchronized')
+Received = collections.namedtuple('Received', 'stored expected')
+
+
 class Books:
     """What one sender was given, and what its and the receiver's folders must say of it. `base` are
     the receiver's transactions of earlier senders, `found` the expected number that they left."""
@@ -97,58 +155,93 @@ class Books:
     def __init__(self, sender, receiver, first, counts=None):
         self.sender, self.receiver, self.first = sender, receiver, first
         self.messages, self.names, self.counts = [], [], counts
+        self.refused = {}
         self.seen = self.logged = 0
         words = read_words(receiver, 'state')
         self.base, self.found = words['stored'], words['expected']
 
-    def spool(self, message):
-        name = '%06d.hl7' % len(self.messages)
+    def put(self, name, data):
+        """As a host: the file is stored before it has its name, and its name before it counts."""
         with open(os.path.join(self.sender, 'spool', '.new'), 'wb') as file:
-            file.write(message)
+            file.write(data)
         os.rename(os.path.join(self.sender, 'spool', '.new'), os.path.join(self.sender, 'spool', name))
+
+    def spool(self, message):
+        """The next message. Returns its file's name."""
         self.messages.append(message)
-        self.names.append(name)
+        self.names.append('%06d.hl7' % (len(self.messages) - 1))
+        self.put(self.names[-1], message)
+        return self.names[-1]
+
+    def spool_refused(self, data):
+        """A file that must be refused, between the last message and the next. Returns its name."""
+        name = '%06d.bad' % len(self.messages)
+        self.refused[name] = data
+        self.put(name, data)
+        return name
 
     def all_delivered(self):
         return read_words(self.sender, 'state')['delivered'] - self.first + 1 == len(self.messages)
 
-    def check_log(self, last):
-        """Each submitted message is in the log under its number; each other one is still in the spool."""
-        count = last - self.first + 1
-        hold(0 <= count <= len(self.messages), 'submitted up to %d, spooled %d', last, len(self.messages))
-        for index in range(self.logged, count):
-            hold(read(self.sender, 'log', '%d.hl7' % (self.first + index)) == self.messages[index],
+    # ---- one end, over a folder or over a disk that a power cut leaves
+
+    def check_sender(self, files, logged=0, waiting=()):
+        """Each submitted message is in the log under its number, each other one is still in the spool.
+        The first `logged` of the log are not read again. Those `waiting` are the host's, who did not sync
+        them. Returns what is stored."""
+        words = state_of(files.read('state'), "the sender's state")[1]
+        count = words['last'] - self.first + 1
+        hold(words['first'] == self.first, 'the first number is %d', words['first'])
+        hold(words['frozen'] == 0, 'the sender is frozen')
+        hold(0 <= count <= len(self.messages), 'submitted up to %d, spooled %d', words['last'], len(self.messages))
+        for index in range(logged, count):
+            hold(files.read('log', '%d.hl7' % (self.first + index)) == self.messages[index],
                  'log %d is not what was spooled', self.first + index)
-        waiting = set(os.listdir(os.path.join(self.sender, 'spool')))
-        hold(waiting.issuperset(self.names[count:]), 'a message that is not submitted left the spool')
-        hold(not os.listdir(os.path.join(self.sender, 'refused')), 'a message was refused')
-        self.logged = count
+        for name, message in zip(self.names[count:], self.messages[count:]):
+            hold(name in waiting or files.read('spool', name) == message,
+                 'a message that is not submitted left the spool')
+        self.check_refused(files, waiting)
+        return Sent(count, words['delivered'] - self.first + 1, words['resynchronized'])
 
-    def check_stored(self, k):
-        """The receiver has the first k, byte for byte, in order. What was seen before is not read again."""
-        hold(k >= self.seen, 'the receiver had %d transactions and has %d', self.seen, k)
-        for index in range(self.seen, k):
-            hold(read(self.receiver, 'transactions', '%015d.hl7' % (self.base + index + 1)) == self.messages[index],
+    def check_refused(self, files, waiting):
+        """What must be refused is still in the spool or among the refused, and nothing else is there."""
+        found = [files.read('refused', name) for name in files.names('refused')]
+        taken = {name: data for name, data in self.refused.items() if name not in waiting}
+        for name, data in taken.items():
+            hold(data in found or files.read('spool', name) == data, 'a refused file is lost')
+        hold(taken != self.refused or all(data in taken.values() for data in found), 'a message was refused')
+
+    def check_receiver(self, files, seen=0):
+        """It has the first k, byte for byte, in order. The first `seen` are not read again."""
+        words = state_of(files.read('state'), "the receiver's state")[1]
+        k = words['stored'] - self.base
+        hold(k >= seen, 'the receiver had %d transactions and has %d', seen, k)
+        hold(k <= len(self.messages), 'the receiver has %d, spooled are %d', k, len(self.messages))
+        for index in range(seen, k):
+            hold(files.read('transactions', '%015d.hl7' % (self.base + index + 1)) == self.messages[index],
                  'transaction %d of the receiver is not %d of the log', index + 1, self.first + index)
-        self.seen = k
+        return Received(k, words['expected'])
 
-    def check(self):
-        """Demand 3 of what is stored. No driver of the two runs at this moment."""
-        sender, receiver = read_words(self.sender, 'state'), read_words(self.receiver, 'state')
-        k, delivered = receiver['stored'] - self.base, sender['delivered'] - self.first + 1
-        hold(sender['first'] == self.first, 'the first number is %d', sender['first'])
-        hold(sender['frozen'] == 0, 'the sender is frozen')
-        self.check_log(sender['last'])
-        hold(0 <= k <= sender['last'] - self.first + 1, 'the receiver has %d, submitted up to %d', k, sender['last'])
-        self.check_stored(k)
-        hold(delivered in (k, k - 1), 'the sender has %d for delivered, the receiver stored %d', delivered, k)
-        expected, resynchronized = receiver['expected'], sender['resynchronized']
+    def check_both(self, sender, receiver):
+        """The two of one moment."""
+        k, expected = receiver
+        hold(0 <= k <= sender.submitted, 'the receiver has %d, submitted are %d', k, sender.submitted)
+        hold(sender.delivered in (k, k - 1), 'the sender has %d for delivered, the receiver stored %d',
+             sender.delivered, k)
         if k > 0:
             hold(expected == self.first + k, '%d stored and %d expected', k, expected)
-            hold(resynchronized == 1, '%d stored and not resynchronized', k)
+            hold(sender.resynchronized == 1, '%d stored and not resynchronized', k)
         else:
-            hold(expected == NONE or (expected == self.found and not resynchronized),
-                 'nothing stored, resynchronized is %d and %d expected', resynchronized, expected)
+            hold(expected == NONE or (expected == self.found and not sender.resynchronized),
+                 'nothing stored, resynchronized is %d and %d expected', sender.resynchronized, expected)
+
+    def check(self):
+        """Demand 3 of what is stored. No driver of the two runs at this moment. What was seen before is
+        not read again."""
+        sender = self.check_sender(Files(self.sender), self.logged)
+        receiver = self.check_receiver(Files(self.receiver), self.seen)
+        self.check_both(sender, receiver)
+        self.logged, self.seen = sender.submitted, receiver.stored
 
     def count_leftovers(self):
         """In which windows the kill hit: after a message was stored and before it counted, and so on."""

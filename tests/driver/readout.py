@@ -1,21 +1,38 @@
-"""linkstatus: each sentence, over folders made by hand."""
+"""linkstatus: each sentence, over folders made by hand; and the books of pairs."""
 
 import fcntl
 import os
+import re
 import subprocess
+import time
+
+from ends import check_line
 
 FRESH = 'first 1\ndelivered 0\nlast 0\nresynchronized 0\nfrozen 0\n'
 NO_ACT = ('act_send 0\nact_send_number 0\nact_sends 0\nact_event 0\nact_delivered 0\nact_code 0\nact_block 0\n'
           'act_forbidden_offset 0\n')
+SETTINGS = 'minimal-connect 127.0.0.1:1, data limit 4096'
+
+
+def checked(body):
+    return body + check_line(body.encode()).decode() + 'end\n'
 
 
 def state(words, more=''):
-    return 'giamuvich sender 1\n' + words + more + 'end\n'
+    return checked('giamuvich sender 2\n' + words + more)
 
 
-def live(words, waiting, sends, act=NO_ACT, more='', circuits=1, given_up=0):
-    return 'giamuvich sender live 1\n%swaiting %d\nsends %d\n%scircuits %d\ngiven_up %d\n%send\n' % (
-        words, waiting, sends, act, circuits, given_up, more)
+def running(is_open, seconds=0, turned=0):
+    """What a driver shows of itself; TURNED and SINCE become times when it is written."""
+    return 'process 4711\nturned AGO(%d)\ncircuit_open %d\nsince AGO(%d)\nsettings %s\npeer %s\n' % (
+        turned, is_open, seconds, SETTINGS, '127.0.0.1:2' if is_open else 'Connection refused')
+
+
+def live(words, waiting, sends, act=NO_ACT, more='', circuits=1, given_up=0, since=(0, 0, 0, 0, 0), seconds=0, turned=0):
+    names = ('given_up_since', 'refused_since', 'last_refused', 'dropped_since', 'hung_up')
+    counted = ''.join('%s %d\n' % pair for pair in zip(names, since))
+    return 'giamuvich sender live 2\n%swaiting %d\nsends %d\n%scircuits %d\ngiven_up %d\n%s%s%send\n' % (
+        words, waiting, sends, act, circuits, given_up, counted, running(waiting != 0, seconds, turned), more)
 
 
 def words(first, delivered, last, resynchronized, frozen=0):
@@ -32,74 +49,141 @@ def froze(waited, code, control_id, expected):
     return 'waited %s\ncode %s\ncontrol_id %s\nexpected %s\n' % (waited, code, control_id, expected)
 
 
-def receiver(expected, stored, more='', title='receiver'):
-    return 'giamuvich %s 1\nexpected %d\nstored %d\n%send\n' % (title, expected, stored, more)
+def receiver_words(expected, stored, cleared=(0, 0)):
+    return 'expected %d\nstored %d\ncleared %d\ncleared_after %d\n' % ((expected, stored) + cleared)
 
 
-def counts(circuits, blocks, refused, last_refused, is_open, rejected=0):
-    return 'circuits %d\nblocks %d\nrefused %d\nlast_refused %d\nrejected %d\ncircuit_open %d\n' % (
-        circuits, blocks, refused, last_refused, rejected, is_open)
+def receiver(expected, stored, cleared=(0, 0)):
+    return checked('giamuvich receiver 2\n' + receiver_words(expected, stored, cleared))
+
+
+def receiver_live(expected, stored, counted, cleared=(0, 0)):
+    return 'giamuvich receiver live 2\n%s%send\n' % (receiver_words(expected, stored, cleared), counted)
+
+
+def counts(circuits, blocks, refused, last_refused, is_open, rejected=0, since=(0, 0), called=0, cleared=0, seconds=0,
+           turned=0):
+    return ('circuits %d\nblocks %d\nrefused %d\nlast_refused %d\nrejected %d\nrefused_since %d\nrejected_since %d\n'
+            'called %d\ncalled_at AGO(0)\ncleared_since %d\n' % (
+                (circuits, blocks, refused, last_refused, rejected) + since + (called, cleared)) +
+            running(is_open, seconds, turned))
+
+
+def not_delivered(submitted, spool=0, refused=0):
+    count = submitted + spool + refused
+    return '%d not delivered: %d submitted, %d in spool/, %d in refused/%s' % (
+        count, submitted, spool, refused, ', the oldest for 0 s' if count else '')
+
+
+def shown(is_open=True, seconds=0):
+    """The lines on the driver itself."""
+    return ['process 4711, last turned %d s ago' % seconds, 'settings: ' + SETTINGS,
+            'peer: 127.0.0.1:2' if is_open else 'no peer: Connection refused']
 
 
 MIDDLE = words(1, 16, 19, 1)
-MIDDLE_SAID = ['delivered up to 16 (first number 1)', '3 submitted and not yet acknowledged',
-               'the next number to submit is 20', 'resynchronized with the receiver']
-FRESH_SAID = ['nothing delivered yet (first number 1)', '0 submitted and not yet acknowledged',
-              'the next number to submit is 1', 'not yet resynchronized with the receiver']
+
+
+def middle_said(spool=0, refused=0, empty=()):
+    return ['delivered up to 16 (first number 1)', not_delivered(3, spool, refused), *empty,
+            'the next number to submit is 20', 'resynchronized with the receiver']
+
+
+MIDDLE_SAID = middle_said()
+FRESH_SAID = ['nothing delivered yet (first number 1)', not_delivered(0), 'the next number to submit is 1',
+              'not yet resynchronized with the receiver']
 FROZEN = words(1, 16, 19, 1, 1)
+FROZEN_DETAILS = froze('17', 'AR', '17', '19')
 ONE_CIRCUIT = ['1 circuit opened since the driver started, gave up 0 times']
 MISSING = object()  # locked, and no live file
 LOOP = object()  # no lock that can be opened, not even by root
 MUST = '; an operator must reset it'
+R_FROZEN = 'frozen: do not reset before the books are compared'
+NO_DRIVER = 'sender: no driver runs on this folder, no circuit open'
+WAITS = 'sender: waiting for the answer to transaction 17, sent %s on this circuit'
+STOPPED = 'critical: no driver runs'
+ANY = 'receiver: expects any number (nothing stored since it was resynchronized), %d transactions stored'
+IS_SENDER = ["critical: FOLDER/state has words that are no sender's state"]
+DAMAGED = ['critical: FOLDER/state is damaged']
 
 
 def frozen_case(name, waited, code, control_id, expected, said):
     more = froze(waited, code, control_id, expected)
-    return (name, state(FROZEN, more), None, ['sender: frozen: ' + said + MUST] + MIDDLE_SAID, 0)
+    return (name, state(FROZEN, more), None,
+            ['critical: %s; no driver runs' % R_FROZEN, 'sender: frozen: ' + said + MUST] + MIDDLE_SAID, 2)
+
+
+def waiting_case(name, verdict, more, **with_live):
+    """A sender in the middle that waits on 17."""
+    return (name, state(MIDDLE), live(MIDDLE, 4, 1, **with_live),
+            [verdict, WAITS % '1 time'] + MIDDLE_SAID + ONE_CIRCUIT + more + shown(), 1 if verdict != 'good' else 0)
+
+
+def receiving_case(name, verdict, expected, stored, blocks, more, cleared=(0, 0), **with_counts):
+    circuits, read, refused, last, rejected = blocks
+    sentence = '%d blocks read on %d circuits since the driver started, %d refused, %d answered AR' % (
+        read, circuits, refused, rejected)
+    return (name, receiver(expected, stored, cleared),
+            receiver_live(expected, stored, counts(circuits, read, refused, last, 1, rejected, **with_counts), cleared),
+            [verdict, 'receiver: expects %d, %d transactions stored' % (expected, stored)] +
+            (['the last -1 took the expected number %d away, after %d transactions' % cleared] if cleared[0] else []) +
+            ['a circuit is open', sentence] + more + shown(), 1 if verdict != 'good' else 0)
 
 
 # The case, FOLDER/state, FOLDER/live where a driver runs, what is said, the exit status; the files of FOLDER/refused.
 CASES = [
-    ('a new sender, no driver', state(FRESH), None,
-     ['sender: no driver runs on this folder, no circuit open'] + FRESH_SAID, 0),
+    ('a new sender, no driver', state(FRESH), None, [STOPPED, NO_DRIVER] + FRESH_SAID, 2),
     ('a new sender, no circuit', state(FRESH), live(FRESH, 0, 0),
-     ['sender: no circuit open'] + FRESH_SAID + ONE_CIRCUIT, 0),
+     ['good', 'sender: no circuit open'] + FRESH_SAID + ONE_CIRCUIT + shown(False), 0),
+    ('no circuit for long', state(FRESH), live(FRESH, 0, 0, seconds=12),
+     ['warning: no circuit for 12 s: Connection refused', 'sender: no circuit open'] + FRESH_SAID + ONE_CIRCUIT +
+     shown(False), 1),
+    ('a driver that hangs', state(MIDDLE), live(MIDDLE, 4, 2, turned=37),
+     ['critical: the driver has not turned for 37 s', WAITS % '2 times'] + MIDDLE_SAID + ONE_CIRCUIT +
+     shown(seconds=37), 2),
+    ('a driver that turned lately', state(MIDDLE), live(MIDDLE, 4, 2, turned=6),
+     ['good', WAITS % '2 times'] + MIDDLE_SAID + ONE_CIRCUIT + shown(seconds=6), 0),
     ('waits on -1', state(FRESH), live(FRESH, 2, 1),
-     ['sender: waiting for the answer to -1 (resynchronizing), sent 1 time on this circuit'] + FRESH_SAID +
-     ONE_CIRCUIT, 0),
+     ['good', 'sender: waiting for the answer to -1 (resynchronizing), sent 1 time on this circuit'] + FRESH_SAID +
+     ONE_CIRCUIT + shown(), 0),
     ('waits on 0', state(MIDDLE), live(MIDDLE, 3, 4),
-     ['sender: waiting for the answer to 0 (which number is expected), sent 4 times on this circuit'] +
-     MIDDLE_SAID + ONE_CIRCUIT, 0),
+     ['good', 'sender: waiting for the answer to 0 (which number is expected), sent 4 times on this circuit'] +
+     MIDDLE_SAID + ONE_CIRCUIT + shown(), 0),
     ('waits on a transaction', state(MIDDLE), live(MIDDLE, 4, 2),
-     ['sender: waiting for the answer to transaction 17, sent 2 times on this circuit'] + MIDDLE_SAID + ONE_CIRCUIT, 0),
-    ('no driver in the middle', state(MIDDLE), None,
-     ['sender: no driver runs on this folder, no circuit open'] + MIDDLE_SAID, 0),
+     ['good', WAITS % '2 times'] + MIDDLE_SAID + ONE_CIRCUIT + shown(), 0),
+    ('no driver in the middle', state(MIDDLE), None, [STOPPED, NO_DRIVER] + MIDDLE_SAID, 2),
     ('nothing waits', state(words(5, 9, 9, 1)), live(words(5, 9, 9, 1), 1, 0),
-     ['sender: a circuit is open and nothing waits', 'delivered up to 9 (first number 5)',
-      '0 submitted and not yet acknowledged', 'the next number to submit is 10', 'resynchronized with the receiver'] +
-     ONE_CIRCUIT, 0),
+     ['good', 'sender: a circuit is open and nothing waits', 'delivered up to 9 (first number 5)',
+      not_delivered(0), 'the next number to submit is 10', 'resynchronized with the receiver'] +
+     ONE_CIRCUIT + shown(), 0),
     ('no number left', state(words(999999999999998, 999999999999997, 999999999999998, 1)), None,
-     ['sender: no driver runs on this folder, no circuit open', 'nothing delivered yet (first number 999999999999998)',
-      '1 submitted and not yet acknowledged', 'no number is left to submit', 'resynchronized with the receiver'], 0),
-    ('delivered with AA', state(MIDDLE), live(MIDDLE, 4, 1, act(1, 16, 1, 1)),
-     ['sender: waiting for the answer to transaction 17, sent 1 time on this circuit'] + MIDDLE_SAID + ONE_CIRCUIT +
-     ['last act: 16 is delivered, AA'], 0),
-    ('delivered with AE', state(MIDDLE), live(MIDDLE, 4, 1, act(1, 16, 2, 1)),
-     ['sender: waiting for the answer to transaction 17, sent 1 time on this circuit'] + MIDDLE_SAID + ONE_CIRCUIT +
-     ['last act: 16 is delivered, AE'], 0),
-    ('delivered, verdict unknown', state(MIDDLE), live(MIDDLE, 4, 1, act(1, 16, 0, 1)),
-     ['sender: waiting for the answer to transaction 17, sent 1 time on this circuit'] + MIDDLE_SAID + ONE_CIRCUIT +
-     ["last act: 16 is delivered, the application's verdict is unknown"], 0),
-    ('gave up', state(MIDDLE), live(MIDDLE, 0, 0, act(2, sends=4), circuits=5, given_up=1),
-     ['sender: no circuit open'] + MIDDLE_SAID +
+     [STOPPED + '; no number is left', NO_DRIVER, 'nothing delivered yet (first number 999999999999998)',
+      not_delivered(1), 'no number is left to submit', 'resynchronized with the receiver'], 2),
+    waiting_case('delivered with AA', 'good', ['last act: 16 is delivered, AA'], act=act(1, 16, 1, 1)),
+    waiting_case('delivered with AE', 'good', ['last act: 16 is delivered, AE'], act=act(1, 16, 2, 1)),
+    waiting_case('delivered, verdict unknown', 'good', ["last act: 16 is delivered, the application's verdict is unknown"],
+                 act=act(1, 16, 0, 1)),
+    ('gave up', state(MIDDLE), live(MIDDLE, 0, 0, act(2, sends=4), circuits=5, given_up=1, since=(1, 0, 0, 0, 0)),
+     ['warning: gave up 1 time since the last delivery', 'sender: no circuit open'] + MIDDLE_SAID +
      ['5 circuits opened since the driver started, gave up 1 time',
-      'last act: gave up after 4 sends, the circuit ended'], 0),
-    ('gave up after one', state(MIDDLE), live(MIDDLE, 0, 0, act(2, sends=1, block=7), circuits=9, given_up=9),
-     ['sender: no circuit open'] + MIDDLE_SAID + ['9 circuits opened since the driver started, gave up 9 times',
-      'last act: a block was refused by 7 (wrong checksum)', 'last act: gave up after 1 send, the circuit ended'], 0),
-    ('dropped', state(MIDDLE), live(MIDDLE, 4, 1, act(4, sends=1)),
-     ['sender: waiting for the answer to transaction 17, sent 1 time on this circuit'] + MIDDLE_SAID + ONE_CIRCUIT +
-     ['last act: an answer to something else was dropped'], 0),
+      'last act: gave up after 4 sends, the circuit ended'] + shown(False), 1),
+    ('gave up, and delivered since', state(MIDDLE), live(MIDDLE, 4, 1, act(1, 16, 1, 1), circuits=5, given_up=1),
+     ['good', WAITS % '1 time'] + MIDDLE_SAID + ['5 circuits opened since the driver started, gave up 1 time',
+                                                 'last act: 16 is delivered, AA'] + shown(), 0),
+    ('gave up after one', state(MIDDLE),
+     live(MIDDLE, 0, 0, act(2, sends=1, block=7), circuits=9, given_up=9, since=(9, 9, 7, 0, 0)),
+     ['warning: gave up 9 times since the last delivery; 9 answers refused since the last delivery, the last by 7: wrong '
+      'checksum', 'sender: no circuit open'] + MIDDLE_SAID + [
+          '9 circuits opened since the driver started, gave up 9 times',
+          'last act: a block was refused by 7 (wrong checksum)', 'last act: gave up after 1 send, the circuit ended'] +
+     shown(False), 1),
+    waiting_case('one answer refused', 'good', [], since=(0, 1, 7, 0, 0)),
+    waiting_case('one answer dropped', 'good', ['last act: an answer to something else was dropped'], act=act(4, sends=1),
+                 since=(0, 0, 0, 1, 0)),
+    waiting_case('two answers dropped', 'warning: 2 answers to something else since the last delivery',
+                 ['last act: an answer to something else was dropped'], act=act(4, sends=1), since=(0, 0, 0, 2, 0)),
+    waiting_case('hung up twice', 'good', [], since=(0, 0, 0, 0, 2)),
+    waiting_case('hung up thrice', 'warning: 3 circuits ended without an answer', [], since=(0, 0, 0, 0, 3)),
     frozen_case('frozen on AR', '17', 'AR', '17', '19', 'waited on 17 and got AR 19 for control ID 17'),
     frozen_case('frozen on AE', '17', 'AE', '17', '16', 'waited on 17 and got AE 16 for control ID 17'),
     frozen_case('frozen on 0', '0', 'AA', '0', '25', 'waited on 0 and got AA 25 for control ID 0'),
@@ -107,92 +191,158 @@ CASES = [
                 'waited on 17 and got CA x without a number for control ID 17'),
     frozen_case('frozen on no code', '17', '', '17', '17', 'waited on 17 and got no code 17 for control ID 17'),
     ('frozen on -1', state(words(1, 0, 2, 0, 1), froze('-1', 'AR', '-1', '3')), None,
-     ['sender: frozen: waited on -1 and got AR 3 for control ID -1' + MUST, 'nothing delivered yet (first number 1)',
-      '2 submitted and not yet acknowledged', 'the next number to submit is 3',
-      'not yet resynchronized with the receiver'], 0),
-    ('frozen, the driver runs', state(FROZEN, froze('17', 'AR', '17', '19')),
-     live(FROZEN, 0, 0, act(3), froze('17', 'AR', '17', '19')),
-     ['sender: frozen: waited on 17 and got AR 19 for control ID 17' + MUST] + MIDDLE_SAID + ONE_CIRCUIT, 0),
-    ('a receiver with none', receiver(0, 0), None,
-     ['receiver: expects any number (nothing stored since it was resynchronized), 0 transactions stored',
-      'no driver runs on this folder'], 0),
+     ['critical: %s; no driver runs' % R_FROZEN, 'sender: frozen: waited on -1 and got AR 3 for control ID -1' + MUST,
+      'nothing delivered yet (first number 1)', not_delivered(2), 'the next number to submit is 3',
+      'not yet resynchronized with the receiver'], 2),
+    ('frozen, the driver runs', state(FROZEN, FROZEN_DETAILS),
+     live(FROZEN, 0, 0, act(3), FROZEN_DETAILS, seconds=99),
+     ['critical: ' + R_FROZEN, 'sender: frozen: waited on 17 and got AR 19 for control ID 17' + MUST] + MIDDLE_SAID +
+     ONE_CIRCUIT + shown(False), 2),
+    ('a receiver with none', receiver(0, 0), None, [STOPPED, ANY % 0, 'no driver runs on this folder'], 2),
     ('a receiver that expects', receiver(18, 17), None,
-     ['receiver: expects 18, 17 transactions stored', 'no driver runs on this folder'], 0),
-    ('a receiver that runs', receiver(2, 1), receiver(2, 1, counts(1, 2, 0, 0, 1), 'receiver live'),
-     ['receiver: expects 2, 1 transaction stored', 'a circuit is open',
-      '2 blocks read on 1 circuit since the driver started, 0 refused, 0 answered AR'], 0),
-    ('a receiver that refused', receiver(0, 5), receiver(0, 5, counts(3, 9, 2, 8, 0, 4), 'receiver live'),
-     ['receiver: expects any number (nothing stored since it was resynchronized), 5 transactions stored',
-      'no circuit open',
+     [STOPPED, 'receiver: expects 18, 17 transactions stored', 'no driver runs on this folder'], 2),
+    ('a receiver that runs', receiver(2, 1), receiver_live(2, 1, counts(1, 2, 0, 0, 1)),
+     ['good', 'receiver: expects 2, 1 transaction stored', 'a circuit is open',
+      '2 blocks read on 1 circuit since the driver started, 0 refused, 0 answered AR'] + shown(), 0),
+    ('a receiver without a circuit', receiver(0, 5), receiver_live(0, 5, counts(3, 9, 2, 8, 0, 4, seconds=11)),
+     ['warning: no circuit for 11 s: Connection refused', ANY % 5, 'no circuit open',
       '9 blocks read on 3 circuits since the driver started, 2 refused, 4 answered AR',
-      'the last refused block was refused by 8 (a block began inside it)'], 0),
-    ('no folder', None, None, ['FOLDER/state is missing'], 1),
-    ('an empty state', '', None, ['FOLDER/state is damaged'], 1),
-    ('an end that is missing', state(MIDDLE)[:-4], None, ['FOLDER/state is damaged'], 1),
-    ('a state with more', state(MIDDLE) + 'x', None, ['FOLDER/state is damaged'], 1),
-    ('a word that is none', state(MIDDLE.replace('16', '1x')), None, ['FOLDER/state is damaged'], 1),
-    ('a word over 64 bits', state(MIDDLE.replace('16', '18446744073709551616')), None, ['FOLDER/state is damaged'], 1),
-    ('frozen without details', state(FROZEN), None, ['FOLDER/state is damaged'], 1),
-    ('delivered over last', state(words(1, 20, 19, 1)), None, ["FOLDER/state has words that are no sender's state"], 1),
-    ('first 0', state(words(0, 0, 0, 0)), None, ["FOLDER/state has words that are no sender's state"], 1),
-    ('frozen 2', state(words(1, 0, 0, 0, 2)), None, ["FOLDER/state has words that are no sender's state"], 1),
-    ('delivered, not resynchronized', state(words(1, 1, 1, 0)), None,
-     ["FOLDER/state has words that are no sender's state"], 1),
-    ('a number too large', receiver(10 ** 15, 1), None, ["FOLDER/state has words that are no receiver's state"], 1),
-    ('a damaged receiver', receiver(1, 1).replace('stored', 'sorted'), None, ['FOLDER/state is damaged'], 1),
+      'the last refused block was refused by 8 (a block began inside it)'] + shown(False), 1),
+    ('a receiver that hangs', receiver(2, 1), receiver_live(2, 1, counts(1, 2, 0, 0, 1, turned=10)),
+     ['critical: the driver has not turned for 10 s', 'receiver: expects 2, 1 transaction stored', 'a circuit is open',
+      '2 blocks read on 1 circuit since the driver started, 0 refused, 0 answered AR'] + shown(seconds=10), 2),
+    receiving_case('one block refused', 'good', 4, 3, (2, 9, 1, 7, 0),
+                   ['the last refused block was refused by 7 (wrong checksum)'], since=(1, 0)),
+    receiving_case('two blocks refused', 'warning: 2 blocks refused since the last transaction, the last by 9: no readable '
+                   'header', 4, 3, (2, 9, 2, 9, 0), ['the last refused block was refused by 9 (no readable header)'],
+                   since=(2, 0)),
+    receiving_case('one AR', 'good', 4, 3, (2, 9, 0, 0, 1), [], since=(0, 1)),
+    receiving_case('two AR', 'warning: 2 requests answered AR since the last transaction', 4, 3, (2, 9, 0, 0, 2), [],
+                   since=(0, 2)),
+    receiving_case('one new caller', 'good', 4, 3, (2, 9, 0, 0, 0), [], called=1),
+    receiving_case('two new callers', 'warning: 2 circuits ended by a new caller', 4, 3, (3, 9, 0, 0, 0), [], called=2),
+    ('-1 in the middle', receiver(2, 71, (71, 70)),
+     receiver_live(2, 71, counts(3, 9, 0, 0, 1, cleared=1), (71, 70)),
+     ['warning: -1 took the expected number 71 away after 70 transactions', 'receiver: expects 2, 71 transactions stored',
+      'the last -1 took the expected number 71 away, after 70 transactions', 'a circuit is open',
+      '9 blocks read on 3 circuits since the driver started, 0 refused, 0 answered AR'] + shown(), 1),
+    receiving_case('-1 before the driver started', 'good', 2, 71, (3, 9, 0, 0, 0), [], cleared=(71, 70)),
+    ('no folder', None, None, ['unknown: FOLDER/state is missing'], 3),
+    ('an empty state', '', None, DAMAGED, 2),
+    ('an end that is missing', state(MIDDLE)[:-4], None, DAMAGED, 2),
+    ('a state with more', state(MIDDLE) + 'x', None, DAMAGED, 2),
+    ('a word that is none', state(MIDDLE.replace('16', '1x')), None, DAMAGED, 2),
+    ('a word over 64 bits', state(MIDDLE.replace('16', '18446744073709551616')), None, DAMAGED, 2),
+    ('another digit', state(MIDDLE).replace('delivered 16', 'delivered 15'), None, DAMAGED, 2),
+    ("another digit at a receiver", receiver(52, 51).replace('stored 51', 'stored 45'), None, DAMAGED, 2),
+    ('another check', re.sub('check .', 'check x', state(MIDDLE)), None, DAMAGED, 2),
+    ('no check', re.sub('check .*\n', '', state(MIDDLE)), None, DAMAGED, 2),
+    ('the first form', 'giamuvich sender 1\n' + MIDDLE + 'end\n', None,
+     [STOPPED + '; the state has no check yet', NO_DRIVER] + MIDDLE_SAID, 2),
+    ("a receiver's first form", 'giamuvich receiver 1\nexpected 18\nstored 17\nend\n', None,
+     [STOPPED + '; the state has no check yet', 'receiver: expects 18, 17 transactions stored',
+      'no driver runs on this folder'], 2),
+    ('frozen without details', state(FROZEN), None, DAMAGED, 2),
+    ('delivered over last', state(words(1, 20, 19, 1)), None, IS_SENDER, 2),
+    ('first 0', state(words(0, 0, 0, 0)), None, IS_SENDER, 2),
+    ('frozen 2', state(words(1, 0, 0, 0, 2)), None, IS_SENDER, 2),
+    ('delivered, not resynchronized', state(words(1, 1, 1, 0)), None, IS_SENDER, 2),
+    ('a number too large', receiver(10 ** 15, 1), None, ["critical: FOLDER/state has words that are no receiver's state"], 2),
+    ('a damaged receiver', receiver(1, 1).replace('stored', 'sorted'), None, DAMAGED, 2),
     ('a live file with a wrong count', state(MIDDLE), live(MIDDLE, 4, 101),
-     ["FOLDER/live has words that are no sender's state"], 1),
-    ('an empty live file', state(MIDDLE), '', ['FOLDER/live is damaged'], 1),
+     ["critical: FOLDER/live has words that are no sender's state"], 2),
+    ('an empty live file', state(MIDDLE), '', ['critical: FOLDER/live is damaged'], 2),
     ('a live file without counts', state(MIDDLE), live(MIDDLE, 0, 0).replace('given_up 0\n', ''),
-     ['FOLDER/live is damaged'], 1),
+     ['critical: FOLDER/live is damaged'], 2),
     ('the driver is starting', state(MIDDLE), MISSING,
-     ['sender: the driver is starting, no circuit open'] + MIDDLE_SAID, 0),
+     ['warning: the driver is starting', 'sender: the driver is starting, no circuit open'] + MIDDLE_SAID, 1),
     ("a receiver's driver is starting", receiver(1, 0), MISSING,
-     ['receiver: expects 1, 0 transactions stored', 'the driver is starting, no circuit open'], 0),
-    ('a frozen driver is starting', state(FROZEN, froze('17', 'AR', '17', '19')), MISSING,
-     ['sender: frozen: waited on 17 and got AR 19 for control ID 17' + MUST] + MIDDLE_SAID, 0),
+     ['warning: the driver is starting', 'receiver: expects 1, 0 transactions stored',
+      'the driver is starting, no circuit open'], 1),
+    ('a frozen driver is starting', state(FROZEN, FROZEN_DETAILS), MISSING,
+     ['critical: %s; the driver is starting' % R_FROZEN,
+      'sender: frozen: waited on 17 and got AR 19 for control ID 17' + MUST] + MIDDLE_SAID, 2),
     ('it cannot be told', state(MIDDLE), LOOP,
-     ['sender: it cannot be told whether a driver runs on this folder'] + MIDDLE_SAID, 1),
+     ['unknown: it cannot be told whether a driver runs',
+      'sender: it cannot be told whether a driver runs on this folder'] + MIDDLE_SAID, 3),
     ('it cannot be told of a receiver', receiver(18, 17), LOOP,
-     ['receiver: expects 18, 17 transactions stored', 'it cannot be told whether a driver runs on this folder'], 1),
-    ('a refused file', state(MIDDLE), None, ['sender: no driver runs on this folder, no circuit open'] + MIDDLE_SAID +
-     ['1 file refused, see refused/'], 0, ['10-a']),
+     ['unknown: it cannot be told whether a driver runs', 'receiver: expects 18, 17 transactions stored',
+      'it cannot be told whether a driver runs on this folder'], 3),
+    ('a refused file', state(MIDDLE), None, [STOPPED + '; 1 file refused', NO_DRIVER] + middle_said(0, 1), 2,
+     {'refused/10-a': 0}),
     ('refused files', state(MIDDLE), live(MIDDLE, 1, 0, act(1, 16, 1, 1)).replace('last 19', 'last 16'),
-     ['sender: a circuit is open and nothing waits', 'delivered up to 16 (first number 1)',
-      '0 submitted and not yet acknowledged', 'the next number to submit is 17', 'resynchronized with the receiver',
-      '2 files refused, see refused/'] + ONE_CIRCUIT + ['last act: 16 is delivered, AA'], 0, ['10-b', '3-a', '.x']),
-    ('no refused file', state(MIDDLE), None,
-     ['sender: no driver runs on this folder, no circuit open'] + MIDDLE_SAID, 0, []),
+     ['warning: 2 files refused', 'sender: a circuit is open and nothing waits', 'delivered up to 16 (first number 1)',
+      not_delivered(0, 0, 2), 'the next number to submit is 17', 'resynchronized with the receiver'] + ONE_CIRCUIT +
+     ['last act: 16 is delivered, AA'] + shown(), 1, {'refused/10-b': 0, 'refused/3-a': 0, 'refused/.x': 0}),
+    ('an empty refused file', state(MIDDLE), live(MIDDLE, 4, 1),
+     ['good', WAITS % '1 time'] + middle_said(empty=['1 empty file refused, see refused/']) + ONE_CIRCUIT + shown(), 0,
+     {'refused/9-a': None}),
+    ('files in the spool', state(FROZEN, FROZEN_DETAILS), live(FROZEN, 0, 0, act(3), FROZEN_DETAILS),
+     ['critical: ' + R_FROZEN, 'sender: frozen: waited on 17 and got AR 19 for control ID 17' + MUST] +
+     middle_said(2) + ONE_CIRCUIT + shown(False), 2, {'spool/a': 0, 'spool/b': 0, 'spool/.c': 0}),
+    ('a late result', state(MIDDLE), live(MIDDLE, 4, 1),
+     ['warning: the oldest of 4 not delivered waits for 61 s', WAITS % '1 time'] +
+     [line.replace('for 0 s', 'for 61 s') for line in middle_said(1)] + ONE_CIRCUIT + shown(), 1, {'spool/a': 61}),
+    ('a result that is too late', state(MIDDLE), live(MIDDLE, 4, 1),
+     ['critical: the oldest of 3 not delivered waits for 372 s', WAITS % '1 time'] +
+     [line.replace('for 0 s', 'for 372 s') for line in middle_said()] + ONE_CIRCUIT + shown(), 2, {'log/17.hl7': 372}),
+    ('no refused file', state(MIDDLE), None, [STOPPED, NO_DRIVER] + MIDDLE_SAID, 2, {}),
+    ('a leftover of a crash', receiver(3, 2), None,
+     [STOPPED, 'receiver: expects 3, 2 transactions stored', 'no driver runs on this folder'], 2,
+     {'transactions/%015d.hl7' % position: 0 for position in (1, 2, 3)}),
+    ('a file beyond it', receiver(3, 2), None,
+     [STOPPED + '; a file at position 4, and 2 transactions stored', 'receiver: expects 3, 2 transactions stored',
+      'no driver runs on this folder'], 2, {'transactions/%015d.hl7' % position: 0 for position in (1, 2, 4)}),
 ]
 
 
-def said(programs, folder):
-    done = subprocess.run([os.path.join(programs, 'linkstatus'), folder], stdout=subprocess.PIPE, check=False)
+def said(programs, *folders):
+    done = subprocess.run([os.path.join(programs, 'linkstatus')] + list(folders), stdout=subprocess.PIPE, check=False)
     return done.stdout.decode().splitlines(), done.returncode
 
 
-def refuse(folder, names):
-    os.mkdir(os.path.join(folder, 'refused'))
-    for name in names:
-        with open(os.path.join(folder, 'refused', name), 'wb'):
-            pass
+def put(folder, files):
+    """Files of one byte, written so many seconds ago; None is an empty file."""
+    for name, age in files.items():
+        path = os.path.join(folder, name)
+        os.makedirs(os.path.dirname(path), exist_ok=True)
+        with open(path, 'wb') as file:
+            file.write(b'' if age is None else b'x')
+        moment = time.time() - (age or 0)
+        os.utime(path, (moment, moment))
 
 
-def holds(programs, folder, state_text, live_text, wanted, status, refused=None):
+def at_present(text):
+    """Times of the driver's clock for AGO(seconds)."""
+    return re.sub(r'AGO\((\d+)\)', lambda found: str(int(time.monotonic() * 1000) - 1000 * int(found.group(1))), text)
+
+
+def same(lines, wanted):
+    """A second or two may pass between writing and reading."""
+    def later(line, seconds):
+        return re.sub(r'\b(\d+) s\b', lambda found: '%d s' % (int(found.group(1)) + seconds), line)
+    return len(lines) == len(wanted) and all(
+        line in (wish, later(wish, 1), later(wish, 2)) for line, wish in zip(lines, wanted))
+
+
+def holds(programs, folder, state_text, live_text, wanted, status, files=None):
     """One case: what linkstatus says and its exit status are as wanted."""
+    def as_wanted():
+        lines, code = said(programs, folder)
+        return code == status and same(lines, [line.replace('FOLDER', folder) for line in wanted])
+
     if state_text is not None:
         os.mkdir(folder)
         with open(os.path.join(folder, 'state'), 'w', encoding='ascii') as file:
             file.write(state_text)
-    if refused is not None:
-        refuse(folder, refused)
+    put(folder, files or {})
     if live_text is LOOP:
         os.symlink('lock', os.path.join(folder, 'lock'))
     if live_text in (None, LOOP):
-        return said(programs, folder) == ([line.replace('FOLDER', folder) for line in wanted], status)
-    if live_text is not MISSING:
-        with open(os.path.join(folder, 'live'), 'w', encoding='ascii') as file:
-            file.write(live_text)
+        return as_wanted()
     with open(os.path.join(folder, 'lock'), 'w', encoding='ascii') as lock:
         fcntl.lockf(lock, fcntl.LOCK_EX)  # as a driver that runs
-        return said(programs, folder) == ([line.replace('FOLDER', folder) for line in wanted], status)
+        if live_text is not MISSING:
+            with open(os.path.join(folder, 'live'), 'w', encoding='ascii') as file:
+                file.write(at_present(live_text))
+        return as_wanted()

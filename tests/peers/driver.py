@@ -38,9 +38,9 @@ class Driver:
         """Starts it on a port that the system picks, and returns the port."""
         self.start(command, "--minimal-listen", 0, *words)
         line = self.process.stdout.readline()
-        if not line.startswith("listening on "):
+        if " gmv_driver: listening on " not in line:
             raise RuntimeError("gmv_driver says %r" % line)
-        return int(line.split()[2])
+        return int(line.split()[-1])
 
     def end(self, how=signal.SIGTERM):
         """Ends the process that was started here, by its own id, and waits for it."""

@@ -1,30 +1,44 @@
-/* linkstatus DIR: what an end of a link is doing, in plain words. */
+/* linkstatus DIR: what an end of a link is doing, in plain words. linkstatus SENDER RECEIVER: both, and whether
+ * their books agree. The exit status is 0 good, 1 warning, 2 critical, 3 unknown. */
 #include <stdio.h>
+#include <stdlib.h>
 #include <string.h>
 
+#include "books.h"
 #include "common.h"
-#include "records.h"
+#include "log.h"
 #include "status.h"
 #include "store.h"
 
-#define PROBLEM "%s/%s %s\n"
+#define R_PROBLEM "%s/%s %s"
+#define R_WRONG_KIND "%s is not the folder of a %s"
 
-/* Which end's folder it is, by the first word that its state has after the title's. */
-static int is_sender_folder(const char *folder)
+/* What an end is, by the first words of its state. */
+enum kind { NO_END, SENDER, RECEIVER };
+
+static enum kind kind_of(const char *folder)
 {
-    char path[PATH_LENGTH], begins[17] = "";
+    char path[PATH_LENGTH], begins[20] = "";
 
     path_of(path, folder, "state");
-    if (read_file(path, begins, 16) < 16)
-        return 0;
-    return strncmp(begins, "giamuvich sender", 16) == 0;
+    if (read_file(path, begins, sizeof begins - 1) < 16)
+        return NO_END;
+    if (strncmp(begins, "giamuvich sender", 16) == 0)
+        return SENDER;
+    return strncmp(begins, "giamuvich receiver", 18) == 0 ? RECEIVER : NO_END;
 }
 
-static int says_problem(const char *folder, const char *name, const char *problem)
+/* A file that is missing says nothing of the link; one that is damaged stops it. */
+static int finds_problem(verdict *verdict, const char *folder, const char *name, const char *problem)
 {
-    if (problem != NULL)
-        printf(PROBLEM, folder, name, problem);
-    return problem != NULL;
+    enum severity severity = CRITICAL;
+
+    if (problem == NULL)
+        return 0;
+    if (strcmp(problem, RECORD_MISSING) == 0 || strcmp(problem, RECORD_UNREADABLE) == 0)
+        severity = UNKNOWN;
+    add_reason(verdict, severity, R_PROBLEM, folder, name, problem);
+    return 1;
 }
 
 /* The lock is asked before anything is read: what is said is not older than what is said of the driver. */
@@ -39,68 +53,149 @@ static enum presence presence_of(const char *folder)
 
 /* A driver that has the folder and no live file yet is starting: it removes the last one's first of all.
  * Returns 1 where the live file cannot be used otherwise. */
-static int lacks_live(const char *folder, const char *problem, enum presence *presence)
+static int lacks_live(verdict *verdict, const char *folder, const char *problem, enum presence *presence)
 {
     if (problem != NULL && strcmp(problem, RECORD_MISSING) == 0) {
         *presence = DRIVER_STARTS;
         return 0;
     }
-    return says_problem(folder, "live", problem);
+    return finds_problem(verdict, folder, "live", problem);
 }
 
-static int says_refused_files(const char *folder)
+/* ---- a sender */
+
+static void take_oldest(time_t *oldest, uint64_t files, time_t time)
+{
+    if (files != 0 && time < *oldest)
+        *oldest = time;
+}
+
+/* Returns 1 where a folder cannot be read. */
+static int summarize(verdict *verdict, const char *folder, const char *name, folder_summary *summary)
 {
     char path[PATH_LENGTH];
-    long count;
 
-    path_of(path, folder, "refused");
-    count = count_files(path);
-    if (count >= 0)
-        say_refused_files(stdout, (uint64_t)count);
-    return says_problem(folder, "refused", count < 0 ? "cannot be read" : NULL);
+    path_of(path, folder, name);
+    return summarize_folder(path, summary) != 0 && finds_problem(verdict, folder, name, RECORD_UNREADABLE);
 }
 
-static int status_of_sender(const char *folder)
+static int find_undelivered(verdict *verdict, const char *folder, const sender_record *record,
+                            undelivered *all)
 {
-    enum presence presence = presence_of(folder);
-    sender_record record;
-    sender_counts counts;
-    uint64_t report[GMV_ACT_WORDS];
-    int wrong;
+    const uint64_t waits = record->words[GMV_SENDER_DELIVERED] + 1;
+    const time_t present = time(NULL);
+    time_t oldest = present;
 
-    if (says_problem(folder, "state", read_sender(folder, &record)))
+    memset(all, 0, sizeof *all);
+    if (summarize(verdict, folder, "spool", &all->spool) || summarize(verdict, folder, "refused", &all->refused))
         return 1;
-    if (presence == DRIVER_RUNS &&
-        lacks_live(folder, read_sender_live(folder, &record, report, &counts), &presence))
-        return 1;
-    say_sender_state(stdout, &record, presence);
-    say_sender_numbers(stdout, &record);
-    wrong = says_refused_files(folder);
-    if (presence == DRIVER_RUNS)
-        say_sender_live(stdout, report, &counts);
-    return wrong || presence == DRIVER_UNKNOWN;
+    all->waiting = record->words[GMV_SENDER_LAST] + 1 - waits;
+    take_oldest(&oldest, all->spool.files, all->spool.oldest);
+    take_oldest(&oldest, all->refused.files, all->refused.oldest);
+    take_oldest(&oldest, all->waiting, log_time(folder, waits));
+    all->age = (uint64_t)(present - oldest);
+    return 0;
 }
 
-static int status_of_receiver(const char *folder)
+/* Returns 1 where nothing can be said of it but the verdict's reason. */
+static int look_at_sender(verdict *verdict, const char *folder, sender_status *status)
 {
-    enum presence presence = presence_of(folder);
-    receiver_record record;
-    receiver_counts counts;
+    memset(status, 0, sizeof *status);
+    status->presence = presence_of(folder);
+    if (finds_problem(verdict, folder, "state", read_sender(folder, &status->record)))
+        return 1;
+    if (status->presence == DRIVER_RUNS &&
+        lacks_live(verdict, folder,
+                   read_sender_live(folder, &status->record, status->report, &status->counts, &status->running),
+                   &status->presence))
+        return 1;
+    if (find_undelivered(verdict, folder, &status->record, &status->undelivered))
+        return 1;
+    judge_sender(verdict, status);
+    return 0;
+}
 
-    if (says_problem(folder, "state", read_receiver(folder, &record)))
+/* ---- a receiver */
+
+static int look_at_receiver(verdict *verdict, const char *folder, receiver_status *status)
+{
+    char path[PATH_LENGTH];
+
+    memset(status, 0, sizeof *status);
+    status->presence = presence_of(folder);
+    if (finds_problem(verdict, folder, "state", read_receiver(folder, &status->record)))
         return 1;
-    if (presence == DRIVER_RUNS &&
-        lacks_live(folder, read_receiver_live(folder, &record, &counts), &presence))
+    if (status->presence == DRIVER_RUNS &&
+        lacks_live(verdict, folder,
+                   read_receiver_live(folder, &status->record, &status->counts, &status->running),
+                   &status->presence))
         return 1;
-    say_receiver(stdout, &record, presence, &counts);
-    return presence == DRIVER_UNKNOWN;
+    path_of(path, folder, "transactions");
+    if (!is_missing(path))
+        status->greatest = greatest_number(path);
+    judge_receiver(verdict, status);
+    return 0;
+}
+
+/* ---- what is said: the verdict first, though it is known last */
+
+static void say_end(FILE *out, const char *folder, enum kind kind, verdict *verdict)
+{
+    sender_status sender;
+    receiver_status receiver;
+
+    if (kind == SENDER && look_at_sender(verdict, folder, &sender) == 0)
+        say_sender(out, &sender);
+    if (kind != SENDER && look_at_receiver(verdict, folder, &receiver) == 0)
+        say_receiver(out, &receiver);
+}
+
+static void say_one_of(FILE *out, const char *folder, enum kind kind, const char *name, verdict *all)
+{
+    verdict own = {GOOD, ""};
+
+    if (kind_of(folder) != kind && kind_of(folder) != NO_END)
+        add_reason(all, UNKNOWN, R_WRONG_KIND, folder, name);
+    else
+        say_end(out, folder, kind, &own);
+    if (own.reasons[0] != '\0')
+        add_reason(all, own.severity, "%s: %s", name, own.reasons);
+}
+
+static void say_pair(FILE *out, const char *sender, const char *receiver, verdict *all)
+{
+    pair books = {sender, receiver, {{0}, {"", "", "", ""}, 0}, {{0}, {"", "", "", ""}, 0}, {{0}, 0, 0, 0, 0}};
+
+    say_one_of(out, sender, SENDER, "sender", all);
+    say_one_of(out, receiver, RECEIVER, "receiver", all);
+    if (read_sender(sender, &books.before) == NULL && read_receiver(receiver, &books.record) == NULL &&
+        read_sender(sender, &books.after) == NULL)
+        compare_books(out, &books, all);
 }
 
 int main(int count, char **words)
 {
-    if (count != 2) {
-        fprintf(stderr, "linkstatus DIR\n");
-        return 2;
+    verdict all = {GOOD, ""};
+    char *facts = NULL;
+    size_t length;
+    FILE *out;
+
+    name_program("linkstatus", UNKNOWN);
+    if (count != 2 && count != 3) {
+        fprintf(stderr, "linkstatus DIR\nlinkstatus SENDER RECEIVER\n");
+        return UNKNOWN;
     }
-    return is_sender_folder(words[1]) ? status_of_sender(words[1]) : status_of_receiver(words[1]);
+    out = open_memstream(&facts, &length);
+    if (out == NULL)
+        fail("no memory");
+    if (count == 2)
+        say_end(out, words[1], kind_of(words[1]), &all);
+    else
+        say_pair(out, words[1], words[2], &all);
+    if (fclose(out) != 0)
+        fail("no memory");
+    say_verdict(stdout, &all);
+    printf("%s", facts);
+    free(facts);
+    return all.severity;
 }

@@ -1,0 +1,21 @@
+/* The sender's log: each submitted message under its number. */
+#ifndef LOG_H
+#define LOG_H
+
+#include <stddef.h>
+#include <stdint.h>
+#include <sys/types.h>
+#include <time.h>
+
+enum { LOG_NAME = 32 };
+
+/* The message is durable in the log when it returns. */
+void log_store(const char *folder, uint64_t number, const uint8_t *message, size_t length);
+
+/* Reads a message of the log. Returns its length, or -1 where the log does not have it. */
+ssize_t log_read(const char *folder, uint64_t number, uint8_t *message, size_t size);
+
+/* When a message of the log was written; the present where it is not there. */
+time_t log_time(const char *folder, uint64_t number);
+
+#endif

@@ -1,0 +1,463 @@
+"""What readers and new users found and was mended: names that are too long, floods, deaf and vanished peers, peers that
+hang up, state files that are wrong and well formed, strangers. faults.py puts each fault back."""
+
+import ctypes
+import os
+import select
+import socket
+import struct
+import subprocess
+import time
+
+from duties import Peer, RULES, answer, damaged_states, happened, spoken, text, wait_for
+from ends import End, change_state, read, read_words, state_of
+from faults import Fault
+from lines import open_terminal
+from readout import said
+
+HERE = os.path.dirname(os.path.abspath(__file__))
+SB = bytes([0x0B])
+QUERY = RULES.block(b'MSH|^~\\&|||||||ADT|0|P|2.3.1|0\r')
+FIRST_FORM = {'s': 'giamuvich sender 1\nfirst 1\ndelivered 0\nlast 0\nresynchronized 0\nfrozen 0\nend\n',
+              'r': 'giamuvich receiver 1\nexpected 5\nstored 4\nend\n'}
+
+
+def write(path, data):
+    with open(path, 'wb') as file:
+        file.write(data if isinstance(data, bytes) else data.encode())
+
+
+def call(end):
+    circuit = socket.create_connection(('127.0.0.1', end.port), 15)
+    circuit.settimeout(15)
+    return circuit
+
+
+def transactions(folder):
+    return sorted(name for name in os.listdir(os.path.join(folder, 'transactions')) if name.endswith('.hl7'))
+
+
+# ---- each returns None, or what is wrong
+
+
+def long_names(bench):
+    """Refused files whose names get too long by the number in front lose their last bytes, and none is lost."""
+    folder = bench.sender()
+    names = ['a' * 254, 'a' * 255, 'b' * 253, 'c' * 252]
+    for name in names:
+        bench.put(name, b'no header: ' + name[-3:].encode() + b'%d' % len(name))
+    bench.put('d', text(1))
+    end = bench.start('send', 's', ['--minimal-connect', '127.0.0.1:1'])
+    if not wait_for(lambda: not os.listdir(os.path.join(folder, 'spool')), 5):
+        return 'the spool has %s: %s' % (os.listdir(os.path.join(folder, 'spool')), end.error_text())
+    refused = sorted(os.listdir(os.path.join(folder, 'refused')))
+    if refused != ['9-' + 'a' * 251 + '.1', '9-' + 'a' * 253, '9-' + 'b' * 253, '9-' + 'c' * 252]:
+        return 'refused are %s' % refused
+    if sorted(read(folder, 'refused', name) for name in refused) != sorted(
+            b'no header: ' + name[-3:].encode() + b'%d' % len(name) for name in names):
+        return 'a refused file is not what it was'
+    if read_words(folder, 'state')['last'] != 1 or end.finish() != 0:
+        return 'the good one is not submitted, or the driver ends badly'
+    return None
+
+
+def replaced(bench):
+    """A file that the host puts under a name that the driver is just about to take out of the spool is not lost."""
+    folder = bench.sender()
+    bench.put('a', b'no header')
+    end = End(bench.programs, 'send', folder, ['--minimal-connect', '127.0.0.1:1'], [])
+    bench.ends.append(end)
+    end.start(slow_disk(bench))
+    for seen, name, data in (('refused/9-a', 'a', text(1)), ('log/1.hl7', 'a', text(2)), ('log/2.hl7', 'b', text(3))):
+        if not wait_for(lambda seen=seen: os.path.exists(os.path.join(folder, seen))):
+            return 'no %s' % seen
+        bench.put(name, data)
+    if not wait_for(lambda: read_words(folder, 'state')['last'] == 3, 8):
+        return 'submitted up to %d, the spool has %s, refused are %s' % (
+            read_words(folder, 'state')['last'], os.listdir(os.path.join(folder, 'spool')),
+            os.listdir(os.path.join(folder, 'refused')))
+    if read(folder, 'refused', '9-a') != b'no header':
+        return 'the refused file is not what it was'
+    return None if end.finish() == 0 else 'ends badly'
+
+
+class Renames:
+    """Counts the renames to a name in a folder while it is open (inotify; both names of each rename are watched, as
+    equal events one after the other would be told as one)."""
+
+    def __init__(self, folder, name):
+        libc = ctypes.CDLL(None, use_errno=True)
+        self.name, self.file, self.count = name.encode(), libc.inotify_init1(os.O_NONBLOCK), 0
+        if self.file < 0 or libc.inotify_add_watch(self.file, folder.encode(), 0xC0) < 0:  # IN_MOVED_FROM, IN_MOVED_TO
+            raise OSError(ctypes.get_errno(), 'inotify')
+
+    def seen(self):
+        while True:
+            try:
+                events = os.read(self.file, 65536)
+            except BlockingIOError:
+                return self.count
+            while events:
+                _, mask, _, length = struct.unpack('iIII', events[:16])
+                self.count += mask == 0x80 and events[16:16 + length].rstrip(b'\0') == self.name
+                events = events[16 + length:]
+
+    def close(self):
+        os.close(self.file)
+
+
+def floods(bench):
+    """Each SB inside a block is a verdict. The read-out is written once a turn, and not once a verdict."""
+    folder = bench.receiver()
+    end = bench.start('receive', 'r', ['--minimal-listen', '0'])
+    circuit, renames = call(end), Renames(folder, 'live')
+    try:
+        if not wait_for(lambda: os.path.exists(os.path.join(folder, 'live'))):
+            return 'not shown'
+        circuit.sendall(SB * 65536)
+        if not wait_for(lambda: read_words(folder, 'live')['blocks'] == 65535):
+            return 'the blocks are not read: %s' % read_words(folder, 'live')
+        if renames.seen() > 200:
+            return '%d read-outs for 65,535 verdicts' % renames.seen()
+    finally:
+        renames.close()
+        circuit.close()
+    return None if end.finish() == 0 else 'ends badly'
+
+
+def slow_disk(bench):
+    """An end on a disk on which each sync takes 40 ms."""
+    library = bench.path('slow.so')
+    subprocess.run(['gcc', '-shared', '-fPIC', '-O1', '-Wall', '-Wextra', '-Werror', '-o', library,
+                    os.path.join(HERE, 'slow.c'), '-ldl'], check=True)
+    return {'LD_PRELOAD': library, 'SYNC_MILLISECONDS': '40'}
+
+
+def busy(bench):
+    """While one part's many transactions are stored, the driver hears of a new caller, and of its end."""
+    folder = bench.receiver()
+    end = End(bench.programs, 'receive', folder, ['--minimal-listen', '0'], [])
+    bench.ends.append(end)
+    end.start(slow_disk(bench))
+    part = b''.join(RULES.block(text(number, '')) for number in range(1, 31))
+    old = call(end)
+    old.sendall(part)
+    if not wait_for(lambda: len(transactions(folder)) >= 2):
+        return 'nothing is stored'
+    begin, new = time.monotonic(), call(end)
+    new.sendall(QUERY)
+    if not RULES.accepted(new.recv(4096)) or time.monotonic() > begin + 2:
+        return 'a new caller is heard after %.1f s' % (time.monotonic() - begin)
+    stored = read_words(folder, 'state')['stored']
+    new.sendall(b''.join(RULES.block(text(number, '')) for number in range(stored + 1, stored + 31)))
+    if not wait_for(lambda: read_words(folder, 'state')['stored'] > stored + 1):
+        return 'nothing more is stored'
+    begin = time.monotonic()
+    status = end.finish()
+    if status != 0 or time.monotonic() > begin + 2:
+        return 'it stops after %.1f s with %s' % (time.monotonic() - begin, status)
+    return None
+
+
+def deaf_caller(bench):
+    """A peer that reads no answers keeps nobody else out, however long the timer is."""
+    bench.receiver()
+    end = bench.start('receive', 'r', ['--minimal-listen', '0'], '--timer', '600000')
+    deaf = socket.socket()
+    deaf.setsockopt(socket.SOL_SOCKET, socket.SO_RCVBUF, 4096)
+    deaf.connect(('127.0.0.1', end.port))
+    deaf.setblocking(False)
+    while select.select([], [deaf], [], 0.7)[1]:  # until the receiver waits to be read
+        try:
+            deaf.send(QUERY * 500)
+        except BlockingIOError:
+            pass
+    new, begin = call(end), time.monotonic()
+    new.settimeout(5)
+    new.sendall(QUERY)
+    try:
+        heard = new.recv(4096)
+    except socket.timeout:
+        return 'a new caller is not heard'
+    if RULES.accepted(heard) != [(b'D', answer('AA', '0', '-1'))]:
+        return 'a new caller hears %s after %.1f s' % (heard, time.monotonic() - begin)
+    deaf.close()
+    new.close()
+    return None if end.finish() == 0 else 'ends badly'
+
+
+def vanish(circuit):
+    """The connection is gone at this end, and nothing is said to the other one. False where it may not be done."""
+    try:
+        circuit.setsockopt(socket.IPPROTO_TCP, 19, 1)  # TCP_REPAIR
+    except PermissionError:
+        return False
+    circuit.close()
+    return True
+
+
+def keepalive_timer(port):
+    """Whether the system's table has a running keepalive timer for the connection to this port."""
+    with open('/proc/net/tcp', encoding='ascii') as file:
+        rows = [line.split() for line in file.readlines()[1:]]
+    return any(row[2].endswith(':%04X' % port) and row[5].startswith('02:') for row in rows)
+
+
+def vanished_peers(bench):
+    """A receiver that calls finds out that its peer is gone without a word, and calls again."""
+    bench.receiver()
+    server = socket.create_server(('127.0.0.1', 0))
+    server.settimeout(15)
+    port = server.getsockname()[1]
+    end = bench.start('receive', 'r', ['--minimal-connect', '127.0.0.1:%d' % port], '--keepalive', '1')
+    circuit = server.accept()[0]
+    circuit.sendall(QUERY)
+    circuit.settimeout(15)
+    if not circuit.recv(4096):
+        return 'no answer'
+    if not wait_for(lambda: keepalive_timer(port), 5):
+        return 'the peer is not asked whether it is there'
+    if vanish(circuit):
+        server.settimeout(8)
+        try:
+            server.accept()[0].close()
+        except socket.timeout:
+            return 'a peer that vanished is not noticed'
+    server.close()
+    return None if end.finish() == 0 else 'ends badly'
+
+
+def plain_devices(bench):
+    """A device that no terminal server renews is named, since nobody empties its line; a link to one is not."""
+    (master, path), sentence = open_terminal(), '%s is a plain device: nobody empties this line between two circuits'
+    os.symlink(path, bench.path('tty'))
+    bench.receiver('direct')
+    bench.receiver('linked')
+    direct = bench.start('receive', 'direct', ['--hybrid-tty', path])
+    linked = bench.start('receive', 'linked', ['--hybrid-tty', bench.path('tty')])
+    try:
+        if not wait_for(lambda: happened(direct) == [sentence % path]):
+            return 'it is not said: %s' % direct.error_text()
+        if not wait_for(lambda: spoken(linked)) or happened(linked):
+            return 'it is said of a link: %s' % linked.error_text()
+        return None if [direct.finish(), linked.finish()] == [0, 0] else 'ends badly'
+    finally:
+        os.close(master)
+
+
+def calls_of(peer, seconds):
+    """How often a peer that hangs up at once is called in this time."""
+    count, until = 0, time.monotonic() + seconds
+    while time.monotonic() < until:
+        if select.select([peer.server], [], [], max(0.0, until - time.monotonic()))[0]:
+            peer.server.accept()[0].close()
+            count += 1
+    return count
+
+
+def hangups(bench):
+    """A peer that takes the call and hangs up is called after pauses that grow, and the line on it is folded. One that
+    answers is called at once again."""
+    bench.sender()
+    peer = Peer()
+    end = bench.start('send', 's', peer.line)
+    count = calls_of(peer, 3)
+    if not 5 <= count <= 20:
+        return 'called %d times in 3 seconds' % count
+    sentence = '127.0.0.1:%d took the call and hung up without an answer' % peer.server.getsockname()[1]
+    if happened(end) != [sentence]:
+        return 'it is not said once: %s' % end.error_text()
+    wanted = 'warning: %d circuits ended without an answer'
+    if not wait_for(lambda: said(bench.programs, bench.path('s'))[0][0] in (wanted % count, wanted % (count + 1)), 3):
+        return 'linkstatus says %s' % said(bench.programs, bench.path('s'))[0]
+    for _ in range(2):
+        peer.accept()
+        peer.block()
+        peer.reply('AA', '-1', '-1')
+        if not wait_for(lambda: read_words(bench.path('s'), 'live')['hung_up'] == 0):
+            return 'an answer does not end it'
+        peer.circuit.close()
+        begin = time.monotonic()
+    if not select.select([peer.server], [], [], 2)[0]:
+        return 'after an answer it calls again only after %.1f s' % (time.monotonic() - begin)
+    peer.close()
+    if end.finish() != 0:
+        return 'ends badly'
+    folded = [line for line in happened(end) if line.endswith(': ' + sentence)]
+    return None if len(folded) == 1 and ' times more since ' in folded[0] else 'not folded: %s' % end.error_text()
+
+
+def first_forms(bench):
+    """A state without a check is taken once, and written again with one; then it is refused."""
+    for name, command in (('s', 'send'), ('r', 'receive')):
+        folder = bench.sender() if name == 's' else bench.receiver()
+        os.unlink(os.path.join(folder, 'form'))
+        write(os.path.join(folder, 'state'), FIRST_FORM[name])
+        end = bench.start(command, name, ['--minimal-connect', '127.0.0.1:1'])
+        if not wait_for(lambda folder=folder: b' 2\n' in read(folder, 'state')[:24]) or not wait_for(
+                lambda folder=folder: os.path.exists(os.path.join(folder, 'live'))) or end.finish() != 0:
+            return '%s: not written again: %s' % (name, end.error_text())
+        before, after = state_of(FIRST_FORM[name].encode(), 'first'), state_of(read(folder, 'state'), 'second')
+        if dict(after[1], **before[1]) != after[1]:
+            return '%s: %s became %s' % (name, before, after)
+        write(os.path.join(folder, 'state'), FIRST_FORM[name])
+        status, words = bench.driver(command, folder, '--minimal-connect', '127.0.0.1:1')
+        if status != 1 or 'has lost its check' not in words:
+            return '%s: taken twice: %d %s' % (name, status, words)
+    return None
+
+
+def beyond(bench):
+    """A file beyond the one that a crash may leave stops either end, and nothing is written over."""
+    receiver, sender = bench.receiver(), bench.sender()
+    for folder, command, allowed, wrong in (
+            (receiver, 'receive', 'transactions/000000000000001.hl7', 'transactions/000000000000002.hl7'),
+            (sender, 'send', 'log/1.hl7', 'log/2.hl7')):
+        write(os.path.join(folder, wrong), text(2, 'PID|of somebody\r'))
+        status, words = bench.driver(command, folder, '--minimal-connect', '127.0.0.1:1')
+        if status != 1 or 'nothing is written over' not in words:
+            return '%s: %d %s' % (command, status, words)
+        os.rename(os.path.join(folder, wrong), os.path.join(folder, allowed))
+    end = bench.start('receive', 'r', ['--minimal-listen', '0'])
+    circuit = call(end)
+    circuit.sendall(RULES.block(text(1)))
+    if not RULES.accepted(circuit.recv(4096)) or read(receiver, 'transactions/000000000000001.hl7') != text(1):
+        return "a crash's leftover is not written over"
+    write(os.path.join(receiver, 'transactions/000000000000002.hl7'), b'of somebody')
+    circuit.sendall(RULES.block(text(2)))
+    if not wait_for(lambda: end.process.poll() is not None, 5) or 'it is not written over' not in end.error_text():
+        return 'a file that no crash left is written over: %s' % end.error_text()
+    if read(receiver, 'transactions/000000000000002.hl7') != b'of somebody' or read_words(receiver, 'state')['stored'] != 1:
+        return 'something was stored all the same'
+    return None
+
+
+def wrong_count(bench):
+    """A state with a wrong `stored`, well formed and with a right check: no result is written over."""
+    folder = bench.receiver()
+    end = bench.start('receive', 'r', ['--minimal-listen', '0'])
+    circuit = call(end)
+    circuit.sendall(b''.join(RULES.block(text(number)) for number in range(1, 8)))
+    if not wait_for(lambda: read_words(folder, 'state')['stored'] == 7) or end.finish() != 0:
+        return 'not stored'
+    change_state(os.path.join(folder, 'state'), stored=4)
+    status, words = bench.driver('receive', folder, '--minimal-connect', '127.0.0.1:1')
+    if status != 1 or 'nothing is written over' not in words:
+        return '%d %s' % (status, words)
+    if [read(folder, 'transactions', name) for name in transactions(folder)] != [text(number) for number in range(1, 8)]:
+        return 'a result was written over'
+    return None
+
+
+def strangers(bench):
+    """A -1 in the middle of a tenancy is said and kept: what it expected, and after how many."""
+    folder = bench.receiver()
+    end = bench.start('receive', 'r', ['--minimal-listen', '0'])
+    circuit = call(end)
+    circuit.sendall(b''.join(RULES.block(text(number)) for number in (-1, 1, 2, -1)))
+    if not wait_for(lambda: read_words(folder, 'state')['cleared'] == 3):
+        return 'not kept: %s' % read_words(folder, 'state')
+    name = '127.0.0.1:%d' % circuit.getsockname()[1]
+    if not wait_for(lambda: happened(end) == ['-1 from %s: the expected number 3 is forgotten, with 2 stored' % name]):
+        return 'not said: %s' % end.error_text()
+    sentence = 'warning: -1 took the expected number 3 away after 2 transactions'
+    if not wait_for(lambda: said(bench.programs, folder)[0][0] == sentence):
+        return 'linkstatus says %s' % said(bench.programs, folder)[0]
+    circuit.close()
+    if end.finish() != 0 or said(bench.programs, folder)[0][2] != (
+            'the last -1 took the expected number 3 away, after 2 transactions'):
+        return 'not there after the end: %s' % said(bench.programs, folder)[0]
+    return None
+
+
+def shown_settings(bench):
+    """The read-out has the settings, the process and the peer's address."""
+    folder = bench.receiver()
+    end = bench.start('receive', 'r', ['--minimal-listen', '0'], '--data-limit', '300', '--timer', '77', '--resends', '5',
+                      '--type', 'ORU', '--application', 'AE')
+    circuit = call(end)
+    settings = 'settings: minimal-listen 0, data limit 300, timer 77, resends 5, type ORU, application AE'
+    wanted = ['process %d, last turned 0 s ago' % end.process.pid, settings,
+              'peer: 127.0.0.1:%d' % circuit.getsockname()[1]]
+    if not wait_for(lambda: said(bench.programs, folder)[0][-3:] == wanted):
+        return 'said is %s' % said(bench.programs, folder)[0]
+    circuit.close()
+    if not wait_for(lambda: said(bench.programs, folder)[0][-1] == 'no peer: nobody calls'):
+        return 'without a circuit: %s' % said(bench.programs, folder)[0]
+    if spoken(end) != ['started: ' + settings[10:]]:
+        return 'at the start: %s' % end.error_text()
+    return None if end.finish() == 0 and spoken(end)[-1] == 'stopped' else 'ends badly'
+
+
+def hanging(bench):
+    """A driver that is stopped is seen: its last turn gets older. One that runs turns each second."""
+    folder = bench.receiver()
+    end = bench.start('receive', 'r', ['--minimal-listen', '0'])
+    if not wait_for(lambda: os.path.exists(os.path.join(folder, 'live'))):
+        return 'not shown'
+    turned = read_words(folder, 'live')['turned']
+    if not wait_for(lambda: read_words(folder, 'live')['turned'] > turned + 500, 4):
+        return 'a driver with nothing to do does not turn'
+    return None if end.finish() == 0 else 'ends badly'
+
+
+REPAIRS = [long_names, replaced, floods, busy, deaf_caller, vanished_peers, plain_devices, hangups, first_forms, beyond, wrong_count,
+           strangers, shown_settings, hanging]
+
+
+PRELOADED = (replaced, busy)  # a library is preloaded, which does not go with a sanitizer's
+
+
+def fault(name, file, old, new, test):
+    return Fault(name, [(file, old, new)], test)
+
+
+# What was mended, put back: the name, the file, the text that stands there once, what is put in its place, and the test
+# that must find it.
+FAULTS = [
+    fault('a long name ends the driver', 'spool.c', 'else if (errno == ENAMETOOLONG && kept > 0)', 'else if (0)', long_names),
+    fault("the host's next file goes with the last one", 'spool.c', 'if (is_seen_file(path, &file->seen) && unlink(path) != 0',
+          'if (unlink(path) != 0', replaced),
+    fault('a read-out for each verdict', 'receiving_end.c', '            receive_block(end);\n        if (line_is_called',
+          '            receive_block(end), show_receiver(end->folder, &end->record, &end->counts, &end->running);\n'
+          '        if (line_is_called', floods),
+    fault('a part is not left for its end', 'receiving_end.c', 'end->line.circuit >= 0 && !stop_requested()) {',
+          'end->line.circuit >= 0) {', busy),
+    fault('a part is not left for a new caller', 'receiving_end.c', 'if (line_is_called(&end->line))', 'if (0)', busy),
+    fault('a deaf peer keeps others out', 'line.c', '|| stop_requested() || line_is_called(line))', '|| stop_requested())',
+          deaf_caller),
+    fault('no keepalive', 'line.c', 'const int yes = 1, silence', 'const int yes = 0, silence', vanished_peers),
+    fault('a plain device is not named', 'line.c', 'if (link->kind == TERMINAL && is_plain_device(link->address))', 'if (0)',
+          plain_devices),
+    fault('no pause after a hang-up', 'line.c', 'wait_longer(line, MOST_HANGUP_PAUSE);', 'line->next_try = now() + LEAST_PAUSE;',
+          hangups),
+    fault('repeats are not folded', 'said.c', 'if (strcmp(line, last->line) == 0 ||', 'if (0 &&', hangups),
+    fault('a line without its time', 'said.c', 'fprintf(stderr, "%s %s", time, line);', 'fprintf(stderr, "%s", line);',
+          shown_settings),
+    fault('a state without a check is taken again', 'records.c', 'return unchecked && !is_missing(path) ?', 'return 0 ?', first_forms),
+    fault('the check is not compared', 'records.c', '    return takes(at, wanted);\n}\n\n/* A state\'s title',
+          '    *at += strlen(wanted);\n    return 1;\n}\n\n/* A state\'s title', damaged_states),
+    fault('a wrong count is believed', 'receiving_end.c', 'if (greatest > end->record.stored + 1)', 'if (0)', wrong_count),
+    fault('an old sender\'s state is believed', 'sending_end.c', 'if (greatest > end->record.words[GMV_SENDER_LAST] + 1)', 'if (0)',
+          beyond),
+    fault('a stored transaction is written over', 'receiving_end.c', 'if (end->stored_any && !is_missing(path))', 'if (0)', beyond),
+    fault('a stranger\'s -1 is not told', 'receiving_end.c', 'if (before == 0 || after->words[GMV_RECEIVER_EXPECTED] != 0)',
+          'if (1)', strangers),
+    fault('a driver with nothing to do does not turn', 'receiving_end.c', 'earliest(line_next_try(&end.line), now() + BEAT)',
+          'line_next_try(&end.line)', hanging),
+]
+
+# The same of linkstatus: its cases, or those of the books, must find it.
+READ_OUT_FAULTS = [
+    fault('the spool is not counted', 'status.c', 'return all->waiting + all->spool.files + all->refused.files;',
+          'return all->waiting;', None),
+    fault('a frozen sender ends with 0', 'linkstatus/linkstatus.c', 'return all.severity;', 'return GOOD;', None),
+    fault('a driver that hangs is called good', 'status.c', 'else if (seconds_since(running->turned) >= PASSING)',
+          'else if (0)', None),
+    fault('a dead receiver is called good', 'status.c', 'add_reason(verdict, CRITICAL, R_NO_DRIVER);', ';', None),
+    fault('an empty refused file is a warning', 'store.c', 'if (status.st_size == 0) {', 'if (0) {', None),
+    fault('the books believe the numbers', 'linkstatus/books.c', '    compare_messages(&books);\n', '', None),
+    fault('the books believe the bytes', 'linkstatus/books.c', '    compare_numbers(&books);\n', '', None),
+    fault('the books believe the mark', 'linkstatus/books.c', '    compare_mark(&books);\n', '', None),
+    fault('the books believe the count', 'linkstatus/books.c', '    compare_files(&books);\n', '', None),
+]
