@@ -4,6 +4,7 @@ A kill leaves what is visible. A power cut leaves what was synced; of what was n
 apart from contents, and each name from each other one: of a rename that was not synced there may be the
 new name, the removal of the old one, both or neither, and the file that it names may be empty."""
 
+import collections
 import itertools
 import math
 import os
@@ -40,6 +41,9 @@ class Image:
             for path in others:
                 os.unlink(os.path.join(folder, path))
                 os.link(os.path.join(folder, first), os.path.join(folder, path))
+
+    def distance(self, other):
+        return len(self.key[0] ^ other.key[0])
 
     def differences(self, other):
         """The paths that are not the same in both."""
@@ -202,8 +206,9 @@ class Disk:
 
     # ---- what is there
 
-    def image(self, chosen):
-        """What is on the disk where these values are chosen, and the others are the visible ones."""
+    def image(self, chosen, closed=()):
+        """What is on the disk where these values are chosen, and the others are the visible ones. Of folders
+        that are closed the content is known."""
         content, paths = {}, {}
 
         def walk(folder, prefix):
@@ -214,7 +219,10 @@ class Disk:
                     paths.setdefault(value, []).append(prefix + name)
                 elif value is not None:
                     content[prefix + name] = FOLDER
-                    walk(value, prefix + name + '/')
+                    if value in closed:
+                        content.update(closed[value])
+                    else:
+                        walk(value, prefix + name + '/')
 
         walk(self.root, '')
         return Image(content, [tuple(sorted(same)) for same in paths.values() if len(same) > 1])
@@ -252,6 +260,29 @@ class Disk:
                     found[at, name] = values, values.index(now)
         return found
 
+    def closed(self, choices):
+        """The content of each folder in which all is decided: nothing to choose, no file with another name
+        elsewhere. It is the same in all images."""
+        places = collections.Counter(value for folder in self.numbers.values() if isinstance(folder, Folder)
+                                     for name in folder.entries for value in folder.values(name))
+        found = {}
+
+        def walk(folder, prefix):
+            content, decided = {}, True
+            for name, value in folder.entries.items():
+                decided = decided and (folder, name) not in choices and value not in choices and places[value] == 1
+                if isinstance(value, Folder):
+                    content.update({prefix + name: FOLDER, **walk(value, prefix + name + '/')})
+                    decided = decided and value in found
+                elif value is not None:
+                    content[prefix + name] = value.bytes
+            if decided:
+                found[folder] = content
+            return content
+
+        walk(self.root, '')
+        return found
+
     @staticmethod
     def selections(sizes, visible, random, most):
         """Which of its values each choice has, by index."""
@@ -268,9 +299,10 @@ class Disk:
     def cuts(self, random, most=MOST):
         """The images that a power cut may leave, each once, the visible one first."""
         choices, visible_image = self.choices(), self.visible()
-        found = {visible_image.key: visible_image}
+        closed, found = self.closed(choices), {visible_image.key: visible_image}
         sizes, visible = [len(values) for values, _ in choices.values()], [now for _, now in choices.values()]
         for selection in self.selections(sizes, visible, random, most):
-            image = self.image({key: values[index] for (key, (values, _)), index in zip(choices.items(), selection)})
+            chosen = {key: values[index] for (key, (values, _)), index in zip(choices.items(), selection)}
+            image = self.image(chosen, closed)
             found[image.key] = image
         return list(found.values())

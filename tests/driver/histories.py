@@ -28,10 +28,12 @@ class Cuts:
         self.known, self.images = {}, {}
 
     def of(self, disk):
-        """The images, the visible one first, and one image to each that may be stored."""
+        """The images, the visible one first and the most unlike it last, and the first image to each that may
+        be stored."""
         state = disk.state()
         if state not in self.known:
             images = [self.images.setdefault(image.key, image) for image in disk.cuts(self.draws, self.most)]
+            images.sort(key=images[0].distance)
             stored = {}
             for image in images:
                 try:

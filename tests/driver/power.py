@@ -28,16 +28,16 @@ SOON = 12  # acts after a start: those of the start itself, and a few more
 FAILED = 1  # the exit status of a driver that cannot go on
 
 
-def kill(act, half=False):
-    """Before an act, or in its middle."""
-    return {'CRASH_AT': str(act), 'CRASH_HALF': str(int(half))}
+def killed_at(act, half=False, sync=False):
+    """How trace.c is to kill an end: before an act, in the middle of a write, or before a sync."""
+    return {'CRASH_AT': str(act), 'CRASH_HALF': str(int(half)), 'CRASH_SYNC': str(int(sync))}
 
 
 class Link:
     """Both ends on one port, started from an image each; where it is traced, with their histories."""
 
     def __init__(self, test, images, traced, ending=-signal.SIGKILL):
-        self.test, self.folder, self.traced, self.ending = test, test.new_folder(), traced, ending
+        self.test, self.folder, self.traced, self.ending, self.ended = test, test.new_folder(), traced, ending, 0
         self.folders = [os.path.join(self.folder, name) for name in NAMES]
         for image, folder in zip(images, self.folders):
             self.lay_out(image, folder)
@@ -154,15 +154,19 @@ class Chain(Link):
             history.cuts = Cuts(check, self.draws, self.MOST)
 
     def start_again(self):
-        """Each that is dead is killed again at an act that is drawn, in one of five in its middle."""
-        self.start([kill(self.draws.randrange(self.draws.choice([3, 6, 12, 25, 50])) + 1, self.draws.random() < 0.2)
-                    for _ in NAMES])
+        """Each that is dead is killed again at an act that is drawn."""
+        self.start([self.draws.choice([
+            killed_at(self.drawn_act([3, 6, 12, 25, 50])), killed_at(self.drawn_act([2, 4, 8, 16]), sync=True),
+            killed_at(self.drawn_act([2, 4, 8, 16]), half=True)]) for _ in NAMES])
+
+    def drawn_act(self, most):
+        return self.draws.randrange(self.draws.choice(most)) + 1
 
     def step(self):
         """An end dies, or both do; of each the machine may lose its power."""
         begin = len(self.histories[0].moments)
         dead = self.wait((0, 1))
-        also = self.draws.choice([(), (), (0, 1)] if dead else [(0,), (1,), (0, 1)])
+        also = self.draws.choice([(), (), (), (0, 1)] if dead else [(0,), (1,), (0, 1)])
         for index in set(also) - set(dead):
             self.kill(index)
             dead.append(index)
@@ -170,7 +174,7 @@ class Chain(Link):
         self.check(max(0, begin - self.LOOK_BACK))
         for index in dead:
             self.note('kills in chains', index)
-            if self.draws.random() < 0.5:
+            if self.draws.random() < 0.4:
                 self.cut(index)
         if 0 in dead:
             self.feed()
@@ -197,6 +201,8 @@ class Chain(Link):
             else:
                 name = self.books.spool_refused(b'no header %d' % len(self.books.messages))
             self.histories[0].disk.spooled(os.path.join(self.folders[0], 'spool', name))
+        if self.draws.random() < 0.5:
+            self.histories[0].disk.root.entries['spool'].sync()  # by the host: what the driver removed is gone too
         self.histories[0].cuts.known.clear()
         self.histories[0].look('spooling')
 
@@ -254,35 +260,33 @@ class PowerLoss:
 
     # ---- in memory
 
-    def run(self, images):
-        """Without kills. At every moment, the cuts of one end and of both."""
-        with Link(self, images, True) as link:
+    def run(self, images, traced=True):
+        """Without kills. Where it is traced, with the cuts of one end and of both at every moment."""
+        with Link(self, images, traced) as link:
             link.start()
             link.run()
-            link.follow()
-            link.check()
+            if traced:
+                link.follow()
+                link.check()
             link.books.check_all()
         return link
 
     def run_ended(self, victim, endings, ending=-signal.SIGKILL):
-        """An end is ended in each of these ways in turn and started again. Returns None where it does not come
-        to the first."""
-        ended = False
+        """An end is ended in each of these ways in turn and started again, as far as it comes to them: `ended`
+        says how often."""
         with Link(self, self.images, True, ending) as link:
             try:
-                for one in endings:
+                for one in (*endings, {}):
                     link.start([one if index == victim else {} for index in (0, 1)])
-                    if not link.run(victim):
+                    if not link.run(victim if one else None):
                         break
-                    ended = True
-                link.start()
-                link.run()
+                    link.ended += 1
                 link.follow()
                 link.check()
             except Violation as found:
                 raise Violation('%s; the %s: %s' % (found, NAMES[victim], ', '.join(
                     '%s %s' % pair for one in endings for pair in one.items()))) from found
-        return link if ended else None
+        return link
 
     # ---- and both ends are started from what is left
 
@@ -291,13 +295,12 @@ class PowerLoss:
         self.counts['starts'] += 1
         for started, image in zip(self.started, images):
             started.add(image.key)
-        if traced:
-            self.run(images)
-            return
-        with Link(self, images, False) as link:
-            link.start()
-            link.run()
-            link.books.check_all()
+        try:
+            self.run(images, traced)
+        except Violation as found:
+            others = [', '.join(image.differences(first)) or 'nothing' for image, first in zip(images, self.images)]
+            raise Violation('%s; started after a power cut, otherwise than at first are %s of the sender, %s of the '
+                            'receiver' % (found, *others)) from found
 
     def fresh(self, link):
         """Images of both ends at moments that can be at once, until each was started from."""
@@ -327,18 +330,21 @@ class PowerLoss:
     def after_kills(self, victim, half):
         """Each act of an end, also with a second kill soon after. Returns how many there are."""
         for at in itertools.count(1):
-            link = self.run_ended(victim, [kill(at, half)])
-            if link is None:
+            link = self.run_ended(victim, [killed_at(at, half)])
+            if not link.ended:
                 return at - 1
             for images in self.fresh(link):
                 self.start_from(images, self.draws.random() < 0.1)
-            self.run_ended(victim, [kill(at, half), kill(self.draws.randrange(SOON) + 1)])
+            self.run_ended(victim, [killed_at(at, half), killed_at(self.draws.randrange(SOON) + 1)])
         return None
 
     def after_failed_syncs(self, victim):
         """Each sync of an end, which ends by itself then. Returns how many there are."""
         for at in itertools.count(1):
-            if self.run_ended(victim, [{'FAIL_SYNC_AT': str(at)}], FAILED) is None:
+            link = self.run_ended(victim, [{'FAIL_SYNC_AT': str(at)}], FAILED)
+            if not link.ended:
+                syncs = [act for act in link.histories[victim].acts() if act.startswith('sync')]
+                hold(len(syncs) < at, 'sync %d fails, and the %s goes on', at, NAMES[victim])
                 return at - 1
         return None
 
@@ -431,8 +437,7 @@ class PowerLoss:
             for images in self.fresh(link) if unlikely else ():
                 self.start_from(images, True)
             for _, victim, at in some:
-                self.run_ended(victim, [kill(at)])
-
+                self.run_ended(victim, [killed_at(at)])
 
     def past_the_trace(self):
         """A driver that makes a file by a call that is not traced."""

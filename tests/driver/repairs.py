@@ -159,19 +159,30 @@ def busy(bench):
     return None
 
 
+def turned(folder):
+    """When the driver last showed that it turns; now where it has not yet."""
+    try:
+        return read_words(folder, 'live')['turned']
+    except FileNotFoundError:
+        return time.monotonic() * 1000
+
+
 def deaf_caller(bench):
     """A peer that reads no answers keeps nobody else out, however long the timer is."""
-    bench.receiver()
+    folder = bench.receiver()
     end = bench.start('receive', 'r', ['--minimal-listen', '0'], '--timer', '600000')
-    deaf = socket.socket()
+    deaf, limit = socket.socket(), time.monotonic() + 20
     deaf.setsockopt(socket.SOL_SOCKET, socket.SO_RCVBUF, 4096)
     deaf.connect(('127.0.0.1', end.port))
     deaf.setblocking(False)
-    while select.select([], [deaf], [], 0.7)[1]:  # until the receiver waits to be read
-        try:
-            deaf.send(QUERY * 500)
-        except BlockingIOError:
-            pass
+    while time.monotonic() * 1000 < turned(folder) + 2500:  # until the receiver waits to be read
+        if time.monotonic() > limit:
+            return 'it goes on answering'
+        if select.select([], [deaf], [], 0.1)[1]:
+            try:
+                deaf.send(QUERY * 500)
+            except BlockingIOError:
+                pass
     new, begin = call(end), time.monotonic()
     new.settimeout(5)
     new.sendall(QUERY)

@@ -5,7 +5,8 @@
  *
  * TRACE_DESCRIPTOR: where to write down, opened for appending; both ends may have the same one.
  * TRACE_END: each line's first word. CRASH_AT: the act's number, from 1 on. CRASH_HALF: 1 if in its
- * middle; then only writes count. FAIL_SYNC_AT: the number of a sync that fails, and does nothing.
+ * middle; then only writes count. CRASH_SYNC: 1 if only syncs count. FAIL_SYNC_AT: the number of a sync
+ * that fails, and does nothing.
  *
  * A line is: end, act, the file's number in its file system, path, and of a write the offset and the
  * bytes in hexadecimal, of a rename and a link the second path. Of what went out or came in on the
@@ -113,13 +114,13 @@ static int is_light(const char *name)
 static int begin_act(const char *act, const char *what)
 {
     static int acts;
-    const int halves = number_in("CRASH_HALF") == 1;
+    const int halves = number_in("CRASH_HALF") == 1, syncs = number_in("CRASH_SYNC") == 1;
     const int writes = strcmp(act, "write") == 0 || strcmp(act, "block") == 0;
 
     if (is_light(what))
         return 0;
     lock_trace(F_WRLCK);
-    if (!halves || writes)
+    if (halves ? writes : !syncs || strcmp(act, "sync") == 0)
         acts++;
     if (acts == number_in("CRASH_AT") && !halves) {
         record("dies %s %s", act, what);
