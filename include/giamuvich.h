@@ -349,7 +349,9 @@ uint64_t gmv_control_write(const uint8_t *type, size_t type_length, uint64_t num
  *
  * The duties below are needed so that each transaction is stored once and in order (docs/LINK.md has
  * the theorem, docs/HOST.md the duties as a checklist). On a plain serial device, where no hangup
- * reaches the other end, they are not kept: the line is not empty at a new circuit. */
+ * reaches the other end, they are not kept: the line is not empty at a new circuit. A TCP connection
+ * that is ended is closed so that the system drops what was written and has not arrived (SO_LINGER,
+ * 0 seconds): else it can come in after the next one was opened. */
 
 /* ---- The receiver of sequence numbers ----
  *

@@ -89,7 +89,7 @@ static void note_stop(int signal_number)
 
 void catch_stop(void)
 {
-    struct sigaction action;
+    struct sigaction action, before;
 
     if (pipe(stop_pipe) != 0 || fcntl(stop_pipe[1], F_SETFL, O_NONBLOCK) != 0)
         fail("no pipe: %s", strerror(errno));
@@ -97,6 +97,9 @@ void catch_stop(void)
     sigemptyset(&action.sa_mask);
     action.sa_handler = note_stop;
     if (sigaction(SIGTERM, &action, NULL) != 0 || sigaction(SIGINT, &action, NULL) != 0)
+        fail("no signal handler: %s", strerror(errno));
+    if (sigaction(SIGHUP, NULL, &before) != 0 ||
+        (before.sa_handler != SIG_IGN && sigaction(SIGHUP, &action, NULL) != 0)) /* nohup stays nohup */
         fail("no signal handler: %s", strerror(errno));
     action.sa_handler = SIG_IGN; /* a peer that is gone is an error of write, not the driver's end */
     if (sigaction(SIGPIPE, &action, NULL) != 0)

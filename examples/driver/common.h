@@ -28,7 +28,7 @@ enum { BEAT = 1000 };
 enum { TIME_TEXT = 20 };
 void time_of_day(char *text);
 
-/* SIGTERM and SIGINT ask to stop. The descriptor becomes readable then, so that no poll misses it. */
+/* SIGTERM, SIGINT and SIGHUP ask to stop. The descriptor becomes readable then, so that no poll misses it. */
 void catch_stop(void);
 int stop_descriptor(void);
 int stop_requested(void);

@@ -21,6 +21,7 @@ enum { LEAST_PAUSE = 10, MOST_CALL_PAUSE = 500, MOST_HANGUP_PAUSE = 5000, CONNEC
 #define NOBODY_CALLS "nobody calls"
 #define NOT_CALLED "not called yet"
 #define ENDED "the circuit ended"
+enum { LASTING = 10000 /* milliseconds after which a circuit was of use */, LATELY = 300000 };
 enum { PROBES = 3 /* without an answer, a second apart, until a peer is taken for gone */ };
 
 static int set_nonblocking(int descriptor)
@@ -105,12 +106,15 @@ static struct addrinfo *addresses_of(line *line)
     return problem == 0 ? found : NULL;
 }
 
-/* A peer that vanished without a word is found out, also by an end that only listens to what comes. */
+/* A peer that vanished without a word is found out, also by an end that only listens to what comes, and also while
+ * something that was written is on its way. */
 static int keep_alive(int circuit, const settings *link)
 {
     const int yes = 1, silence = (int)link->keepalive, between = 1, probes = PROBES;
+    const unsigned int limit = 1000 * ((unsigned int)link->keepalive + PROBES);
 
     return setsockopt(circuit, SOL_SOCKET, SO_KEEPALIVE, &yes, sizeof yes) == 0 &&
+           setsockopt(circuit, IPPROTO_TCP, TCP_USER_TIMEOUT, &limit, sizeof limit) == 0 &&
            setsockopt(circuit, IPPROTO_TCP, TCP_KEEPIDLE, &silence, sizeof silence) == 0 &&
            setsockopt(circuit, IPPROTO_TCP, TCP_KEEPINTVL, &between, sizeof between) == 0 &&
            setsockopt(circuit, IPPROTO_TCP, TCP_KEEPCNT, &probes, sizeof probes) == 0;
@@ -145,6 +149,15 @@ static int reaches_itself(int circuit)
            own_length == peer_length && memcmp(&own, &peer, own_length) == 0;
 }
 
+/* What was written and has not arrived is dropped when the circuit ends, by whatever end of this process: else the
+ * system goes on sending it, and the peer may get it after the next circuit was opened. */
+static int drop_at_close(int circuit)
+{
+    const struct linger drop = {1, 0};
+
+    return setsockopt(circuit, SOL_SOCKET, SO_LINGER, &drop, sizeof drop) == 0;
+}
+
 /* Returns the circuit, or -1 with errno. */
 static int connect_to(const struct addrinfo *address, const settings *link)
 {
@@ -152,7 +165,7 @@ static int connect_to(const struct addrinfo *address, const settings *link)
 
     if (circuit < 0)
         return -1;
-    if (set_nonblocking(circuit) == 0 && keep_alive(circuit, link) &&
+    if (set_nonblocking(circuit) == 0 && keep_alive(circuit, link) && drop_at_close(circuit) &&
         (connect(circuit, address->ai_addr, address->ai_addrlen) == 0 ||
          ((errno == EINPROGRESS || errno == EINTR) && finish_connecting(circuit) == 0))) {
         if (!reaches_itself(circuit))
@@ -270,8 +283,9 @@ static void note_peer(line *line)
 static void note_opened(line *line)
 {
     note_peer(line);
-    line->answered = 0;
+    line->useful = 0;
     line->since = now();
+    say_called();
     if (line->ended[0] != '\0')
         say_new_caller(line->peer, line->ended);
     line->ended[0] = '\0';
@@ -317,10 +331,11 @@ int line_open(line *line)
     return 0;
 }
 
-/* A peer that takes the call and hangs up is called again after a pause that grows. */
+/* A peer that takes the call and soon hangs up is called again after a pause that grows. */
 static void note_hangup(line *line)
 {
     line->hung_up++;
+    line->hung_up_at = now();
     if (line->link->kind == TCP_CONNECT)
         say_hung_up(line->peer);
     if (line->link->kind != TCP_LISTEN)
@@ -333,18 +348,20 @@ void line_close(line *line, int hung_up)
         return;
     close(line->circuit);
     line->circuit = -1;
+    if (now() >= line->since + LASTING)
+        line_useful(line);
     line->since = now();
     line->next_try = line->link->kind == TCP_LISTEN ? 0 : now() + LEAST_PAUSE;
-    if (line->answered)
+    if (line->useful)
         line->pause = LEAST_PAUSE;
     else if (hung_up)
         note_hangup(line);
     strcpy(line->peer, line->link->kind == TCP_LISTEN ? NOBODY_CALLS : ENDED);
 }
 
-void line_answered(line *line)
+void line_useful(line *line)
 {
-    line->answered = 1;
+    line->useful = 1;
     line->hung_up = 0;
 }
 
@@ -378,7 +395,7 @@ int line_is_called(line *line)
 
     if (line->listening < 0 || line->circuit < 0 || poll(&call, 1, 0) <= 0)
         return 0;
-    line->called++;
+    line->called = now() < line->called_at + LATELY ? line->called + 1 : 1;
     line->called_at = now();
     strcpy(line->ended, line->peer);
     return 1;
@@ -468,5 +485,9 @@ void line_show(const line *line, running_details *running)
     running->turned = (uint64_t)now();
     running->circuit_open = line->circuit >= 0;
     running->since = (uint64_t)line->since;
+    running->hung_up = line->hung_up;
+    running->hung_up_at = (uint64_t)line->hung_up_at;
+    running->called = line->called;
+    running->called_at = (uint64_t)line->called_at;
     strcpy(running->peer, line->peer);
 }

@@ -16,10 +16,10 @@ typedef struct {
     const settings *link;
     int listening;             /* the listening socket, or -1 */
     int circuit;               /* the open circuit, or -1 */
-    int answered;              /* the peer of this circuit has said something good */
-    uint64_t hung_up;          /* circuits one after the other that ended without that */
-    uint64_t called;           /* circuits that a new caller ended */
-    long long called_at, since; /* when the last of these did, and when the circuit was opened or ended */
+    int useful;                /* something was delivered on this circuit, or it lasted */
+    uint64_t hung_up;          /* circuits one after the other that the peer ended without that */
+    uint64_t called;           /* circuits that a new caller ended, within five minutes of each other */
+    long long hung_up_at, called_at, since; /* when the last of these did, and when the circuit was opened or ended */
     long pause;                /* milliseconds until the next try */
     long long next_try;
     char peer[RUNNING_TEXT];   /* the circuit's other end, or why there is no circuit */
@@ -41,8 +41,8 @@ int line_open(line *line);
  * written is dropped. */
 void line_close(line *line, int hung_up);
 
-/* The peer has said something good on this circuit: the next call need not wait. */
-void line_answered(line *line);
+/* Something was delivered on this circuit: the next call need not wait. */
+void line_useful(line *line);
 
 /* After the sender gave up: it calls again only when this time is over. */
 void line_pause(line *line, long milliseconds);

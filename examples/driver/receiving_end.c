@@ -1,4 +1,5 @@
 /* The receiving end: it persists what the library says of each block, and only then replies. */
+#include <errno.h>
 #include <limits.h>
 #include <stdio.h>
 #include <stdlib.h>
@@ -13,7 +14,7 @@
 #include "said.h"
 #include "store.h"
 
-enum { PART = 4096, TRANSACTION_NAME = 32 };
+enum { PART = 4096, TRANSACTION_NAME = 32, MOST_WAIT = 8000 /* milliseconds */ };
 
 typedef struct {
     const char *folder;
@@ -24,7 +25,7 @@ typedef struct {
     receiver_record record;
     receiver_counts counts;
     running_details running;
-    int stored_any; /* since the start: what a crash left over is written over then */
+    int stored_any; /* since the start: before that one file may be there, and is written over */
     int changed;    /* since the read-out was written */
     uint8_t *reply;
     size_t reply_size;
@@ -55,6 +56,7 @@ static void store_transaction(receiving_end *end, uint64_t position)
  * rename of the state counts it. */
 static void persist(receiving_end *end, const receiver_record *after)
 {
+    require_place(end->folder);
     if (after->stored != end->record.stored)
         store_transaction(end, after->stored);
     if (memcmp(after, &end->record, sizeof *after) != 0)
@@ -84,12 +86,14 @@ static void count_block(receiving_end *end, const uint64_t *report)
     end->counts.rejected_since += rejects;
     if (report[GMV_RECEIVED_TRANSACTION] != 0 || (rejects && is_resend(end)))
         end->counts.rejected_since = end->counts.refused_since = 0; /* it goes on */
+    if (rejects || block_number != GMV_OK)
+        end->counts.wrong_at = (uint64_t)now();
+    if (report[GMV_RECEIVED_TRANSACTION] != 0)
+        line_useful(&end->line);
     if (block_number != GMV_OK) {
         end->counts.refused++;
         end->counts.refused_since++;
         end->counts.last_refused = block_number;
-    } else {
-        line_answered(&end->line);
     }
     end->changed = 1;
 }
@@ -107,11 +111,13 @@ static void note_cleared(receiving_end *end, receiver_record *after)
     say_cleared(end->line.peer, before, after->stored);
 }
 
-/* A peer that does not take the reply in the timer's time has no circuit any more. */
+/* A peer that does not take the reply in the timer's time has no circuit any more; in less, where the driver would
+ * not turn for so long that it looks as if it hangs. */
 static void send_reply(receiving_end *end, size_t length)
 {
-    if (length != 0 &&
-        line_write_all(&end->line, end->reply, length, now() + end->link->timer) != 0)
+    const long long limit = earliest(end->link->timer, MOST_WAIT);
+
+    if (length != 0 && line_write_all(&end->line, end->reply, length, now() + limit) != 0)
         line_close(&end->line, 0);
 }
 
@@ -168,8 +174,7 @@ static void show(receiving_end *end)
 {
     if (!end->changed && now() < (long long)end->running.turned + BEAT)
         return;
-    end->counts.called = end->line.called;
-    end->counts.called_at = (uint64_t)end->line.called_at;
+    require_place(end->folder);
     line_show(&end->line, &end->running);
     show_receiver(end->folder, &end->record, &end->counts, &end->running);
     end->changed = 0;
@@ -179,8 +184,10 @@ static void show(receiving_end *end)
 /* A file beyond the one that a crash may leave says that the count is wrong, or the file is not ours. */
 static void require_nothing_beyond(const receiving_end *end)
 {
-    const uint64_t greatest = greatest_number(end->transactions);
+    uint64_t greatest;
 
+    if (greatest_number(end->transactions, &greatest) != 0)
+        fail("cannot read %s: %s", end->transactions, strerror(errno));
     if (greatest > end->record.stored + 1)
         fail("%s/%015llu.hl7 is there, and the state counts %llu: nothing is written over", end->transactions,
              (unsigned long long)greatest, (unsigned long long)end->record.stored);

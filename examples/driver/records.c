@@ -26,13 +26,14 @@ static const char *const report_names[GMV_ACT_WORDS] = {
 static const char *const receiver_names[] = {"expected", "stored", "cleared", "cleared_after"};
 static const char *const sender_count_names[] = {"circuits", "given_up", "given_up_since",
                                                  "refused_since", "last_refused", "dropped_since",
-                                                 "hung_up"};
+                                                 "errors", "last_error"};
 static const char *const count_names[] = {"circuits", "blocks", "refused", "last_refused", "rejected",
-                                          "refused_since", "rejected_since", "called", "called_at",
+                                          "refused_since", "rejected_since", "wrong_at",
                                           "cleared_since"};
-static const char *const running_names[] = {"process", "turned", "circuit_open", "since"};
-enum { FIRST_FORM_WORDS = 2, RECEIVER_RECORD_WORDS = 4, SENDER_COUNT_WORDS = 7, COUNT_WORDS = 10,
-       RUNNING_WORDS = 4 };
+static const char *const running_names[] = {"process", "turned", "circuit_open", "since",
+                                            "hung_up", "hung_up_at", "called", "called_at"};
+enum { FIRST_FORM_WORDS = 2, RECEIVER_RECORD_WORDS = 4, SENDER_COUNT_WORDS = 8, COUNT_WORDS = 9,
+       RUNNING_WORDS = 8 };
 
 /* ---- text that is made */
 
@@ -71,8 +72,9 @@ static void add_freeze(text *to, const sender_record *record)
 
 static void add_running(text *to, const running_details *running)
 {
-    const uint64_t words[RUNNING_WORDS] = {running->process, running->turned, running->circuit_open,
-                                           running->since};
+    const uint64_t words[RUNNING_WORDS] = {
+        running->process, running->turned,     running->circuit_open, running->since,
+        running->hung_up, running->hung_up_at, running->called,       running->called_at};
 
     add_words(to, running_names, words, RUNNING_WORDS);
     add(to, "settings %s\npeer %s\n", running->settings, running->peer);
@@ -99,7 +101,7 @@ static void store_text(const char *folder, text *made)
 
 /* ---- text that is read: what was made, line by line */
 
-/* Takes the text up to and with the line's end where it begins so; else leaves it and returns 0. */
+/* Takes the beginning where the text begins so; else leaves it and returns 0. */
 static int takes(const char **at, const char *beginning)
 {
     size_t length = strlen(beginning);
@@ -167,6 +169,10 @@ static int takes_running(const char **at, running_details *running)
     running->turned = words[1];
     running->circuit_open = words[2];
     running->since = words[3];
+    running->hung_up = words[4];
+    running->hung_up_at = words[5];
+    running->called = words[6];
+    running->called_at = words[7];
     return takes_text(at, "settings", running->settings, RUNNING_TEXT) &&
            takes_text(at, "peer", running->peer, RUNNING_TEXT);
 }
@@ -185,7 +191,7 @@ static int takes_check(const char **at, const char *bytes)
     return takes(at, wanted);
 }
 
-/* A state's title and its form: 1, without a check, or 2. */
+/* A state's title and its form: 1, without a check, or 2. The other end's is none. */
 static int takes_title(const char **at, const char *title, uint64_t *unchecked)
 {
     if (!takes(at, title))
@@ -268,6 +274,8 @@ const char *read_sender(const char *folder, sender_record *record)
     memset(record, 0, sizeof *record);
     if (problem != NULL)
         return problem;
+    if (takes(&at, RECEIVER_TITLE))
+        return "is a receiver's";
     if (!takes_title(&at, SENDER_TITLE, &record->unchecked) ||
         !takes_words(&at, sender_names, record->words, GMV_SENDER_PERSISTED_WORDS) ||
         !takes_freeze(&at, record) || !(record->unchecked || takes_check(&at, bytes)) || !takes_end(&at))
@@ -289,7 +297,8 @@ static int takes_sender_counts(const char **at, sender_counts *counts)
     counts->refused_since = counted[3];
     counts->last_refused = counted[4];
     counts->dropped_since = counted[5];
-    counts->hung_up = counted[6];
+    counts->errors = counted[6];
+    counts->last_error = counted[7];
     return 1;
 }
 
@@ -324,7 +333,7 @@ void show_sender(const char *folder, const sender_record *record, const uint64_t
 {
     const uint64_t counted[SENDER_COUNT_WORDS] = {
         counts->circuits,      counts->given_up,     counts->given_up_since, counts->refused_since,
-        counts->last_refused, counts->dropped_since, counts->hung_up};
+        counts->last_refused, counts->dropped_since, counts->errors,         counts->last_error};
     text made = {"", 0};
 
     add(&made, "%s", SENDER_LIVE_TITLE);
@@ -357,6 +366,8 @@ const char *read_receiver(const char *folder, receiver_record *record)
     memset(record, 0, sizeof *record);
     if (problem != NULL)
         return problem;
+    if (takes(&at, SENDER_TITLE))
+        return "is a sender's";
     if (!takes_title(&at, RECEIVER_TITLE, &record->unchecked) ||
         !takes_words(&at, receiver_names, words, record->unchecked ? FIRST_FORM_WORDS : RECEIVER_RECORD_WORDS) ||
         !(record->unchecked || takes_check(&at, bytes)) || !takes_end(&at))
@@ -378,9 +389,8 @@ static int takes_receiver_counts(const char **at, receiver_counts *counts)
     counts->rejected = counted[4];
     counts->refused_since = counted[5];
     counts->rejected_since = counted[6];
-    counts->called = counted[7];
-    counts->called_at = counted[8];
-    counts->cleared = counted[9];
+    counts->wrong_at = counted[7];
+    counts->cleared = counted[8];
     return 1;
 }
 
@@ -422,8 +432,7 @@ void show_receiver(const char *folder, const receiver_record *record, const rece
 {
     const uint64_t counted[COUNT_WORDS] = {counts->circuits, counts->blocks, counts->refused,
                                            counts->last_refused, counts->rejected, counts->refused_since,
-                                           counts->rejected_since, counts->called, counts->called_at,
-                                           counts->cleared};
+                                           counts->rejected_since, counts->wrong_at, counts->cleared};
     text made = {"", 0};
 
     add(&made, "%s", RECEIVER_LIVE_TITLE);

@@ -34,6 +34,8 @@ typedef struct {
 /* What a running driver shows of itself. Times are those of now(). */
 typedef struct {
     uint64_t process, turned, circuit_open /* 0 or 1 */, since /* when that became so */;
+    uint64_t hung_up, hung_up_at; /* circuits one after the other that the peer soon ended, and when */
+    uint64_t called, called_at;   /* circuits that a new caller ended lately, and when */
     char settings[RUNNING_TEXT];
     char peer[RUNNING_TEXT]; /* the other end of the circuit, or why there is no circuit */
 } running_details;
@@ -43,7 +45,7 @@ typedef struct {
 typedef struct {
     uint64_t circuits, given_up;
     uint64_t given_up_since, refused_since, last_refused, dropped_since;
-    uint64_t hung_up; /* circuits one after the other that ended without an answer */
+    uint64_t errors, last_error; /* answered AE: how many, and the last one's number */
 } sender_counts;
 
 /* What the receiver counts since it was started. */
@@ -51,7 +53,7 @@ typedef struct {
     uint64_t circuits, blocks, refused, last_refused;
     uint64_t rejected;       /* answered AR */
     uint64_t refused_since, rejected_since; /* since a transaction, or a resend of the last one, came */
-    uint64_t called, called_at; /* circuits that a new caller ended, and when the last one was */
+    uint64_t wrong_at;       /* when one of these was last */
     uint64_t cleared;        /* expected numbers that -1 took away */
 } receiver_counts;
 

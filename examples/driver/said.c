@@ -15,13 +15,13 @@
 #define FROZE "gmv_driver: froze: waited on %s and got %s %s for control ID %s\n"
 #define REFUSED_FILE "gmv_driver: %s is refused by %llu\n"
 #define CALL_FAILED "gmv_driver: cannot call %s: %s\n"
-#define HUNG_UP "gmv_driver: %s took the call and hung up without an answer\n"
+#define HUNG_UP "gmv_driver: %s took the call and soon hung up\n"
 #define NEW_CALLER "gmv_driver: a new caller, %s, ended the circuit with %s\n"
 #define CLEARED "gmv_driver: -1 from %s: the expected number %llu is forgotten, with %llu stored\n"
 #define PLAIN_DEVICE "gmv_driver: %s is a plain device: nobody empties this line between two circuits\n"
 #define REPEATED "gmv_driver: %s more since %s: %s\n"
 
-enum { LINE_LENGTH = 1024, FIRST_PAUSE = 60000, MOST_PAUSE = 3600000 };
+enum { LINE_LENGTH = 1024, FIRST_FOLD = 60000, MOST_FOLD = 3600000 /* milliseconds */ };
 enum sentence { LIFE, GIVING_UP, FREEZING, FILES, CALLS, HANGUPS, CALLERS, CLEARING, DEVICES, SENTENCES };
 
 /* Of each sentence: the last line said, and how often it came again since. */
@@ -48,7 +48,7 @@ static void say_repeated(struct repeated *last)
     snprintf(line, sizeof line, REPEATED, counted(times, last->more, "time", "times"), last->since, what);
     print_line(line);
     last->more = 0;
-    last->pause = last->pause * 2 < MOST_PAUSE ? last->pause * 2 : MOST_PAUSE;
+    last->pause = last->pause * 2 < MOST_FOLD ? last->pause * 2 : MOST_FOLD;
     last->next = now() + last->pause;
     time_of_day(last->since);
 }
@@ -80,8 +80,8 @@ static void say(enum sentence sentence, int any, const char *format, ...)
     if (last->more != 0)
         say_repeated(last);
     strcpy(last->line, line);
-    last->pause = FIRST_PAUSE;
-    last->next = now() + FIRST_PAUSE;
+    last->pause = FIRST_FOLD;
+    last->next = now() + FIRST_FOLD;
     time_of_day(last->since);
     print_line(line);
 }
@@ -120,6 +120,13 @@ void say_refused_file(const char *name, uint64_t number)
 void say_call_failed(const char *address, const char *reason)
 {
     say(CALLS, 0, CALL_FAILED, address, reason);
+}
+
+void say_called(void)
+{
+    if (repeated[CALLS].more != 0)
+        say_repeated(&repeated[CALLS]);
+    repeated[CALLS].line[0] = '\0';
 }
 
 void say_hung_up(const char *peer)

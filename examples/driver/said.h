@@ -12,6 +12,7 @@ void say_gave_up(const char *waited, uint64_t sends);
 void say_froze(const sender_record *record);
 void say_refused_file(const char *name, uint64_t number);
 void say_call_failed(const char *address, const char *reason);
+void say_called(void); /* a circuit is open: what is said of the next outage is no repeat */
 void say_hung_up(const char *peer);
 void say_new_caller(const char *caller, const char *peer);
 void say_cleared(const char *peer, uint64_t expected, uint64_t stored);

@@ -45,6 +45,7 @@ static void persist(sending_end *end)
 {
     if (memcmp(end->persisted, end->record.words, sizeof end->persisted) == 0)
         return;
+    require_place(end->folder);
     store_sender(end->folder, &end->record);
     memcpy(end->persisted, end->record.words, sizeof end->persisted);
 }
@@ -95,6 +96,12 @@ static void count_act(sending_end *end)
 
     if (event == GMV_EVENT_DELIVERED || end->record.words[GMV_SENDER_WAITING] == GMV_WAITING_IDLE)
         end->counts.given_up_since = end->counts.refused_since = end->counts.dropped_since = 0;
+    if (event == GMV_EVENT_DELIVERED)
+        line_useful(&end->line);
+    if (event == GMV_EVENT_DELIVERED && end->report[GMV_ACT_CODE] == GMV_CODE_AE) {
+        end->counts.errors++;
+        end->counts.last_error = end->report[GMV_ACT_DELIVERED];
+    }
     end->counts.dropped_since += event == GMV_EVENT_DROPPED;
     if (refused != GMV_OK) {
         end->counts.refused_since++;
@@ -212,8 +219,6 @@ static void hear_block(sending_end *end)
 
     if (number == GMV_OK && end->report[GMV_ACT_EVENT] == GMV_EVENT_FROZE)
         note_freeze(end, data, length);
-    if (end->input.verdict[GMV_VERDICT_NUMBER] == GMV_OK)
-        line_answered(&end->line);
     after_act(end, number, "gmv_sender_block");
 }
 
@@ -268,6 +273,7 @@ static int submit_next(sending_end *end)
     uint64_t number;
     ssize_t length;
 
+    require_place(end->folder);
     if (!spool_first(end->folder, &file))
         return 0;
     length = spool_read(end->folder, &file, end->message, end->message_size);
@@ -302,8 +308,10 @@ static int submit_next(sending_end *end)
 /* A message beyond the one that a crash may leave says that the state is an old one. */
 static void require_nothing_beyond(const sending_end *end, const char *log)
 {
-    const uint64_t greatest = greatest_number(log);
+    uint64_t greatest;
 
+    if (greatest_number(log, &greatest) != 0)
+        fail("cannot read %s: %s", log, strerror(errno));
     if (greatest > end->record.words[GMV_SENDER_LAST] + 1)
         fail("%s/%llu.hl7 is there, and the state counts up to %llu: nothing is written over", log,
              (unsigned long long)greatest, (unsigned long long)end->record.words[GMV_SENDER_LAST]);
@@ -349,7 +357,7 @@ static void show(sending_end *end)
 {
     if (!end->changed && now() < (long long)end->running.turned + BEAT)
         return;
-    end->counts.hung_up = end->line.hung_up;
+    require_place(end->folder);
     line_show(&end->line, &end->running);
     show_sender(end->folder, &end->record, end->report, &end->counts, &end->running);
     end->changed = 0;

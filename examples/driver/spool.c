@@ -15,7 +15,7 @@ static int is_file(const char *path)
 {
     struct stat status;
 
-    return stat(path, &status) == 0 && S_ISREG(status.st_mode);
+    return lstat(path, &status) == 0 && S_ISREG(status.st_mode); /* a link is not taken */
 }
 
 /* Names that begin with a dot are of files that are not there yet. */

@@ -14,7 +14,7 @@
 #define R_HANGS "the driver has not turned for %llu s"
 #define R_NO_CIRCUIT "no circuit for %llu s: %s"
 #define R_GAVE_UP "gave up %s since the last delivery"
-#define R_HUNG_UP "%s ended without an answer"
+#define R_HUNG_UP "%s soon ended by the peer"
 #define R_ANSWERS_REFUSED "%s refused since the last delivery, the last by %llu: %s"
 #define R_DROPPED "%s to something else since the last delivery"
 #define R_REFUSED_FILES "%s refused"
@@ -26,6 +26,7 @@
 #define R_CALLED "%s ended by a new caller"
 #define R_CLEARED "-1 took the expected number %llu away after %s"
 #define R_BEYOND "a file at position %llu, and %s stored"
+#define R_NO_FOLDER "%s/ is missing"
 
 #define FROZEN \
     "sender: frozen: waited on %s and got %s %s for control ID %s; an operator must reset it\n"
@@ -51,6 +52,7 @@
 #define RESYNCHRONIZED "resynchronized with the receiver\n"
 #define NOT_RESYNCHRONIZED "not yet resynchronized with the receiver\n"
 #define CIRCUITS "%s opened since the driver started, gave up %s\n"
+#define ERRORS "%s answered AE since the driver started, the last was %llu\n"
 #define ACT_DELIVERED "last act: %llu is delivered, %s\n"
 #define ACT_ABANDONED "last act: gave up after %s, the circuit ended\n"
 #define ACT_DROPPED "last act: an answer to something else was dropped\n"
@@ -109,6 +111,14 @@ static unsigned long long seconds_since(uint64_t then)
 
 /* ---- the verdict */
 
+/* What is certain outranks what cannot be told. */
+static int rank_of(enum severity severity)
+{
+    static const int ranks[] = {0, 1, 3, 2};
+
+    return ranks[severity];
+}
+
 void add_reason(verdict *verdict, enum severity severity, const char *format, ...)
 {
     const size_t length = strlen(verdict->reasons);
@@ -121,7 +131,7 @@ void add_reason(verdict *verdict, enum severity severity, const char *format, ..
                   values);
     }
     va_end(values);
-    if (severity > verdict->severity)
+    if (rank_of(severity) > rank_of(verdict->severity))
         verdict->severity = severity;
 }
 
@@ -148,8 +158,16 @@ static void judge_running(verdict *verdict, enum presence presence, const runnin
 
 static void judge_circuit(verdict *verdict, enum presence presence, const running_details *running)
 {
-    if (presence == DRIVER_RUNS && !running->circuit_open && seconds_since(running->since) >= PASSING)
+    char words[COUNTED];
+
+    if (presence != DRIVER_RUNS)
+        return;
+    if (!running->circuit_open && seconds_since(running->since) >= PASSING)
         add_reason(verdict, WARNING, R_NO_CIRCUIT, seconds_since(running->since), running->peer);
+    if (running->hung_up >= OFTEN && seconds_since(running->hung_up_at) < TOO_LATE)
+        add_reason(verdict, WARNING, R_HUNG_UP, counted(words, running->hung_up, "circuit", "circuits"));
+    if (running->called >= TWICE && seconds_since(running->called_at) < TOO_LATE)
+        add_reason(verdict, WARNING, R_CALLED, counted(words, running->called, "circuit", "circuits"));
 }
 
 static void judge_answers(verdict *verdict, const sender_counts *counts)
@@ -158,8 +176,6 @@ static void judge_answers(verdict *verdict, const sender_counts *counts)
 
     if (counts->given_up_since != 0)
         add_reason(verdict, WARNING, R_GAVE_UP, counted(words, counts->given_up_since, "time", "times"));
-    if (counts->hung_up >= OFTEN)
-        add_reason(verdict, WARNING, R_HUNG_UP, counted(words, counts->hung_up, "circuit", "circuits"));
     if (counts->refused_since >= TWICE)
         add_reason(verdict, WARNING, R_ANSWERS_REFUSED,
                    counted(words, counts->refused_since, "answer", "answers"),
@@ -196,6 +212,8 @@ void judge_sender(verdict *verdict, const sender_status *status)
     if (status->presence == DRIVER_RUNS)
         judge_answers(verdict, &status->counts);
     judge_undelivered(verdict, &status->undelivered);
+    if (status->lacks != NULL)
+        add_reason(verdict, CRITICAL, R_NO_FOLDER, status->lacks);
     if (status->record.words[GMV_SENDER_LAST] >= GMV_LARGEST_NUMBER)
         add_reason(verdict, WARNING, R_NO_NUMBER);
     if (status->record.unchecked)
@@ -205,16 +223,15 @@ void judge_sender(verdict *verdict, const sender_status *status)
 static void judge_requests(verdict *verdict, const receiver_status *status)
 {
     const receiver_counts *counts = &status->counts;
+    const int lately = seconds_since(counts->wrong_at) < TOO_LATE;
     char words[COUNTED];
 
-    if (counts->refused_since >= TWICE)
+    if (counts->refused_since >= TWICE && lately)
         add_reason(verdict, WARNING, R_BLOCKS_REFUSED,
                    counted(words, counts->refused_since, "block", "blocks"),
                    (unsigned long long)counts->last_refused, block_words(counts->last_refused));
-    if (counts->rejected_since >= TWICE)
+    if (counts->rejected_since >= TWICE && lately)
         add_reason(verdict, WARNING, R_REJECTED, counted(words, counts->rejected_since, "request", "requests"));
-    if (counts->called >= TWICE && seconds_since(counts->called_at) < TOO_LATE)
-        add_reason(verdict, WARNING, R_CALLED, counted(words, counts->called, "circuit", "circuits"));
     if (counts->cleared != 0)
         add_reason(verdict, WARNING, R_CLEARED, (unsigned long long)status->record.cleared,
                    counted(words, status->record.cleared_after, "transaction", "transactions"));
@@ -228,6 +245,8 @@ void judge_receiver(verdict *verdict, const receiver_status *status)
     judge_circuit(verdict, status->presence, &status->running);
     if (status->presence == DRIVER_RUNS)
         judge_requests(verdict, status);
+    if (status->lacks != NULL)
+        add_reason(verdict, CRITICAL, R_NO_FOLDER, status->lacks);
     if (status->greatest > status->record.stored + 1)
         add_reason(verdict, CRITICAL, R_BEYOND, (unsigned long long)status->greatest,
                    counted(stored, status->record.stored, "transaction", "transactions"));
@@ -338,6 +357,9 @@ void say_sender(FILE *out, const sender_status *status)
         return;
     fprintf(out, CIRCUITS, counted(circuits, status->counts.circuits, "circuit", "circuits"),
             counted(times, status->counts.given_up, "time", "times"));
+    if (status->counts.errors != 0)
+        fprintf(out, ERRORS, counted(times, status->counts.errors, "transaction", "transactions"),
+                (unsigned long long)status->counts.last_error);
     say_act(out, status->report);
     say_running(out, &status->running);
 }

@@ -47,6 +47,7 @@ typedef struct {
     running_details running;
     uint64_t report[GMV_ACT_WORDS];
     undelivered undelivered;
+    const char *lacks; /* a folder of its that is missing; else NULL */
 } sender_status;
 
 typedef struct {
@@ -55,6 +56,7 @@ typedef struct {
     receiver_counts counts;
     running_details running;
     uint64_t greatest; /* the greatest position of a file of transactions/ */
+    const char *lacks;
 } receiver_status;
 
 void say_sender(FILE *out, const sender_status *status);

@@ -100,12 +100,18 @@ void store_lightly(const char *folder, const char *name, const void *bytes, size
 
 ssize_t read_file(const char *path, void *buffer, size_t size)
 {
-    int file = open(path, O_RDONLY), error;
+    int file = open(path, O_RDONLY | O_NONBLOCK), error; /* a pipe of that name is not waited for */
+    struct stat status;
     size_t length = 0;
     ssize_t count = 1;
 
     if (file < 0)
         return -1;
+    if (fstat(file, &status) != 0 || !S_ISREG(status.st_mode)) {
+        close(file);
+        errno = EINVAL;
+        return -1;
+    }
     while (length < size && count != 0) {
         count = read(file, (uint8_t *)buffer + length, size - length);
         if (count < 0 && errno != EINTR)
@@ -132,7 +138,7 @@ static void count_file(int folder, const char *name, folder_summary *summary)
 {
     struct stat status;
 
-    if (name[0] == '.' || fstatat(folder, name, &status, 0) != 0 || !S_ISREG(status.st_mode))
+    if (name[0] == '.' || fstatat(folder, name, &status, AT_SYMLINK_NOFOLLOW) != 0 || !S_ISREG(status.st_mode))
         return;
     if (status.st_size == 0) {
         summary->empty++;
@@ -157,23 +163,33 @@ int summarize_folder(const char *path, folder_summary *summary)
     return 0;
 }
 
-uint64_t greatest_number(const char *path)
+int for_each_number(const char *path, void (*act)(void *, uint64_t), void *with)
 {
     DIR *entries = opendir(path);
     struct dirent *entry;
-    uint64_t greatest = 0;
 
     if (entries == NULL)
-        fail("cannot read %s: %s", path, strerror(errno));
+        return -1;
     while ((entry = readdir(entries)) != NULL) {
         const size_t digits = strspn(entry->d_name, "0123456789");
-        const uint64_t number = strtoull(entry->d_name, NULL, 10);
 
-        if (digits != 0 && strcmp(entry->d_name + digits, ".hl7") == 0 && number > greatest)
-            greatest = number;
+        if (digits != 0 && strcmp(entry->d_name + digits, ".hl7") == 0)
+            act(with, strtoull(entry->d_name, NULL, 10));
     }
     closedir(entries);
-    return greatest;
+    return 0;
+}
+
+static void take_greater(void *greatest, uint64_t number)
+{
+    if (number > *(uint64_t *)greatest)
+        *(uint64_t *)greatest = number;
+}
+
+int greatest_number(const char *path, uint64_t *greatest)
+{
+    *greatest = 0;
+    return for_each_number(path, take_greater, greatest);
 }
 
 int is_missing(const char *path)
@@ -203,6 +219,18 @@ static void remove_live(const char *folder)
         fail("cannot remove %s: %s", path, strerror(errno));
 }
 
+static struct stat locked; /* the file on which this process has its lock */
+
+void require_place(const char *folder)
+{
+    char path[PATH_LENGTH];
+    struct stat status;
+
+    path_of(path, folder, "lock");
+    if (stat(path, &status) != 0 || status.st_dev != locked.st_dev || status.st_ino != locked.st_ino)
+        fail("%s is another folder now: it was moved or made anew while this driver ran", folder);
+}
+
 int lock_folder(const char *folder)
 {
     char path[PATH_LENGTH];
@@ -211,7 +239,7 @@ int lock_folder(const char *folder)
 
     path_of(path, folder, "lock");
     file = open(path, O_RDWR | O_CREAT, 0666); /* stays open: closing it would give the lock back */
-    if (file < 0)
+    if (file < 0 || fstat(file, &locked) != 0)
         fail("cannot open %s: %s", path, strerror(errno));
     if (fcntl(file, F_SETLK, &lock) == 0) {
         remove_live(folder);
@@ -230,7 +258,7 @@ int folder_is_locked(const char *folder)
     int file, known;
 
     path_of(path, folder, "lock");
-    file = open(path, O_RDONLY);
+    file = open(path, O_RDONLY | O_NONBLOCK);
     if (file < 0)
         return errno == ENOENT ? 0 : -1;
     known = fcntl(file, F_GETLK, &lock) == 0;

@@ -40,8 +40,11 @@ typedef struct {
 /* A folder that is missing has no files. Returns 0, or -1 where it cannot be told. */
 int summarize_folder(const char *path, folder_summary *summary);
 
-/* The greatest number of a file NUMBER.hl7 of the folder; 0 where there is none. */
-uint64_t greatest_number(const char *path);
+/* Acts on the number of each file NUMBER.hl7 of the folder. Returns 0, or -1 where it cannot be read. */
+int for_each_number(const char *path, void (*act)(void *, uint64_t), void *with);
+
+/* The greatest of these numbers; 0 where there is none. */
+int greatest_number(const char *path, uint64_t *greatest);
 
 /* Whether there is nothing of that name. */
 int is_missing(const char *path);
@@ -49,6 +52,10 @@ int is_missing(const char *path);
 /* One driver at a time runs on a folder. The lock goes with the process, however that ends. What an
  * earlier driver showed is removed with it. Returns 0, or -1 where another process has it. */
 int lock_folder(const char *folder);
+
+/* Ends the program where the folder's name has come to stand for another one: an operator put it aside while the
+ * driver ran, and made a new one in its place. */
+void require_place(const char *folder);
 
 /* Whether a process has the lock: 1, 0, or -1 where it cannot be told. */
 int folder_is_locked(const char *folder);

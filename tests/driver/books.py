@@ -7,6 +7,9 @@ from ends import state_text
 from readout import said
 
 DIFFER, AGREE = 'books: THEY DIFFER', 'books: they agree: the first %d of the log are stored, each once, in order, byte for byte'
+FROM = 'books: they agree from number %d on, byte for byte; what is before it was purged'
+GREATEST = 'books: the greatest number of the log that is stored is %d; missing below it: %s'
+NOTHING = 'books: no message of the log is stored'
 TRIES, LEAST = 250, 40  # pairs drawn, and how many of them at least agree and differ
 
 
@@ -31,7 +34,8 @@ class Pair:
                                                 'resynchronized': self.resynchronized, 'frozen': self.frozen}),
                 (receiver, 'giamuvich receiver 2', {'expected': self.expected, 'stored': self.count, 'cleared': 0,
                                                     'cleared_after': 0})):
-            os.makedirs(os.path.join(path, 'log' if path == sender else 'transactions'))
+            for name in ('log', 'spool', 'refused') if path == sender else ('transactions',):
+                os.makedirs(os.path.join(path, name))
             with open(os.path.join(path, 'state'), 'wb') as file:
                 file.write(state_text(title, words))
         files = {os.path.join(sender, 'log', '%d.hl7' % number): data for number, data in self.log.items()}
@@ -54,7 +58,7 @@ class Pair:
         return covers <= claimed <= covers + 1 and claimed <= min(self.count, self.last - self.first + 1)
 
     def agree(self):
-        """True, False, or None where a message that is to be compared is not there."""
+        """True, False, or None where a message that is to be compared is not there, though one before it is."""
         claimed, base = self.claimed(), self.count - self.claimed()
         pairs = [(self.transactions.get(base + i + 1), self.log.get(self.first + i)) for i in range(claimed)]
         ours = list(self.log.values())
@@ -65,9 +69,15 @@ class Pair:
             return False
         gone = [number for number in range(self.first, self.mark + 1)
                 if number in self.log and self.log[number] not in found]
-        if any(None in pair for pair in pairs):
-            return None
-        return not gone
+        if [number for number in gone if not self.purged(number)]:
+            return False
+        held = [None not in pair for pair in pairs]
+        after = held[held.index(True):] if True in held else held
+        return None if False in after else True
+
+    def purged(self, number):
+        position = self.count - self.claimed() + number - self.first + 1
+        return position <= self.count and position not in self.transactions
 
 
 def pair(*words, **changes):
@@ -99,41 +109,52 @@ CASES = [
     ("behind an earlier tenant's", pair(1, 3, 4, 4, 3, 5), [AGREE % 3], ''),
     ('a leftover of a crash', changed(pair(1, 3, 4, 4, 3), at_4=text(4)), [AGREE % 3], ''),
     ('the night of slot 7', SLOT_7,
-     ['books: 1 marked delivered and not stored', 'books: the expected number says that 13 are stored, and there are 12',
-      'books: position 1 is not number 1 of the log; it is number 2 of it', DIFFER], None),
+     ['books: 1 marked delivered and not stored', 'books: the expected number says that 13 are stored, and there are 12'] +
+     ['books: position %d is not number %d of the log; it is number %d of it' % (i, i, i + 1) for i in range(1, 11)] +
+     ['books: and 2 positions more like this', GREATEST % (13, '1'), DIFFER], None),
     ("a receiver that still has the old tenant's 1", changed(pair(1, 1, 1, 2, 1), at_1=text(1, 'old')),
      ['books: 1 marked delivered and not stored',
-      'books: position 1 is not number 1 of the log; it is another message, with number 1', DIFFER], None),
+      'books: position 1 is not number 1 of the log; it is another message, with number 1', NOTHING, DIFFER], None),
     ('a receiver from a backup', pair(1, 7, 7, 4, 3),
      ['books: 4 to 7 marked delivered and not stored',
-      'books: the expected number says that 3 are stored, and the mark covers 7', DIFFER], None),
+      'books: the expected number says that 3 are stored, and the mark covers 7', GREATEST % (3, 'none'), DIFFER], None),
     ("a stray sender's -1 and 1", STRAY,
      ['books: the expected number says that 1 are stored, and the mark covers 5',
-      'books: position 6 is not number 1 of the log; it is another message, with number 1',
-      'books: number 1 of the log is at position 1, before those that the expected number counts', DIFFER], None),
+      'books: position 6 is not number 1 of the log; it is another message, with number 1'] +
+     ['books: number %d of the log is at position %d, before those that the expected number counts' % (i, i)
+      for i in range(1, 6)] + [GREATEST % (5, 'none'), DIFFER], None),
     ('another byte', changed(pair(1, 3, 3, 4, 3), at_2=text(2, 'L')),
      ['books: 2 marked delivered and not stored',
-      'books: position 2 is not number 2 of the log; it is another message, with number 2', DIFFER], None),
+      'books: position 2 is not number 2 of the log; it is another message, with number 2', GREATEST % (3, '2'), DIFFER],
+     None),
     ('no header', changed(pair(1, 3, 3, 4, 3), at_3=b'x'),
      ['books: 3 marked delivered and not stored', 'books: position 3 is not number 3 of the log; it has no number',
-      DIFFER], None),
+      GREATEST % (2, 'none'), DIFFER], None),
     ('two in the other order', changed(pair(1, 3, 3, 4, 3), at_1=text(2), at_2=text(1)),
      ['books: position 1 is not number 1 of the log; it is number 2 of it',
-      'books: position 2 is not number 2 of the log; it is number 1 of it', DIFFER], None),
+      'books: position 2 is not number 2 of the log; it is number 1 of it', GREATEST % (3, 'none'), DIFFER], None),
     ('stored twice', changed(pair(1, 3, 3, 4, 4), at_1=text(1), at_2=text(1), at_3=text(2), at_4=text(3)),
-     ['books: number 1 of the log is at position 1, before those that the expected number counts', DIFFER], None),
+     ['books: number 1 of the log is at position 1, before those that the expected number counts', GREATEST % (3, 'none'),
+      DIFFER], None),
     ('more than was submitted', pair(1, 3, 3, 5, 4),
-     ['books: the expected number says that 4 are stored, and 3 were submitted', DIFFER], None),
+     ['books: the expected number says that 4 are stored, and 3 were submitted', GREATEST % (3, 'none'), DIFFER], None),
     ('a wrong count', pair(1, 7, 7, 8, 7, count=4),
-     ['books: the expected number says that 7 are stored, and there are 4', 'books: there is a file at position 7', DIFFER],
-     None),
-    ('a file beyond the leftover', changed(pair(1, 3, 3, 4, 3), at_6=text(6)), ['books: there is a file at position 6', DIFFER],
-     None),
-    ('a log that was purged', changed(pair(1, 3, 3, 4, 3), log_1=None),
-     ['books: 1 transaction could not be compared: it lacks in log/ or in transactions/'], 'transaction could not be compared'),
-    ('transactions that were purged', changed(pair(1, 3, 3, 4, 3), at_1=None, at_2=None),
+     ['books: the expected number says that 7 are stored, and there are 4', 'books: there is a file at position 7',
+      GREATEST % (7, 'none'), DIFFER], None),
+    ('a file beyond the leftover', changed(pair(1, 3, 3, 4, 3), at_6=text(6)), 
+     ['books: there is a file at position 6', GREATEST % (3, 'none'), DIFFER], None),
+    ('a log that was purged', changed(pair(1, 3, 3, 4, 3), log_1=None), [FROM % 2], ''),
+    ('transactions that were purged', changed(pair(1, 3, 3, 4, 3), at_1=None, at_2=None), [FROM % 3], ''),
+    ('both were purged', changed(pair(1, 3, 3, 4, 3), at_1=None, log_1=None), [FROM % 2], ''),
+    ('all was purged', changed(pair(1, 2, 2, 3, 2), at_1=None, log_1=None, log_2=None),
      ['books: 2 transactions could not be compared: it lacks in log/ or in transactions/'],
      'transactions could not be compared'),
+    ('a hole', changed(pair(1, 3, 3, 4, 3), at_2=None),
+     ['books: 1 transaction could not be compared: it lacks in log/ or in transactions/'], 'transaction could not be compared'),
+    ('lost, and all before it purged', changed(pair(1, 3, 3, 4, 3), at_1=None, log_1=None, at_3=text(3, 'L')),
+     ['books: 3 marked delivered and not stored',
+      'books: position 3 is not number 3 of the log; it is another message, with number 3', GREATEST % (2, 'none'), DIFFER],
+     None),
 ]
 
 
@@ -150,16 +171,19 @@ def compare(programs, folder, made, lines, last):
 def others(programs, folder):
     """Folders in the wrong places, and one end that cannot be read: no books are compared."""
     sender, receiver = pair(1, 3, 3, 4, 3).write(folder)
-    for words, wanted in (((receiver, sender), 'unknown: %s is not the folder of a sender; %s is not the folder of a receiver'
-                           % (receiver, sender)),
-                          ((sender, folder), 'unknown: sender: no driver runs; receiver: %s/state is missing' % folder)):
+    for words, wanted, code in (
+            ((receiver, sender), 'unknown: %s is not the folder of a sender; %s is not the folder of a receiver' % (
+                receiver, sender), 3),
+            ((sender, folder), 'critical: sender: no driver runs; receiver: %s/state is missing; log/ or transactions/ cannot '
+             'be read' % folder, 2)):
         printed, status = said(programs, *words)
-        if printed[0] != wanted or status != 3 or any(line.startswith('books: ') for line in printed):
+        if printed[0] != wanted or status != code or any(line.startswith('books: ') for line in printed):
             return '%s %d' % (printed, status)
     with open(os.path.join(receiver, 'state'), 'r+b') as file:
         file.write(b'G')
     printed, status = said(programs, sender, receiver)
-    if 'is damaged' not in printed[0] or status != 2 or any(line.startswith('books: ') for line in printed):
+    if 'is damaged' not in printed[0] or status != 2 or [line for line in printed if line.startswith('books: ')] != [
+            GREATEST % (3, 'none')]:
         return '%s %d' % (printed, status)
     return None
 

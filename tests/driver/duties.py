@@ -237,7 +237,7 @@ def damaged_states(bench):
              (sender, 'send', read(sender, 'state').replace(b'last 0', b'last 1'), 'is damaged'),
              (sender, 'send', b'giamuvich sender 1\nfirst 1\ndelivered 0\nlast 0\nresynchronized 0\nfrozen 0\nend\n',
               'has lost its check'),
-             (sender, 'send', read(receiver, 'state'), 'is damaged'),
+             (sender, 'send', read(receiver, 'state'), "is a receiver's"),
              (receiver, 'receive', read(receiver, 'state')[:-1], 'is damaged'),
              (receiver, 'receive', state_text('giamuvich receiver 2', dict(expected=10 ** 15, stored=0, cleared=0,
                                                                            cleared_after=0)), "no receiver's state"),

@@ -22,17 +22,19 @@ def state(words, more=''):
     return checked('giamuvich sender 2\n' + words + more)
 
 
-def running(is_open, seconds=0, turned=0):
-    """What a driver shows of itself; TURNED and SINCE become times when it is written."""
-    return 'process 4711\nturned AGO(%d)\ncircuit_open %d\nsince AGO(%d)\nsettings %s\npeer %s\n' % (
-        turned, is_open, seconds, SETTINGS, '127.0.0.1:2' if is_open else 'Connection refused')
+def running(is_open, seconds=0, turned=0, hung_up=(0, 0), called=(0, 0)):
+    """What a driver shows of itself. AGO becomes a time when it is written."""
+    return ('process 4711\nturned AGO(%d)\ncircuit_open %d\nsince AGO(%d)\nhung_up %d\nhung_up_at AGO(%d)\n'
+            'called %d\ncalled_at AGO(%d)\nsettings %s\npeer %s\n' % (
+                (turned, is_open, seconds) + hung_up + called + (
+                    SETTINGS, '127.0.0.1:2' if is_open else 'Connection refused')))
 
 
-def live(words, waiting, sends, act=NO_ACT, more='', circuits=1, given_up=0, since=(0, 0, 0, 0, 0), seconds=0, turned=0):
-    names = ('given_up_since', 'refused_since', 'last_refused', 'dropped_since', 'hung_up')
-    counted = ''.join('%s %d\n' % pair for pair in zip(names, since))
+def live(words, waiting, sends, act=NO_ACT, more='', circuits=1, given_up=0, since=(0, 0, 0, 0), errors=(0, 0), **shown):
+    names = ('given_up_since', 'refused_since', 'last_refused', 'dropped_since', 'errors', 'last_error')
+    counted = ''.join('%s %d\n' % pair for pair in zip(names, since + errors))
     return 'giamuvich sender live 2\n%swaiting %d\nsends %d\n%scircuits %d\ngiven_up %d\n%s%s%send\n' % (
-        words, waiting, sends, act, circuits, given_up, counted, running(waiting != 0, seconds, turned), more)
+        words, waiting, sends, act, circuits, given_up, counted, running(waiting != 0, **shown), more)
 
 
 def words(first, delivered, last, resynchronized, frozen=0):
@@ -61,12 +63,10 @@ def receiver_live(expected, stored, counted, cleared=(0, 0)):
     return 'giamuvich receiver live 2\n%s%send\n' % (receiver_words(expected, stored, cleared), counted)
 
 
-def counts(circuits, blocks, refused, last_refused, is_open, rejected=0, since=(0, 0), called=0, cleared=0, seconds=0,
-           turned=0):
+def counts(circuits, blocks, refused, last_refused, is_open, rejected=0, since=(0, 0), wrong=0, cleared=0, **shown):
     return ('circuits %d\nblocks %d\nrefused %d\nlast_refused %d\nrejected %d\nrefused_since %d\nrejected_since %d\n'
-            'called %d\ncalled_at AGO(0)\ncleared_since %d\n' % (
-                (circuits, blocks, refused, last_refused, rejected) + since + (called, cleared)) +
-            running(is_open, seconds, turned))
+            'wrong_at AGO(%d)\ncleared_since %d\n' % (
+                (circuits, blocks, refused, last_refused, rejected) + since + (wrong, cleared)) + running(is_open, **shown))
 
 
 def not_delivered(submitted, spool=0, refused=0):
@@ -163,7 +163,7 @@ CASES = [
     waiting_case('delivered with AE', 'good', ['last act: 16 is delivered, AE'], act=act(1, 16, 2, 1)),
     waiting_case('delivered, verdict unknown', 'good', ["last act: 16 is delivered, the application's verdict is unknown"],
                  act=act(1, 16, 0, 1)),
-    ('gave up', state(MIDDLE), live(MIDDLE, 0, 0, act(2, sends=4), circuits=5, given_up=1, since=(1, 0, 0, 0, 0)),
+    ('gave up', state(MIDDLE), live(MIDDLE, 0, 0, act(2, sends=4), circuits=5, given_up=1, since=(1, 0, 0, 0)),
      ['warning: gave up 1 time since the last delivery', 'sender: no circuit open'] + MIDDLE_SAID +
      ['5 circuits opened since the driver started, gave up 1 time',
       'last act: gave up after 4 sends, the circuit ended'] + shown(False), 1),
@@ -171,19 +171,23 @@ CASES = [
      ['good', WAITS % '1 time'] + MIDDLE_SAID + ['5 circuits opened since the driver started, gave up 1 time',
                                                  'last act: 16 is delivered, AA'] + shown(), 0),
     ('gave up after one', state(MIDDLE),
-     live(MIDDLE, 0, 0, act(2, sends=1, block=7), circuits=9, given_up=9, since=(9, 9, 7, 0, 0)),
+     live(MIDDLE, 0, 0, act(2, sends=1, block=7), circuits=9, given_up=9, since=(9, 9, 7, 0)),
      ['warning: gave up 9 times since the last delivery; 9 answers refused since the last delivery, the last by 7: wrong '
       'checksum', 'sender: no circuit open'] + MIDDLE_SAID + [
           '9 circuits opened since the driver started, gave up 9 times',
           'last act: a block was refused by 7 (wrong checksum)', 'last act: gave up after 1 send, the circuit ended'] +
      shown(False), 1),
-    waiting_case('one answer refused', 'good', [], since=(0, 1, 7, 0, 0)),
+    waiting_case('one answer refused', 'good', [], since=(0, 1, 7, 0)),
     waiting_case('one answer dropped', 'good', ['last act: an answer to something else was dropped'], act=act(4, sends=1),
-                 since=(0, 0, 0, 1, 0)),
+                 since=(0, 0, 0, 1)),
     waiting_case('two answers dropped', 'warning: 2 answers to something else since the last delivery',
-                 ['last act: an answer to something else was dropped'], act=act(4, sends=1), since=(0, 0, 0, 2, 0)),
-    waiting_case('hung up twice', 'good', [], since=(0, 0, 0, 0, 2)),
-    waiting_case('hung up thrice', 'warning: 3 circuits ended without an answer', [], since=(0, 0, 0, 0, 3)),
+                 ['last act: an answer to something else was dropped'], act=act(4, sends=1), since=(0, 0, 0, 2)),
+    waiting_case('hung up twice', 'good', [], hung_up=(2, 0)),
+    waiting_case('hung up thrice', 'warning: 3 circuits soon ended by the peer', [], hung_up=(3, 0)),
+    waiting_case('hung up thrice, long ago', 'good', [], hung_up=(3, 301)),
+    waiting_case("two callers at a sender", 'warning: 2 circuits ended by a new caller', [], called=(2, 0)),
+    waiting_case('answered AE', 'good', ['2 transactions answered AE since the driver started, the last was 16',
+                                         'last act: 16 is delivered, AE'], act=act(1, 16, 2, 1), errors=(2, 16)),
     frozen_case('frozen on AR', '17', 'AR', '17', '19', 'waited on 17 and got AR 19 for control ID 17'),
     frozen_case('frozen on AE', '17', 'AE', '17', '16', 'waited on 17 and got AE 16 for control ID 17'),
     frozen_case('frozen on 0', '0', 'AA', '0', '25', 'waited on 0 and got AA 25 for control ID 0'),
@@ -216,11 +220,16 @@ CASES = [
     receiving_case('two blocks refused', 'warning: 2 blocks refused since the last transaction, the last by 9: no readable '
                    'header', 4, 3, (2, 9, 2, 9, 0), ['the last refused block was refused by 9 (no readable header)'],
                    since=(2, 0)),
+    receiving_case('two blocks refused, long ago', 'good', 4, 3, (2, 9, 2, 9, 0),
+                   ['the last refused block was refused by 9 (no readable header)'], since=(2, 0), wrong=301),
+    receiving_case('a far end that hangs up', 'warning: 4 circuits soon ended by the peer', 4, 3, (2, 9, 0, 0, 0), [],
+                   hung_up=(4, 0)),
     receiving_case('one AR', 'good', 4, 3, (2, 9, 0, 0, 1), [], since=(0, 1)),
     receiving_case('two AR', 'warning: 2 requests answered AR since the last transaction', 4, 3, (2, 9, 0, 0, 2), [],
                    since=(0, 2)),
-    receiving_case('one new caller', 'good', 4, 3, (2, 9, 0, 0, 0), [], called=1),
-    receiving_case('two new callers', 'warning: 2 circuits ended by a new caller', 4, 3, (3, 9, 0, 0, 0), [], called=2),
+    receiving_case('one new caller', 'good', 4, 3, (2, 9, 0, 0, 0), [], called=(1, 0)),
+    receiving_case('two new callers', 'warning: 2 circuits ended by a new caller', 4, 3, (3, 9, 0, 0, 0), [], called=(2, 0)),
+    receiving_case('new callers, long ago', 'good', 4, 3, (3, 9, 0, 0, 0), [], called=(2, 301)),
     ('-1 in the middle', receiver(2, 71, (71, 70)),
      receiver_live(2, 71, counts(3, 9, 0, 0, 1, cleared=1), (71, 70)),
      ['warning: -1 took the expected number 71 away after 70 transactions', 'receiver: expects 2, 71 transactions stored',
@@ -248,6 +257,10 @@ CASES = [
     ('frozen 2', state(words(1, 0, 0, 0, 2)), None, IS_SENDER, 2),
     ('delivered, not resynchronized', state(words(1, 1, 1, 0)), None, IS_SENDER, 2),
     ('a number too large', receiver(10 ** 15, 1), None, ["critical: FOLDER/state has words that are no receiver's state"], 2),
+    ('no log', state(MIDDLE), None, [STOPPED + '; log/ is missing', NO_DRIVER] + MIDDLE_SAID, 2, {'log': None}),
+    ('no transactions', receiver(18, 17), None,
+     [STOPPED + '; transactions/ is missing', 'receiver: expects 18, 17 transactions stored',
+      'no driver runs on this folder'], 2, {'transactions': None}),
     ('a damaged receiver', receiver(1, 1).replace('stored', 'sorted'), None, DAMAGED, 2),
     ('a live file with a wrong count', state(MIDDLE), live(MIDDLE, 4, 101),
      ["critical: FOLDER/live has words that are no sender's state"], 2),
@@ -302,8 +315,13 @@ def said(programs, *folders):
 
 
 def put(folder, files):
-    """Files of one byte, written so many seconds ago; None is an empty file."""
+    """Files of one byte, written so many seconds ago; None is an empty file, or a folder that is not there."""
+    for name in ('log', 'spool', 'refused', 'transactions'):
+        if name not in files:
+            os.makedirs(os.path.join(folder, name))
     for name, age in files.items():
+        if '/' not in name:
+            continue
         path = os.path.join(folder, name)
         os.makedirs(os.path.dirname(path), exist_ok=True)
         with open(path, 'wb') as file:
@@ -335,7 +353,8 @@ def holds(programs, folder, state_text, live_text, wanted, status, files=None):
         os.mkdir(folder)
         with open(os.path.join(folder, 'state'), 'w', encoding='ascii') as file:
             file.write(state_text)
-    put(folder, files or {})
+    if state_text is not None:
+        put(folder, files or {})
     if live_text is LOOP:
         os.symlink('lock', os.path.join(folder, 'lock'))
     if live_text in (None, LOOP):

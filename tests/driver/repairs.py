@@ -9,7 +9,7 @@ import struct
 import subprocess
 import time
 
-from duties import Peer, RULES, answer, damaged_states, happened, spoken, text, wait_for
+from duties import Peer, RULES, answer, damaged_states, happened, spoken, text, used_time, wait_for
 from ends import End, change_state, read, read_words, state_of
 from faults import Fault
 from lines import open_terminal
@@ -184,7 +184,7 @@ def deaf_caller(bench):
             except BlockingIOError:
                 pass
     new, begin = call(end), time.monotonic()
-    new.settimeout(5)
+    new.settimeout(3)
     new.sendall(QUERY)
     try:
         heard = new.recv(4096)
@@ -194,6 +194,63 @@ def deaf_caller(bench):
         return 'a new caller hears %s after %.1f s' % (heard, time.monotonic() - begin)
     deaf.close()
     new.close()
+    return None if end.finish() == 0 else 'ends badly'
+
+
+def dropped_bytes(bench):
+    """What a caller wrote and the peer has not read goes with the circuit, also when the driver is killed: the system does
+    not go on sending it, which could bring it in after the next circuit was opened."""
+    bench.sender()
+    peer = Peer()
+    end = bench.start('send', 's', peer.line, '--timer', '100', '--resends', '0')
+    for how in ('given up', 'killed'):
+        peer.accept()
+        if peer.block() is None:
+            return 'no -1'
+        if how == 'killed':
+            end.kill()
+        try:
+            if not wait_for(lambda: peer.circuit.recv(1) == b''):
+                return '%s: the circuit does not end' % how
+            return '%s: the circuit ends in order, and what was written still comes' % how
+        except ConnectionResetError:
+            pass
+    peer.close()
+    return None
+
+
+def moved_folders(bench):
+    """A driver whose folder is put aside, and another made in its place, writes nothing into that one."""
+    for name, command, init in (('s', 'send', ['sender-init', bench.path('s'), '1']),
+                                ('r', 'receive', ['receiver-init', bench.path('r')])):
+        if bench.driver(*init)[0] != 0:
+            return 'not made'
+        end = bench.start(command, name, ['--minimal-connect', '127.0.0.1:1'])
+        if not wait_for(lambda name=name: os.path.exists(os.path.join(bench.path(name), 'live'))):
+            return 'not shown'
+        os.rename(bench.path(name), bench.path(name + '-aside'))
+        if bench.driver(*init)[0] != 0:
+            return 'not made anew'
+        if not wait_for(lambda end=end: end.process.poll() == 1, 5) or 'is another folder now' not in end.error_text():
+            return '%s goes on: %s' % (command, end.error_text())
+        if set(os.listdir(bench.path(name))) & {'live', 'live.new'}:
+            return '%s wrote into the new folder' % command
+    return None
+
+
+def linked_files(bench):
+    """A link in the spool is left alone, as a folder is; the driver does not spin over it."""
+    folder = bench.sender()
+    write(bench.path('outside'), b'no header')
+    os.symlink('../../outside', os.path.join(folder, 'spool', 'a'))
+    bench.put('b', text(1))
+    end = bench.start('send', 's', ['--minimal-connect', '127.0.0.1:1'])
+    if not wait_for(lambda: read_words(folder, 'state')['last'] == 1):
+        return 'the file behind it is not submitted'
+    before = used_time(end)
+    time.sleep(0.5)
+    if used_time(end) > before + 0.2 or os.listdir(os.path.join(folder, 'spool')) != ['a']:
+        return 'it spins, or the link is gone'
     return None if end.finish() == 0 else 'ends badly'
 
 
@@ -267,30 +324,41 @@ def calls_of(peer, seconds):
 
 
 def hangups(bench):
-    """A peer that takes the call and hangs up is called after pauses that grow, and the line on it is folded. One that
-    answers is called at once again."""
+    """A peer that takes the call and hangs up is called after pauses that grow, and the line on it is folded. One on whose
+    circuit something was delivered is called at once again."""
     bench.sender()
     peer = Peer()
     end = bench.start('send', 's', peer.line)
-    count = calls_of(peer, 3)
-    if not 5 <= count <= 20:
-        return 'called %d times in 3 seconds' % count
-    sentence = '127.0.0.1:%d took the call and hung up without an answer' % peer.server.getsockname()[1]
+    count = calls_of(peer, 2)
+    if not 4 <= count <= 20:
+        return 'called %d times in 2 seconds' % count
+    sentence = '127.0.0.1:%d took the call and soon hung up' % peer.server.getsockname()[1]
     if happened(end) != [sentence]:
         return 'it is not said once: %s' % end.error_text()
-    wanted = 'warning: %d circuits ended without an answer'
+    wanted = 'warning: %d circuits soon ended by the peer'
     if not wait_for(lambda: said(bench.programs, bench.path('s'))[0][0] in (wanted % count, wanted % (count + 1)), 3):
         return 'linkstatus says %s' % said(bench.programs, bench.path('s'))[0]
-    for _ in range(2):
-        peer.accept()
+    bench.put('a', text(1))
+    peer.accept()
+    for control_id, expected in (('-1', '-1'), ('1', '1')):
         peer.block()
-        peer.reply('AA', '-1', '-1')
-        if not wait_for(lambda: read_words(bench.path('s'), 'live')['hung_up'] == 0):
-            return 'an answer does not end it'
-        peer.circuit.close()
-        begin = time.monotonic()
+        peer.reply('AA', control_id, expected)
+    if not wait_for(lambda: read_words(bench.path('s'), 'live')['hung_up'] == 0):
+        return 'a delivery does not end it'
+    peer.circuit.close()
+    begin = time.monotonic()
     if not select.select([peer.server], [], [], 2)[0]:
-        return 'after an answer it calls again only after %.1f s' % (time.monotonic() - begin)
+        return 'after a delivery it calls again only after %.1f s' % (time.monotonic() - begin)
+    count = 0
+    while time.monotonic() < begin + 3:  # it answers 0, and hangs up all the same
+        if select.select([peer.server], [], [], 0.2)[0]:
+            peer.accept()
+            peer.block()
+            peer.reply('AA', '0', '2')
+            peer.circuit.close()
+            count += 1
+    if count > 25:
+        return 'a peer that answers 0 and hangs up is called %d times in 3 seconds' % count
     peer.close()
     if end.finish() != 0:
         return 'ends badly'
@@ -412,7 +480,7 @@ def hanging(bench):
     return None if end.finish() == 0 else 'ends badly'
 
 
-REPAIRS = [long_names, replaced, floods, busy, deaf_caller, vanished_peers, plain_devices, hangups, first_forms, beyond, wrong_count,
+REPAIRS = [long_names, replaced, dropped_bytes, moved_folders, linked_files, floods, busy, deaf_caller, vanished_peers, plain_devices, hangups, first_forms, beyond, wrong_count,
            strangers, shown_settings, hanging]
 
 
@@ -429,6 +497,12 @@ FAULTS = [
     fault('a long name ends the driver', 'spool.c', 'else if (errno == ENAMETOOLONG && kept > 0)', 'else if (0)', long_names),
     fault("the host's next file goes with the last one", 'spool.c', 'if (is_seen_file(path, &file->seen) && unlink(path) != 0',
           'if (unlink(path) != 0', replaced),
+    fault('what was written still comes', 'line.c', 'const struct linger drop = {1, 0};', 'const struct linger drop = {0, 0};',
+          dropped_bytes),
+    fault('a folder that was moved', 'store.c', 'if (stat(path, &status) != 0 || status.st_dev != locked.st_dev ||', 'if (0 &&',
+          moved_folders),
+    fault('a link in the spool is taken', 'spool.c', 'return lstat(path, &status) == 0', 'return stat(path, &status) == 0',
+          linked_files),
     fault('a read-out for each verdict', 'receiving_end.c', '            receive_block(end);\n        if (line_is_called',
           '            receive_block(end), show_receiver(end->folder, &end->record, &end->counts, &end->running);\n'
           '        if (line_is_called', floods),
@@ -467,8 +541,8 @@ READ_OUT_FAULTS = [
           'else if (0)', None),
     fault('a dead receiver is called good', 'status.c', 'add_reason(verdict, CRITICAL, R_NO_DRIVER);', ';', None),
     fault('an empty refused file is a warning', 'store.c', 'if (status.st_size == 0) {', 'if (0) {', None),
-    fault('the books believe the numbers', 'linkstatus/books.c', '    compare_messages(&books);\n', '', None),
-    fault('the books believe the bytes', 'linkstatus/books.c', '    compare_numbers(&books);\n', '', None),
-    fault('the books believe the mark', 'linkstatus/books.c', '    compare_mark(&books);\n', '', None),
-    fault('the books believe the count', 'linkstatus/books.c', '    compare_files(&books);\n', '', None),
+    fault('the books believe the numbers', 'linkstatus/books.c', '        compare_messages(&books);\n', '', None),
+    fault('the books believe the bytes', 'linkstatus/books.c', '        compare_numbers(&books);\n', '', None),
+    fault('the books believe the mark', 'linkstatus/books.c', '        compare_mark(&books);\n', '', None),
+    fault('the books believe the count', 'linkstatus/books.c', '        compare_count(&books);\n', '', None),
 ]

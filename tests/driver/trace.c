@@ -29,7 +29,7 @@
 #include <unistd.h>
 
 enum { FILES = 1024, NAME = 512, CIRCUIT = 32 };
-static char names[FILES][NAME];
+static char names[FILES][NAME], circuits[FILES][CIRCUIT];
 
 /* The system's own functions. Looked up once, at the start: write is also called by a signal handler, and
  * dlsym has a lock that what the handler interrupts may hold. */
@@ -39,6 +39,8 @@ typedef int of_file(int);
 static int (*really_open)(const char *, int, ...);
 static ssize_t (*really_write)(int, const void *, size_t);
 static ssize_t (*really_read)(int, void *, size_t);
+static int (*really_accept)(int, struct sockaddr *, socklen_t *);
+static int (*really_connect)(int, const struct sockaddr *, socklen_t);
 static int (*really_mkdir)(const char *, mode_t);
 static of_file *really_fsync, *really_fdatasync, *really_close;
 static of_paths *really_rename, *really_link;
@@ -49,6 +51,8 @@ static void __attribute__((constructor)) look_up(void)
     really_open = (int (*)(const char *, int, ...))dlsym(RTLD_NEXT, "open");
     really_write = (ssize_t (*)(int, const void *, size_t))dlsym(RTLD_NEXT, "write");
     really_read = (ssize_t (*)(int, void *, size_t))dlsym(RTLD_NEXT, "read");
+    really_accept = (int (*)(int, struct sockaddr *, socklen_t *))dlsym(RTLD_NEXT, "accept");
+    really_connect = (int (*)(int, const struct sockaddr *, socklen_t))dlsym(RTLD_NEXT, "connect");
     really_mkdir = (int (*)(const char *, mode_t))dlsym(RTLD_NEXT, "mkdir");
     really_fsync = (of_file *)dlsym(RTLD_NEXT, "fsync");
     really_fdatasync = (of_file *)dlsym(RTLD_NEXT, "fdatasync");
@@ -191,20 +195,42 @@ static void record_write(int file, const unsigned char *bytes, size_t length)
     errno = error;
 }
 
-/* The two ports of a connection, the lower one first: the same word at both ends. */
-static void circuit_of(int file, char *word)
+/* The two ports of a connection, the lower one first: the same word at both ends. It is kept from the beginning on:
+ * of a connection that was reset the system tells the peer no more. */
+static void name_circuit(int file, int named, const struct sockaddr *other)
 {
-    struct sockaddr_in own = {0}, peer = {0};
-    socklen_t own_length = sizeof own, peer_length = sizeof peer;
+    struct sockaddr_in own = {0};
+    socklen_t length = sizeof own;
     const int error = errno;
     int low, high;
 
-    getsockname(file, (struct sockaddr *)&own, &own_length);
-    getpeername(file, (struct sockaddr *)&peer, &peer_length);
+    getsockname(named, (struct sockaddr *)&own, &length);
     low = ntohs(own.sin_port);
-    high = ntohs(peer.sin_port);
-    snprintf(word, CIRCUIT, "%d-%d", low < high ? low : high, low < high ? high : low);
+    high = ntohs(((const struct sockaddr_in *)other)->sin_port);
+    if (file >= 0 && file < FILES)
+        snprintf(circuits[file], CIRCUIT, "%d-%d", low < high ? low : high, low < high ? high : low);
     errno = error;
+}
+
+int accept(int file, struct sockaddr *restrict address, socklen_t *restrict length)
+{
+    struct sockaddr_storage peer;
+    socklen_t peer_length = sizeof peer;
+    const int circuit = really_accept(file, (struct sockaddr *)&peer, &peer_length);
+
+    (void)address; /* the driver does not ask */
+    (void)length;
+    if (circuit >= 0)
+        name_circuit(circuit, file, (struct sockaddr *)&peer);
+    return circuit;
+}
+
+int connect(int file, const struct sockaddr *address, socklen_t length)
+{
+    const int result = really_connect(file, address, length);
+
+    name_circuit(file, file, address);
+    return result;
 }
 
 /* A socket or a terminal. */
@@ -221,12 +247,8 @@ static int is_line(int file)
 
 static void record_line(const char *act, int file, ssize_t count)
 {
-    char word[CIRCUIT];
-
-    if (count <= 0)
-        return;
-    circuit_of(file, word);
-    record("%s %s %ld", act, word, (long)count);
+    if (count > 0)
+        record("%s %s %ld", act, file < FILES && circuits[file][0] != '\0' ? circuits[file] : "-", (long)count);
 }
 
 ssize_t write(int file, const void *bytes, size_t length)
@@ -295,7 +317,7 @@ int fdatasync(int file)
 int close(int file)
 {
     if (file >= 0 && file < FILES)
-        names[file][0] = '\0';
+        names[file][0] = circuits[file][0] = '\0';
     return really_close(file);
 }
 

@@ -27,7 +27,10 @@ class Relay:
         with sender, receiver:
             while not self.stopped:
                 for ready in select.select([sender, receiver], [], [], 0.05)[0]:
-                    data = ready.recv(65536)
+                    try:
+                        data = ready.recv(65536)
+                    except ConnectionResetError:  # so our sender ends a circuit
+                        return
                     if not data:
                         return
                     self.packets.append((1, ready is sender, data))

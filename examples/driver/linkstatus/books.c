@@ -4,35 +4,53 @@
 #include <string.h>
 
 #include "common.h"
-#include "log.h"
 
 /* Every sentence on the books, as in status.c. */
 #define R_BOOKS_DIFFER "THE BOOKS DIFFER"
 #define R_NOT_COMPARED "%s could not be compared"
+#define R_FILES_UNREADABLE "log/ or transactions/ cannot be read"
 
 #define BOOKS "books: first number %llu, delivered up to %llu, submitted up to %llu; expected %llu, stored %llu\n"
 #define AGREE "books: they agree: the first %llu of the log are stored, each once, in order, byte for byte\n"
+#define AGREE_FROM "books: they agree from number %llu on, byte for byte; what is before it was purged\n"
 #define DIFFER "books: THEY DIFFER\n"
 #define NOT_STORED "books: %s marked delivered and not stored\n"
 #define WRONG_MESSAGE "books: position %llu is not number %llu of the log; %s\n"
 #define OUTSIDE "books: number %llu of the log is at position %llu, before those that the expected number counts\n"
+#define MORE "books: and %s more like this\n"
 #define TOO_FEW "books: the expected number says that %llu are stored, and there are %llu\n"
 #define WRONG_EXPECTED "books: the expected number says that %llu are stored, and the mark covers %llu\n"
 #define NOT_SUBMITTED "books: the expected number says that %llu are stored, and %llu were submitted\n"
 #define BEYOND "books: there is a file at position %llu\n"
 #define NOT_COMPARED "books: %s could not be compared: it lacks in log/ or in transactions/\n"
+#define GREATEST "books: the greatest number of the log that is stored is %llu; missing below it: %s\n"
+#define NOTHING_STORED "books: no message of the log is stored\n"
 
-enum { MESSAGE_LENGTH = 100000 /* more than any block has */, NUMBERS = 512, MOST_WRONG = 3 };
+enum { MESSAGE_LENGTH = 100000 /* more than any block has */, NUMBERS = 512, MOST_LINES = 10 };
 
-/* What is gathered while the positions are walked through. */
+/* A file of transactions/: its position, the number in its MSH-13 (0: none), and whether it is the log's message of that
+ * number; -1 where the log has none. */
+typedef struct {
+    uint64_t position, number;
+    int same;
+} message;
+
+/* A growing list of numbers. */
+typedef struct {
+    uint64_t *numbers;
+    size_t count, room;
+} list;
+
 typedef struct {
     FILE *out;
     const pair *pair;
-    uint64_t claimed;     /* how many the expected number says are stored */
-    uint64_t base, count; /* and where they are: at the positions base + 1 to base + count */
-    uint64_t greatest;    /* the greatest position of a file */
-    uint64_t wrong, not_compared;
-    uint8_t *message, *logged;
+    message *messages; /* by position */
+    size_t count;
+    list stored, logged;    /* the log's numbers that some position has, and all of them, in order */
+    uint64_t claimed;       /* how many the expected number says are stored */
+    uint64_t base, counted; /* and where they are: at the positions base + 1 to base + counted */
+    uint64_t compared, purged, lacking; /* of these: equal; not there, before any that is; not there, after it */
+    uint64_t wrong, wrong_messages, outside;
 } comparison;
 
 static uint64_t first_of(const comparison *books)
@@ -51,113 +69,152 @@ static uint64_t submitted(const sender_record *record)
     return record->words[GMV_SENDER_LAST] + 1 - record->words[GMV_SENDER_FIRST];
 }
 
-static void found_wrong(comparison *books)
+/* ---- lists */
+
+static void add_to(void *to, uint64_t number)
 {
-    books->wrong++;
+    list *grows = to;
+
+    if (grows->count == grows->room) {
+        grows->room = grows->room == 0 ? 1024 : 2 * grows->room;
+        grows->numbers = realloc(grows->numbers, grows->room * sizeof *grows->numbers);
+        if (grows->numbers == NULL)
+            fail("no memory");
+    }
+    grows->numbers[grows->count++] = number;
 }
 
-/* ---- messages */
+static int by_number(const void *one, const void *other)
+{
+    const uint64_t a = *(const uint64_t *)one, b = *(const uint64_t *)other;
 
-static ssize_t transaction_read(const comparison *books, uint64_t position, uint8_t *message)
+    return a < b ? -1 : a > b;
+}
+
+static void sort(list *list)
+{
+    if (list->count != 0)
+        qsort(list->numbers, list->count, sizeof *list->numbers, by_number);
+}
+
+/* The place of the first one that is not less. */
+static size_t place_of(const list *list, uint64_t number)
+{
+    size_t low = 0, high = list->count;
+
+    while (low < high) {
+        const size_t middle = low + (high - low) / 2;
+
+        if (list->numbers[middle] < number)
+            low = middle + 1;
+        else
+            high = middle;
+    }
+    return low;
+}
+
+static int has(const list *list, uint64_t number)
+{
+    const size_t place = place_of(list, number);
+
+    return place < list->count && list->numbers[place] == number;
+}
+
+/* ---- the files, each read once */
+
+static ssize_t read_numbered(const char *folder, const char *format, uint64_t number, uint8_t *bytes)
 {
     char path[PATH_LENGTH], name[64];
 
-    snprintf(name, sizeof name, "transactions/%015llu.hl7", (unsigned long long)position);
-    path_of(path, books->pair->receiver, name);
-    return read_file(path, message, MESSAGE_LENGTH);
+    snprintf(name, sizeof name, format, (unsigned long long)number);
+    path_of(path, folder, name);
+    return read_file(path, bytes, MESSAGE_LENGTH);
 }
 
-/* Whether a position has the log's message of a number: 1, 0, or -1 where one of the two is not there. */
-static int has_number(comparison *books, uint64_t position, uint64_t number)
+static uint64_t number_in(const uint8_t *bytes, size_t length)
 {
-    const ssize_t length = transaction_read(books, position, books->message);
-    const ssize_t logged = log_read(books->pair->sender, number, books->logged, MESSAGE_LENGTH);
-
-    if (length < 0 || logged < 0)
-        return -1;
-    return length == logged && memcmp(books->message, books->logged, (size_t)length) == 0;
-}
-
-/* The number in MSH-13 of the message at a position; 0 where it has none. */
-static uint64_t number_in(const comparison *books, uint64_t position)
-{
-    const ssize_t length = transaction_read(books, position, books->message);
     uint64_t header[GMV_HEADER_WORDS];
 
-    if (length < 0 ||
-        gmv_header_read(books->message, (size_t)length, header, GMV_HEADER_WORDS) != GMV_OK ||
+    if (gmv_header_read(bytes, length, header, GMV_HEADER_WORDS) != GMV_OK ||
         header[GMV_HEADER_SEQUENCE_FIELD] != GMV_FIELD_NUMBER ||
         header[GMV_HEADER_SEQUENCE_NUMBER] == GMV_MINUS_ONE)
         return 0;
     return header[GMV_HEADER_SEQUENCE_NUMBER];
 }
 
+/* Returns 0 where the file is not there any more. */
+static int look_at(comparison *books, uint64_t position, message *found, uint8_t *bytes, uint8_t *logged)
+{
+    const ssize_t length = read_numbered(books->pair->receiver, "transactions/%015llu.hl7", position, bytes);
+    ssize_t logged_length;
+
+    if (length < 0)
+        return 0;
+    found->position = position;
+    found->number = number_in(bytes, (size_t)length);
+    logged_length = read_numbered(books->pair->sender, "log/%llu.hl7", found->number, logged);
+    if (logged_length < 0)
+        found->same = found->number == 0 ? 0 : -1;
+    else
+        found->same = length == logged_length && memcmp(bytes, logged, (size_t)length) == 0;
+    if (found->same == 1)
+        add_to(&books->stored, found->number);
+    return 1;
+}
+
+/* Returns 0, or -1 where a folder cannot be read. */
+static int collect(comparison *books)
+{
+    list positions = {NULL, 0, 0};
+    uint8_t *bytes = allocate(MESSAGE_LENGTH), *logged = allocate(MESSAGE_LENGTH);
+    char path[PATH_LENGTH];
+    int read;
+
+    path_of(path, books->pair->receiver, "transactions");
+    read = for_each_number(path, add_to, &positions);
+    path_of(path, books->pair->sender, "log");
+    read = for_each_number(path, add_to, &books->logged) != 0 ? -1 : read;
+    sort(&positions);
+    sort(&books->logged);
+    books->messages = allocate((positions.count + 1) * sizeof *books->messages);
+    for (size_t i = 0; i < positions.count; i++)
+        books->count += (size_t)look_at(books, positions.numbers[i], &books->messages[books->count], bytes, logged);
+    sort(&books->stored);
+    free(positions.numbers);
+    free(bytes);
+    free(logged);
+    return read;
+}
+
+static void give_back(comparison *books)
+{
+    free(books->messages);
+    free(books->stored.numbers);
+    free(books->logged.numbers);
+}
+
+static int has_position(const comparison *books, uint64_t position)
+{
+    size_t low = 0, high = books->count;
+
+    while (low < high) {
+        const size_t middle = low + (high - low) / 2;
+
+        if (books->messages[middle].position < position)
+            low = middle + 1;
+        else
+            high = middle;
+    }
+    return low < books->count && books->messages[low].position == position;
+}
+
 /* ---- what may differ */
 
-static void say_wrong_message(comparison *books, uint64_t position, uint64_t number)
-{
-    const uint64_t found = number_in(books, position);
-    char words[128];
-
-    found_wrong(books);
-    if (books->wrong > MOST_WRONG)
-        return;
-    if (found == 0)
-        strcpy(words, "it has no number");
-    else if (found != number && has_number(books, position, found) == 1)
-        snprintf(words, sizeof words, "it is number %llu of it", (unsigned long long)found);
-    else
-        snprintf(words, sizeof words, "it is another message, with number %llu", (unsigned long long)found);
-    fprintf(books->out, WRONG_MESSAGE, (unsigned long long)position, (unsigned long long)number, words);
-}
-
-/* The transactions that the expected number counts to this tenancy, each against the log. */
-static void compare_messages(comparison *books)
-{
-    for (uint64_t i = 1; i <= books->count; i++) {
-        const int same = has_number(books, books->base + i, first_of(books) + i - 1);
-
-        if (same == 0)
-            say_wrong_message(books, books->base + i, first_of(books) + i - 1);
-        books->not_compared += same < 0;
-    }
-}
-
-/* Before this tenancy's transactions there are none of its log. */
-static void compare_earlier(comparison *books)
-{
-    for (uint64_t position = 1; position <= books->base; position++) {
-        const uint64_t number = number_in(books, position);
-
-        if (number < first_of(books) || number > books->pair->after.words[GMV_SENDER_LAST] ||
-            has_number(books, position, number) != 1)
-            continue;
-        found_wrong(books);
-        if (books->wrong <= MOST_WRONG)
-            fprintf(books->out, OUTSIDE, (unsigned long long)number, (unsigned long long)position);
-    }
-}
-
-/* Whether any file has the log's message of a number, also one that the count does not count; the likely position
- * is looked at first. */
-static int is_stored(comparison *books, uint64_t number)
-{
-    const uint64_t likely = books->base + number - first_of(books) + 1;
-    const uint64_t most = books->greatest > books->pair->record.stored ? books->greatest : books->pair->record.stored;
-
-    if (likely >= 1 && likely <= most && has_number(books, likely, number) != 0)
-        return 1;
-    for (uint64_t position = 1; position <= most; position++)
-        if (number_in(books, position) == number && has_number(books, position, number) != 0)
-            return 1;
-    return 0;
-}
-
-static void add_number(char *numbers, uint64_t from, uint64_t to)
+static void add_range(char *numbers, uint64_t from, uint64_t to)
 {
     const size_t length = strlen(numbers);
 
-    if (length + 48 >= NUMBERS) {
+    if (length + 64 >= NUMBERS) {
         if (strstr(numbers, "and more") == NULL)
             strcat(numbers, " and more");
         return;
@@ -166,32 +223,119 @@ static void add_number(char *numbers, uint64_t from, uint64_t to)
              length == 0 ? "" : ", ", (unsigned long long)from, (unsigned long long)to);
 }
 
+/* The place of a number by the expected number counts, and no file is there: both were purged, or the file was. */
+static int is_purged(const comparison *books, uint64_t number)
+{
+    const uint64_t position = books->base + number - first_of(books) + 1;
+
+    return position <= books->pair->record.stored && !has_position(books, position);
+}
+
+/* The log's numbers within these bounds that no position has, as ranges. */
+static void list_missing(const comparison *books, uint64_t from, uint64_t to, int with_purged, char *numbers)
+{
+    uint64_t begin = 0, last = 0;
+
+    numbers[0] = '\0';
+    for (size_t i = place_of(&books->logged, from); i < books->logged.count && books->logged.numbers[i] <= to; i++) {
+        const uint64_t number = books->logged.numbers[i];
+        const int missing = !has(&books->stored, number) && (with_purged || !is_purged(books, number));
+
+        if (begin != 0 && (!missing || number != last + 1)) {
+            add_range(numbers, begin, last);
+            begin = 0;
+        }
+        if (missing && begin == 0)
+            begin = number;
+        last = number;
+    }
+    if (begin != 0)
+        add_range(numbers, begin, last);
+}
+
 /* What the mark covers and no position has: results that somebody believes delivered. */
 static void compare_mark(comparison *books)
 {
-    const uint64_t mark = books->pair->before.words[GMV_SENDER_DELIVERED];
-    uint64_t from = 0;
-    char numbers[NUMBERS] = "";
+    char numbers[NUMBERS];
 
-    for (uint64_t number = first_of(books); number <= mark + 1; number++) {
-        const int missing = number <= mark && !is_stored(books, number);
-
-        if (missing && from == 0)
-            from = number;
-        if (!missing && from != 0) {
-            add_number(numbers, from, number - 1);
-            from = 0;
-        }
-    }
+    list_missing(books, first_of(books), books->pair->before.words[GMV_SENDER_DELIVERED], 0, numbers);
     if (numbers[0] == '\0')
         return;
-    found_wrong(books);
+    books->wrong++;
     fprintf(books->out, NOT_STORED, numbers);
+}
+
+static void say_wrong_message(comparison *books, const message *found, uint64_t number)
+{
+    char words[128];
+
+    books->wrong++;
+    if (++books->wrong_messages > MOST_LINES)
+        return;
+    if (found->number == 0)
+        strcpy(words, "it has no number");
+    else
+        snprintf(words, sizeof words, found->same == 1 ? "it is number %llu of it" : "it is another message, with number %llu",
+                 (unsigned long long)found->number);
+    fprintf(books->out, WRONG_MESSAGE, (unsigned long long)found->position, (unsigned long long)number, words);
+}
+
+static void note_lacking(comparison *books, uint64_t count)
+{
+    if (books->compared == 0)
+        books->purged += count;
+    else
+        books->lacking += count;
+}
+
+/* The transactions that the expected number counts to this tenancy, each against the log. */
+static void compare_messages(comparison *books)
+{
+    const uint64_t end = books->base + books->counted;
+    uint64_t next = books->base + 1;
+
+    for (size_t i = 0; i < books->count && books->messages[i].position <= end; i++) {
+        const message *found = &books->messages[i];
+        const uint64_t number = first_of(books) + found->position - books->base - 1;
+
+        if (found->position < next)
+            continue;
+        note_lacking(books, found->position - next);
+        next = found->position + 1;
+        if (found->number == number && found->same != 0)
+            found->same == 1 ? (void)books->compared++ : note_lacking(books, 1);
+        else
+            say_wrong_message(books, found, number);
+    }
+    note_lacking(books, end + 1 - next);
+}
+
+/* Before this tenancy's transactions there are none of its log. */
+static void compare_earlier(comparison *books)
+{
+    for (size_t i = 0; i < books->count && books->messages[i].position <= books->base; i++) {
+        const message *found = &books->messages[i];
+
+        if (found->same != 1 || found->number < first_of(books) ||
+            found->number > books->pair->after.words[GMV_SENDER_LAST])
+            continue;
+        books->wrong++;
+        if (++books->outside <= MOST_LINES)
+            fprintf(books->out, OUTSIDE, (unsigned long long)found->number, (unsigned long long)found->position);
+    }
+}
+
+static void say_more(const comparison *books, uint64_t count)
+{
+    char words[COUNTED];
+
+    if (count > MOST_LINES)
+        fprintf(books->out, MORE, counted(words, count - MOST_LINES, "position", "positions"));
 }
 
 static void say_numbers(comparison *books, const char *format, uint64_t other)
 {
-    found_wrong(books);
+    books->wrong++;
     fprintf(books->out, format, (unsigned long long)books->claimed, (unsigned long long)other);
 }
 
@@ -218,53 +362,96 @@ static void find_range(comparison *books)
 
     if (expected > first_of(books) && books->pair->before.words[GMV_SENDER_RESYNCHRONIZED] == 1)
         books->claimed = expected - first_of(books);
-    books->count = books->claimed < stored ? books->claimed : stored;
-    books->base = stored - books->count;
+    books->counted = books->claimed < stored ? books->claimed : stored;
+    books->base = stored - books->counted;
 }
 
-static void compare_files(comparison *books)
+static void compare_count(comparison *books)
 {
-    if (books->greatest <= books->pair->record.stored + 1)
+    if (books->pair->greatest <= books->pair->record.stored + 1)
         return;
-    found_wrong(books);
-    fprintf(books->out, BEYOND, (unsigned long long)books->greatest);
+    books->wrong++;
+    fprintf(books->out, BEYOND, (unsigned long long)books->pair->greatest);
+}
+
+/* From what a link goes on whose books differ. */
+static void say_greatest(const comparison *books)
+{
+    const list *stored = &books->stored;
+    const uint64_t greatest = stored->count == 0 ? 0 : stored->numbers[stored->count - 1];
+    char numbers[NUMBERS];
+
+    if (greatest == 0) {
+        fprintf(books->out, NOTHING_STORED);
+        return;
+    }
+    list_missing(books, 0, greatest, 1, numbers);
+    fprintf(books->out, GREATEST, (unsigned long long)greatest, or_nothing(numbers, "none"));
 }
 
 static void conclude(comparison *books, verdict *verdict)
 {
+    const int holes = books->lacking != 0 || (books->purged != 0 && books->compared == 0);
     char words[COUNTED];
 
     if (books->wrong != 0) {
+        say_greatest(books);
         fprintf(books->out, DIFFER);
         add_reason(verdict, CRITICAL, R_BOOKS_DIFFER);
-    } else if (books->not_compared != 0) {
-        counted(words, books->not_compared, "transaction", "transactions");
+    } else if (holes) {
+        counted(words, books->lacking + books->purged, "transaction", "transactions");
         fprintf(books->out, NOT_COMPARED, words);
         add_reason(verdict, WARNING, R_NOT_COMPARED, words);
+    } else if (books->purged != 0) {
+        fprintf(books->out, AGREE_FROM, (unsigned long long)(first_of(books) + books->purged));
     } else {
-        fprintf(books->out, AGREE, (unsigned long long)books->count);
+        fprintf(books->out, AGREE, (unsigned long long)books->counted);
     }
 }
 
-void compare_books(FILE *out, const pair *pair, verdict *verdict)
+static comparison comparison_of(FILE *out, const pair *pair)
 {
-    comparison books = {out, pair, 0, 0, 0, 0, 0, 0, allocate(MESSAGE_LENGTH), allocate(MESSAGE_LENGTH)};
-    char path[PATH_LENGTH];
+    comparison books;
 
-    path_of(path, pair->receiver, "transactions");
-    books.greatest = greatest_number(path);
+    memset(&books, 0, sizeof books);
+    books.out = out;
+    books.pair = pair;
+    return books;
+}
+
+int compare_books(FILE *out, const pair *pair, verdict *verdict)
+{
+    comparison books = comparison_of(out, pair);
+
     fprintf(out, BOOKS, (unsigned long long)pair->before.words[GMV_SENDER_FIRST],
             (unsigned long long)pair->before.words[GMV_SENDER_DELIVERED],
             (unsigned long long)pair->before.words[GMV_SENDER_LAST],
             (unsigned long long)pair->record.words[GMV_RECEIVER_EXPECTED],
             (unsigned long long)pair->record.stored);
-    find_range(&books);
-    compare_mark(&books);
-    compare_numbers(&books);
-    compare_messages(&books);
-    compare_earlier(&books);
-    compare_files(&books);
-    conclude(&books, verdict);
-    free(books.message);
-    free(books.logged);
+    if (collect(&books) != 0) {
+        add_reason(verdict, UNKNOWN, R_FILES_UNREADABLE);
+    } else {
+        find_range(&books);
+        compare_mark(&books);
+        compare_numbers(&books);
+        compare_messages(&books);
+        say_more(&books, books.wrong_messages);
+        compare_earlier(&books);
+        say_more(&books, books.outside);
+        compare_count(&books);
+        conclude(&books, verdict);
+    }
+    give_back(&books);
+    return books.wrong != 0;
+}
+
+void compare_files(FILE *out, const pair *pair, verdict *verdict)
+{
+    comparison books = comparison_of(out, pair);
+
+    if (collect(&books) != 0)
+        add_reason(verdict, UNKNOWN, R_FILES_UNREADABLE);
+    else
+        say_greatest(&books);
+    give_back(&books);
 }

@@ -1,8 +1,10 @@
 /* linkstatus DIR: what an end of a link is doing, in plain words. linkstatus SENDER RECEIVER: both, and whether
  * their books agree. The exit status is 0 good, 1 warning, 2 critical, 3 unknown. */
+#include <errno.h>
 #include <stdio.h>
 #include <stdlib.h>
 #include <string.h>
+#include <time.h>
 
 #include "books.h"
 #include "common.h"
@@ -12,6 +14,9 @@
 
 #define R_PROBLEM "%s/%s %s"
 #define R_WRONG_KIND "%s is not the folder of a %s"
+#define R_LIMITS "the data limits differ: %lu and %lu"
+
+enum { LOOKS = 4 /* a tenth of a second apart */ };
 
 /* What an end is, by the first words of its state. */
 enum kind { NO_END, SENDER, RECEIVER };
@@ -97,9 +102,24 @@ static int find_undelivered(verdict *verdict, const char *folder, const sender_r
     return 0;
 }
 
+/* The first of these folders that is not there, or NULL. */
+static const char *lacking_folder(const char *folder, const char *const *parts, size_t count)
+{
+    char path[PATH_LENGTH];
+
+    for (size_t i = 0; i < count; i++) {
+        path_of(path, folder, parts[i]);
+        if (is_missing(path))
+            return parts[i];
+    }
+    return NULL;
+}
+
 /* Returns 1 where nothing can be said of it but the verdict's reason. */
 static int look_at_sender(verdict *verdict, const char *folder, sender_status *status)
 {
+    static const char *const parts[] = {"log", "spool", "refused"};
+
     memset(status, 0, sizeof *status);
     status->presence = presence_of(folder);
     if (finds_problem(verdict, folder, "state", read_sender(folder, &status->record)))
@@ -111,28 +131,37 @@ static int look_at_sender(verdict *verdict, const char *folder, sender_status *s
         return 1;
     if (find_undelivered(verdict, folder, &status->record, &status->undelivered))
         return 1;
+    status->lacks = lacking_folder(folder, parts, sizeof parts / sizeof parts[0]);
     judge_sender(verdict, status);
     return 0;
 }
 
 /* ---- a receiver */
 
+/* The files are looked at before the state is read: what is stored meanwhile is then no file beyond it. */
 static int look_at_receiver(verdict *verdict, const char *folder, receiver_status *status)
 {
+    static const char *const parts[] = {"transactions"};
     char path[PATH_LENGTH];
+    uint64_t stored;
 
     memset(status, 0, sizeof *status);
     status->presence = presence_of(folder);
+    path_of(path, folder, "transactions");
+    if (greatest_number(path, &status->greatest) != 0 && errno != ENOENT &&
+        finds_problem(verdict, folder, "transactions", RECORD_UNREADABLE))
+        return 1;
     if (finds_problem(verdict, folder, "state", read_receiver(folder, &status->record)))
         return 1;
+    stored = status->record.stored;
     if (status->presence == DRIVER_RUNS &&
         lacks_live(verdict, folder,
                    read_receiver_live(folder, &status->record, &status->counts, &status->running),
                    &status->presence))
         return 1;
-    path_of(path, folder, "transactions");
-    if (!is_missing(path))
-        status->greatest = greatest_number(path);
+    if (status->record.stored < stored)
+        status->record.stored = stored; /* what is shown may be a moment older than what is stored */
+    status->lacks = lacking_folder(folder, parts, sizeof parts / sizeof parts[0]);
     judge_receiver(verdict, status);
     return 0;
 }
@@ -162,15 +191,85 @@ static void say_one_of(FILE *out, const char *folder, enum kind kind, const char
         add_reason(all, own.severity, "%s: %s", name, own.reasons);
 }
 
+/* Reads both. Returns 0, or -1 where a state cannot be read. */
+static int open_books(pair *books)
+{
+    char path[PATH_LENGTH];
+
+    path_of(path, books->receiver, "transactions");
+    return read_sender(books->sender, &books->before) == NULL && greatest_number(path, &books->greatest) == 0 &&
+                   read_receiver(books->receiver, &books->record) == NULL &&
+                   read_sender(books->sender, &books->after) == NULL
+               ? 0
+               : -1;
+}
+
+/* While drivers run, the two ends are not read at one moment: a difference counts where further looks find it too. */
+static void say_books(FILE *out, const char *sender, const char *receiver, verdict *all)
+{
+    const struct timespec pause = {0, 100000000};
+    pair books;
+
+    memset(&books, 0, sizeof books);
+    books.sender = sender;
+    books.receiver = receiver;
+    for (int looks = 1;; looks++) {
+        verdict own = {GOOD, ""};
+        char *found = NULL;
+        size_t length;
+        FILE *looked = open_memstream(&found, &length);
+        int differ = 0;
+
+        if (looked == NULL)
+            fail("no memory");
+        if (open_books(&books) == 0)
+            differ = compare_books(looked, &books, &own);
+        else
+            compare_files(looked, &books, &own);
+        fclose(looked);
+        if (!differ || looks == LOOKS) {
+            fprintf(out, "%s", found);
+            if (own.reasons[0] != '\0')
+                add_reason(all, own.severity, "%s", own.reasons);
+            free(found);
+            return;
+        }
+        free(found);
+        nanosleep(&pause, NULL);
+    }
+}
+
+/* The data limit that a running driver was started with; 0 where it is not known. */
+static unsigned long data_limit_of(const running_details *running)
+{
+    const char *at = strstr(running->settings, ", data limit ");
+
+    return at == NULL ? 0 : strtoul(at + strlen(", data limit "), NULL, 10);
+}
+
+static void compare_limits(const char *sender, const char *receiver, verdict *all)
+{
+    verdict ignored = {GOOD, ""};
+    sender_status one;
+    receiver_status other;
+
+    if (look_at_sender(&ignored, sender, &one) != 0 || look_at_receiver(&ignored, receiver, &other) != 0 ||
+        one.presence != DRIVER_RUNS || other.presence != DRIVER_RUNS)
+        return;
+    if (data_limit_of(&one.running) != data_limit_of(&other.running))
+        add_reason(all, WARNING, R_LIMITS, data_limit_of(&one.running), data_limit_of(&other.running));
+}
+
 static void say_pair(FILE *out, const char *sender, const char *receiver, verdict *all)
 {
-    pair books = {sender, receiver, {{0}, {"", "", "", ""}, 0}, {{0}, {"", "", "", ""}, 0}, {{0}, 0, 0, 0, 0}};
+    const int right = kind_of(sender) != RECEIVER && kind_of(receiver) != SENDER;
 
     say_one_of(out, sender, SENDER, "sender", all);
     say_one_of(out, receiver, RECEIVER, "receiver", all);
-    if (read_sender(sender, &books.before) == NULL && read_receiver(receiver, &books.record) == NULL &&
-        read_sender(sender, &books.after) == NULL)
-        compare_books(out, &books, all);
+    if (!right)
+        return;
+    compare_limits(sender, receiver, all);
+    say_books(out, sender, receiver, all);
 }
 
 int main(int count, char **words)
