@@ -17,6 +17,12 @@ def text(number, body='K'):
     return ('MSH|^~\\&|LAB||WARD||||ORU^R01|%s|P|2.3.1|%s\rOBX|1|NM|%s\r' % (number, number, body)).encode()
 
 
+def number_in(data):
+    """MSH-13 of a message that text made; None of another."""
+    fields = data.split(b'\r')[0].split(b'|')
+    return int(fields[12]) if len(fields) > 12 else None
+
+
 class Pair:
     """The books of both ends: the sender's numbers and log, the receiver's numbers and transactions."""
 
@@ -65,6 +71,7 @@ class Pair:
         found = list(self.transactions.values())
         if (not self.numbers_agree() or max(self.transactions, default=0) > self.count + 1 or
                 any(None not in pair and pair[0] != pair[1] for pair in pairs) or
+                any(pair[0] is not None and number_in(pair[0]) != self.first + i for i, pair in enumerate(pairs)) or
                 any(self.transactions.get(position) in ours for position in range(1, base + 1))):
             return False
         gone = [number for number in range(self.first, self.mark + 1)

@@ -484,7 +484,7 @@ REPAIRS = [long_names, replaced, dropped_bytes, moved_folders, linked_files, flo
            strangers, shown_settings, hanging]
 
 
-PRELOADED = (replaced, busy)  # a library is preloaded, which does not go with a sanitizer's
+UNSANITIZED = (replaced, busy, hangups)  # a library is preloaded, which does not go with a sanitizer's; or mostly waiting
 
 
 def fault(name, file, old, new, test):
@@ -509,8 +509,9 @@ FAULTS = [
     fault('a part is not left for its end', 'receiving_end.c', 'end->line.circuit >= 0 && !stop_requested()) {',
           'end->line.circuit >= 0) {', busy),
     fault('a part is not left for a new caller', 'receiving_end.c', 'if (line_is_called(&end->line))', 'if (0)', busy),
-    fault('a deaf peer keeps others out', 'line.c', '|| stop_requested() || line_is_called(line))', '|| stop_requested())',
-          deaf_caller),
+    Fault('a deaf peer keeps others out', [
+        ('line.c', '|| stop_requested() || line_is_called(line))', '|| stop_requested())'),
+        ('receiving_end.c', 'MOST_WAIT = 8000', 'MOST_WAIT = 600000')], deaf_caller),
     fault('no keepalive', 'line.c', 'const int yes = 1, silence', 'const int yes = 0, silence', vanished_peers),
     fault('a plain device is not named', 'line.c', 'if (link->kind == TERMINAL && is_plain_device(link->address))', 'if (0)',
           plain_devices),

@@ -28,8 +28,8 @@
 
 enum { MESSAGE_LENGTH = 100000 /* more than any block has */, NUMBERS = 512, MOST_LINES = 10 };
 
-/* A file of transactions/: its position, the number in its MSH-13 (0: none), and whether it is the log's message of that
- * number; -1 where the log has none. */
+/* A file of transactions/: its position, the number in its MSH-13 (0: none), and whether it is the log's message
+ * of that number; -1 where the log has none. */
 typedef struct {
     uint64_t position, number;
     int same;
@@ -275,7 +275,8 @@ static void say_wrong_message(comparison *books, const message *found, uint64_t 
     if (found->number == 0)
         strcpy(words, "it has no number");
     else
-        snprintf(words, sizeof words, found->same == 1 ? "it is number %llu of it" : "it is another message, with number %llu",
+        snprintf(words, sizeof words,
+                 found->same == 1 ? "it is number %llu of it" : "it is another message, with number %llu",
                  (unsigned long long)found->number);
     fprintf(books->out, WRONG_MESSAGE, (unsigned long long)found->position, (unsigned long long)number, words);
 }
@@ -316,8 +317,7 @@ static void compare_earlier(comparison *books)
     for (size_t i = 0; i < books->count && books->messages[i].position <= books->base; i++) {
         const message *found = &books->messages[i];
 
-        if (found->same != 1 || found->number < first_of(books) ||
-            found->number > books->pair->after.words[GMV_SENDER_LAST])
+        if (found->same != 1 || found->number < first_of(books))
             continue;
         books->wrong++;
         if (++books->outside <= MOST_LINES)

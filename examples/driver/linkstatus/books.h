@@ -15,7 +15,8 @@ typedef struct {
     uint64_t greatest;
 } pair;
 
-/* Compares them and says what it found. The reason of a difference goes into the verdict. Returns 1 where they differ. */
+/* Compares them and says what it found. The reason of a difference goes into the verdict. Returns 1 where they
+ * differ. */
 int compare_books(FILE *out, const pair *pair, verdict *verdict);
 
 /* Without the states, where one of them cannot be read: what the receiver has of the log. */
