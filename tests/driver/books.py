@@ -68,7 +68,9 @@ class Pair:
         claimed, base = self.claimed(), self.count - self.claimed()
         pairs = [(self.transactions.get(base + i + 1), self.log.get(self.first + i)) for i in range(claimed)]
         ours = list(self.log.values())
-        found = list(self.transactions.values())
+        greatest = max(self.transactions, default=0)
+        last = greatest if greatest > self.count + 1 else self.count  # a crash's leftover was not stored
+        found = [data for position, data in self.transactions.items() if position <= last]
         if (not self.numbers_agree() or max(self.transactions, default=0) > self.count + 1 or
                 any(None not in pair and pair[0] != pair[1] for pair in pairs) or
                 any(pair[0] is not None and number_in(pair[0]) != self.first + i for i, pair in enumerate(pairs)) or
@@ -130,6 +132,9 @@ CASES = [
       'books: position 6 is not number 1 of the log; it is another message, with number 1'] +
      ['books: number %d of the log is at position %d, before those that the expected number counts' % (i, i)
       for i in range(1, 6)] + [GREATEST % (5, 'none'), DIFFER], None),
+    ("a crash's leftover is not stored", changed(pair(1, 4, 5, 3, 2), at_3=text(3)),
+     ['books: 3 to 4 marked delivered and not stored', 'books: the expected number says that 2 are stored, and the mark covers 4',
+      GREATEST % (2, 'none'), DIFFER], None),
     ('another byte', changed(pair(1, 3, 3, 4, 3), at_2=text(2, 'L')),
      ['books: 2 marked delivered and not stored',
       'books: position 2 is not number 2 of the log; it is another message, with number 2', GREATEST % (3, '2'), DIFFER],

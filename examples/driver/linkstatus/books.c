@@ -46,6 +46,7 @@ typedef struct {
     const pair *pair;
     message *messages; /* by position */
     size_t count;
+    uint64_t last;          /* the last position that was stored: a crash's leftover beyond it was not */
     list stored, logged;    /* the log's numbers that some position has, and all of them, in order */
     uint64_t claimed;       /* how many the expected number says are stored */
     uint64_t base, counted; /* and where they are: at the positions base + 1 to base + counted */
@@ -157,7 +158,7 @@ static int look_at(comparison *books, uint64_t position, message *found, uint8_t
         found->same = found->number == 0 ? 0 : -1;
     else
         found->same = length == logged_length && memcmp(bytes, logged, (size_t)length) == 0;
-    if (found->same == 1)
+    if (found->same == 1 && position <= books->last)
         add_to(&books->stored, found->number);
     return 1;
 }
@@ -416,6 +417,7 @@ static comparison comparison_of(FILE *out, const pair *pair)
     memset(&books, 0, sizeof books);
     books.out = out;
     books.pair = pair;
+    books.last = UINT64_MAX; /* where the state is not known */
     return books;
 }
 
@@ -423,6 +425,7 @@ int compare_books(FILE *out, const pair *pair, verdict *verdict)
 {
     comparison books = comparison_of(out, pair);
 
+    books.last = pair->greatest > pair->record.stored + 1 ? pair->greatest : pair->record.stored;
     fprintf(out, BOOKS, (unsigned long long)pair->before.words[GMV_SENDER_FIRST],
             (unsigned long long)pair->before.words[GMV_SENDER_DELIVERED],
             (unsigned long long)pair->before.words[GMV_SENDER_LAST],
