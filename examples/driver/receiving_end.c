@@ -56,7 +56,7 @@ static void store_transaction(receiving_end *end, uint64_t position)
  * rename of the state counts it. */
 static void persist(receiving_end *end, const receiver_record *after)
 {
-    require_place(end->folder);
+    require_same_folder(end->folder);
     if (after->stored != end->record.stored)
         store_transaction(end, after->stored);
     if (memcmp(after, &end->record, sizeof *after) != 0)
@@ -174,7 +174,7 @@ static void show(receiving_end *end)
 {
     if (!end->changed && now() < (long long)end->running.turned + BEAT)
         return;
-    require_place(end->folder);
+    require_same_folder(end->folder);
     line_show(&end->line, &end->running);
     show_receiver(end->folder, &end->record, &end->counts, &end->running);
     end->changed = 0;

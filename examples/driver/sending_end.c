@@ -45,7 +45,7 @@ static void persist(sending_end *end)
 {
     if (memcmp(end->persisted, end->record.words, sizeof end->persisted) == 0)
         return;
-    require_place(end->folder);
+    require_same_folder(end->folder);
     store_sender(end->folder, &end->record);
     memcpy(end->persisted, end->record.words, sizeof end->persisted);
 }
@@ -273,7 +273,7 @@ static int submit_next(sending_end *end)
     uint64_t number;
     ssize_t length;
 
-    require_place(end->folder);
+    require_same_folder(end->folder);
     if (!spool_first(end->folder, &file))
         return 0;
     length = spool_read(end->folder, &file, end->message, end->message_size);
@@ -357,7 +357,7 @@ static void show(sending_end *end)
 {
     if (!end->changed && now() < (long long)end->running.turned + BEAT)
         return;
-    require_place(end->folder);
+    require_same_folder(end->folder);
     line_show(&end->line, &end->running);
     show_sender(end->folder, &end->record, end->report, &end->counts, &end->running);
     end->changed = 0;

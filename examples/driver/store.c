@@ -221,7 +221,7 @@ static void remove_live(const char *folder)
 
 static struct stat locked; /* the file on which this process has its lock */
 
-void require_place(const char *folder)
+void require_same_folder(const char *folder)
 {
     char path[PATH_LENGTH];
     struct stat status;

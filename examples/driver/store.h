@@ -55,7 +55,7 @@ int lock_folder(const char *folder);
 
 /* Ends the program where the folder's name has come to stand for another one: an operator put it aside while the
  * driver ran, and made a new one in its place. */
-void require_place(const char *folder);
+void require_same_folder(const char *folder);
 
 /* Whether a process has the lock: 1, 0, or -1 where it cannot be told. */
 int folder_is_locked(const char *folder);

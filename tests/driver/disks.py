@@ -296,7 +296,7 @@ class Disk:
         for _ in range(most // 4):
             yield map(random.randrange, sizes)
 
-    def cuts(self, random, most=MOST):
+    def power_cuts(self, random, most=MOST):
         """The images that a power cut may leave, each once, the visible one first."""
         choices, visible_image = self.choices(), self.visible()
         closed, found = self.closed(choices), {visible_image.key: visible_image}

@@ -66,7 +66,7 @@ FAULTS = [
     Fault('delivered too early', [('sending_end.c', '''\
     if (memcmp(end->persisted, end->record.words, sizeof end->persisted) == 0)
         return;
-    require_place(end->folder);
+    require_same_folder(end->folder);
     store_sender(end->folder, &end->record);
 ''', '''\
     sender_record early = end->record;

@@ -19,7 +19,7 @@ def taken(visible, image):
     return ', and the power cut takes ' + ', '.join(paths) if paths else ''
 
 
-class Cuts:
+class PowerCuts:
     """What a power cut may leave of an end's disk, and what is stored by it. The same disks come again and
     again; each is looked at once. One that breaks demand 3 by itself is found here."""
 
@@ -32,7 +32,7 @@ class Cuts:
         be stored."""
         state = disk.state()
         if state not in self.known:
-            images = [self.images.setdefault(image.key, image) for image in disk.cuts(self.draws, self.most)]
+            images = [self.images.setdefault(image.key, image) for image in disk.power_cuts(self.draws, self.most)]
             images.sort(key=images[0].distance)
             stored = {}
             for image in images:
@@ -47,8 +47,8 @@ class Cuts:
 class History:
     """One end."""
 
-    def __init__(self, name, disk, cuts):
-        self.name, self.disk, self.cuts = name, disk, cuts
+    def __init__(self, name, disk, power_cuts):
+        self.name, self.disk, self.power_cuts = name, disk, power_cuts
         self.moments, self.images, self.stored = [], [], {}
         self.totals = {'block': collections.Counter(), 'heard': collections.Counter()}
         self.look('the start')
@@ -56,7 +56,7 @@ class History:
     def look(self, after):
         """The disk is another one now."""
         try:
-            self.images, self.stored = self.cuts.of(self.disk)
+            self.images, self.stored = self.power_cuts.of(self.disk)
         except Violation as found:
             raise Violation('the %s is after %s: %s' % (self.name, after, found)) from found
         self.note(after)

@@ -16,7 +16,7 @@ import time
 from disks import FOLDER, LIGHT, Disk, Image
 from duties import text
 from ends import Books, End, Files, Violation, change_state, hold, read_words, state_of, state_text
-from histories import Cuts, History, check_pairs, pairs
+from histories import PowerCuts, History, check_pairs, pairs
 from lines import NoLine
 
 NAMES = ('sender', 'receiver')
@@ -49,8 +49,8 @@ class Link:
         if traced:
             path = os.path.join(self.folder, 'trace')
             self.trace, self.lines = open(path, 'ab'), open(path, 'rb')  # pylint: disable=consider-using-with
-            self.histories = [History(name, Disk(folder), cuts)
-                              for name, folder, cuts in zip(NAMES, self.folders, test.cuts)]
+            self.histories = [History(name, Disk(folder), power_cuts)
+                              for name, folder, power_cuts in zip(NAMES, self.folders, test.power_cuts)]
 
     @staticmethod
     def lay_out(image, folder):
@@ -151,7 +151,7 @@ class Chain(Link):
         super().__init__(test, test.images, True)
         self.draws, self.counts, self.story = test.draws, test.counts, []
         for history, check in zip(self.histories, (self.books.check_sender, self.books.check_receiver)):
-            history.cuts = Cuts(check, self.draws, self.MOST)
+            history.power_cuts = PowerCuts(check, self.draws, self.MOST)
 
     def start_again(self):
         """Each that is dead is killed again at an act that is drawn."""
@@ -175,7 +175,7 @@ class Chain(Link):
         for index in dead:
             self.note('kills in chains', index)
             if self.draws.random() < 0.4:
-                self.cut(index)
+                self.cut_power(index)
         if 0 in dead:
             self.feed()
         self.start_again()
@@ -184,7 +184,7 @@ class Chain(Link):
         self.counts[what] += 1
         self.story.append('%s of the %s' % (what[:-len('s in chains')], NAMES[index]))
 
-    def cut(self, index):
+    def cut_power(self, index):
         self.note('power cuts in chains', index)
         history, folder = self.histories[index], self.folders[index]
         image = self.draws.choice(history.images)
@@ -203,7 +203,7 @@ class Chain(Link):
             self.histories[0].disk.spooled(os.path.join(self.folders[0], 'spool', name))
         if self.draws.random() < 0.5:
             self.histories[0].disk.root.entries['spool'].sync()  # by the host: what the driver removed is gone too
-        self.histories[0].cuts.known.clear()
+        self.histories[0].power_cuts.known.clear()
         self.histories[0].look('spooling')
 
     def all(self, steps):
@@ -232,7 +232,7 @@ class PowerLoss:
         self.port, self.made, self.counts = NoLine(self.draws).port, 0, collections.Counter()
         self.started = (set(), set())  # the images of each end that it was started from
         self.books, self.images = self.prepare()
-        self.cuts = [Cuts(check, self.draws) for check in (self.books.check_sender, self.books.check_receiver)]
+        self.power_cuts = [PowerCuts(check, self.draws) for check in (self.books.check_sender, self.books.check_receiver)]
 
     def new_folder(self):
         self.made += 1
@@ -358,7 +358,7 @@ class PowerLoss:
         with Link(self, self.images, True) as link:
             spool = link.histories[0].disk.root.entries['spool']
             spool.unsync()
-            link.histories[0].cuts = Cuts(lambda image: link.books.check_sender(
+            link.histories[0].power_cuts = PowerCuts(lambda image: link.books.check_sender(
                 image, waiting=[name for name, file in spool.entries.items() if file is not None]), self.draws)
             link.start()
             link.run()
@@ -393,10 +393,10 @@ class PowerLoss:
         hold(status == 0, '%s ends with %s', words[0], status)
         with open(path, encoding='ascii') as lines:
             for line in lines:
-                images.update((image.key, image) for image in disk.cuts(self.draws))
+                images.update((image.key, image) for image in disk.power_cuts(self.draws))
                 disk.apply(*line.rstrip('\n').split(' ')[1:])
         disk.require_all()
-        hold(len(disk.cuts(self.draws)) == 1, '%s is done, and not all of it is synced', words[0])
+        hold(len(disk.power_cuts(self.draws)) == 1, '%s is done, and not all of it is synced', words[0])
         return list(images.values()) + [disk.visible()]
 
     def making(self, index):
@@ -474,7 +474,7 @@ def model(folder):
         wanted = {frozenset([('in', FOLDER), ('out', FOLDER)] +
                             [pair for pair in zip(may_be, values) if pair[1] is not None])
                   for values in itertools.product(*may_be.values())}
-        found = {image.key[0] for image in disk.cuts(random.Random(1))}
+        found = {image.key[0] for image in disk.power_cuts(random.Random(1))}
         if found != wanted:
             return 'after %s: %s' % (act, sorted(map(sorted, found ^ wanted), key=str))
     return None

@@ -544,6 +544,6 @@ READ_OUT_FAULTS = [
     fault('an empty refused file is a warning', 'store.c', 'if (status.st_size == 0) {', 'if (0) {', None),
     fault('the books believe the numbers', 'linkstatus/books.c', '        compare_messages(&books);\n', '', None),
     fault('the books believe the bytes', 'linkstatus/books.c', '        compare_numbers(&books);\n', '', None),
-    fault('the books believe the mark', 'linkstatus/books.c', '        compare_mark(&books);\n', '', None),
+    fault('the books believe the mark', 'linkstatus/books.c', '        compare_delivered(&books);\n', '', None),
     fault('the books believe the count', 'linkstatus/books.c', '        compare_count(&books);\n', '', None),
 ]

@@ -99,7 +99,7 @@ static void sort(list *list)
 }
 
 /* The place of the first one that is not less. */
-static size_t place_of(const list *list, uint64_t number)
+static size_t index_of(const list *list, uint64_t number)
 {
     size_t low = 0, high = list->count;
 
@@ -116,9 +116,9 @@ static size_t place_of(const list *list, uint64_t number)
 
 static int has(const list *list, uint64_t number)
 {
-    const size_t place = place_of(list, number);
+    const size_t index = index_of(list, number);
 
-    return place < list->count && list->numbers[place] == number;
+    return index < list->count && list->numbers[index] == number;
 }
 
 /* ---- the files, each read once */
@@ -238,7 +238,7 @@ static void list_missing(const comparison *books, uint64_t from, uint64_t to, in
     uint64_t begin = 0, last = 0;
 
     numbers[0] = '\0';
-    for (size_t i = place_of(&books->logged, from); i < books->logged.count && books->logged.numbers[i] <= to; i++) {
+    for (size_t i = index_of(&books->logged, from); i < books->logged.count && books->logged.numbers[i] <= to; i++) {
         const uint64_t number = books->logged.numbers[i];
         const int missing = !has(&books->stored, number) && (with_purged || !is_purged(books, number));
 
@@ -255,7 +255,7 @@ static void list_missing(const comparison *books, uint64_t from, uint64_t to, in
 }
 
 /* What the mark covers and no position has: results that somebody believes delivered. */
-static void compare_mark(comparison *books)
+static void compare_delivered(comparison *books)
 {
     char numbers[NUMBERS];
 
@@ -435,7 +435,7 @@ int compare_books(FILE *out, const pair *pair, verdict *verdict)
         add_reason(verdict, UNKNOWN, R_FILES_UNREADABLE);
     } else {
         find_range(&books);
-        compare_mark(&books);
+        compare_delivered(&books);
         compare_numbers(&books);
         compare_messages(&books);
         say_more(&books, books.wrong_messages);

@@ -22,7 +22,7 @@ enum { SB = GMV_START_BLOCK_DEFAULT, EB = GMV_END_BLOCK_DEFAULT };
 /* What a call is lent: a state, a buffer, and a verdict, a report or fields (here all its report). */
 typedef struct {
     guarded state, buffer, report;
-} lent;
+} memory;
 
 /* What becomes of the report, and which of the memory is a word or a byte too short. */
 enum told { KEPT, REWRITTEN };
@@ -44,7 +44,7 @@ typedef struct {
 /* A function: how it is called, and the least memory that it takes. */
 typedef struct {
     const char *name;
-    uint64_t (*call)(const row *r, lent *m);
+    uint64_t (*call)(const row *r, memory *m);
     size_t state, buffer, report;
 } function;
 
@@ -56,168 +56,168 @@ typedef struct {
 
 /* ---- the functions */
 
-static uint64_t reader_fresh(const row *r, lent *m)
+static uint64_t reader_fresh(const row *r, memory *m)
 {
     (void)r;
     return gmv_reader_fresh(STATE_OF(m));
 }
 
-static uint64_t hybrid_read(const row *r, lent *m)
+static uint64_t hybrid_read(const row *r, memory *m)
 {
     return gmv_hybrid_read(SB, EB, r->setting, STATE_OF(m), INPUT(r), BUFFER_OF(m), REPORT_OF(m));
 }
 
-static uint64_t minimal_read(const row *r, lent *m)
+static uint64_t minimal_read(const row *r, memory *m)
 {
     return gmv_minimal_read(r->setting, STATE_OF(m), INPUT(r), BUFFER_OF(m), REPORT_OF(m));
 }
 
-static uint64_t hybrid_check(const row *r, lent *m)
+static uint64_t hybrid_check(const row *r, memory *m)
 {
     return gmv_hybrid_check(SB, EB, r->setting, INPUT(r), REPORT_OF(m));
 }
 
-static uint64_t minimal_check(const row *r, lent *m)
+static uint64_t minimal_check(const row *r, memory *m)
 {
     return gmv_minimal_check(r->setting, INPUT(r), REPORT_OF(m));
 }
 
-static uint64_t hybrid_write(const row *r, lent *m)
+static uint64_t hybrid_write(const row *r, memory *m)
 {
     return gmv_hybrid_write(SB, EB, r->setting, r->other, INPUT(r), BUFFER_OF(m), START,
                             REPORT_OF(m));
 }
 
-static uint64_t minimal_write(const row *r, lent *m)
+static uint64_t minimal_write(const row *r, memory *m)
 {
     return gmv_minimal_write(r->setting, INPUT(r), BUFFER_OF(m), START, REPORT_OF(m));
 }
 
-static uint64_t header_read(const row *r, lent *m)
+static uint64_t header_read(const row *r, memory *m)
 {
     return gmv_header_read(INPUT(r), REPORT_OF(m));
 }
 
-static uint64_t answer_read(const row *r, lent *m)
+static uint64_t answer_read(const row *r, memory *m)
 {
     return gmv_answer_read(INPUT(r), REPORT_OF(m));
 }
 
-static uint64_t field_next(const row *r, lent *m)
+static uint64_t field_next(const row *r, memory *m)
 {
     return gmv_field_next(INPUT(r), (size_t)r->setting, REPORT_OF(m));
 }
 
-static uint64_t answer_write(const row *r, lent *m)
+static uint64_t answer_write(const row *r, memory *m)
 {
     return gmv_answer_write(INPUT(r), r->setting, r->other, BUFFER_OF(m), START, REPORT_OF(m));
 }
 
-static uint64_t control_write(const row *r, lent *m)
+static uint64_t control_write(const row *r, memory *m)
 {
     return gmv_control_write(INPUT(r), r->other, BUFFER_OF(m), START, REPORT_OF(m));
 }
 
-static uint64_t hybrid_control_block(const row *r, lent *m)
+static uint64_t hybrid_control_block(const row *r, memory *m)
 {
     return gmv_hybrid_control_block(SB, EB, r->setting, INPUT(r), r->other, BUFFER_OF(m), START,
                                     REPORT_OF(m));
 }
 
-static uint64_t minimal_control_block(const row *r, lent *m)
+static uint64_t minimal_control_block(const row *r, memory *m)
 {
     return gmv_minimal_control_block(r->setting, INPUT(r), r->other, BUFFER_OF(m), START,
                                      REPORT_OF(m));
 }
 
-static uint64_t receiver_fresh(const row *r, lent *m)
+static uint64_t receiver_fresh(const row *r, memory *m)
 {
     (void)r;
     return gmv_receiver_fresh(STATE_OF(m));
 }
 
-static uint64_t hybrid_receive(const row *r, lent *m)
+static uint64_t hybrid_receive(const row *r, memory *m)
 {
     return gmv_hybrid_receive(SB, EB, r->setting, GMV_CODE_AA, STATE_OF(m), r->other,
                               GMV_DATA_BLOCK, INPUT(r), BUFFER_OF(m), START, REPORT_OF(m));
 }
 
-static uint64_t minimal_receive(const row *r, lent *m)
+static uint64_t minimal_receive(const row *r, memory *m)
 {
     return gmv_minimal_receive(r->setting, GMV_CODE_AA, STATE_OF(m), r->other, GMV_DATA_BLOCK,
                                INPUT(r), BUFFER_OF(m), START, REPORT_OF(m));
 }
 
-static uint64_t sender_fresh(const row *r, lent *m)
+static uint64_t sender_fresh(const row *r, memory *m)
 {
     return gmv_sender_fresh(r->setting, STATE_OF(m));
 }
 
-static uint64_t sender_submit(const row *r, lent *m)
+static uint64_t sender_submit(const row *r, memory *m)
 {
     return gmv_sender_submit(r->setting, INPUT(r), STATE_OF(m), REPORT_OF(m));
 }
 
-static uint64_t sender_open(const row *r, lent *m)
+static uint64_t sender_open(const row *r, memory *m)
 {
     (void)r;
     return gmv_sender_open(STATE_OF(m), REPORT_OF(m));
 }
 
-static uint64_t sender_ended(const row *r, lent *m)
+static uint64_t sender_ended(const row *r, memory *m)
 {
     (void)r;
     return gmv_sender_ended(STATE_OF(m), REPORT_OF(m));
 }
 
-static uint64_t sender_reset(const row *r, lent *m)
+static uint64_t sender_reset(const row *r, memory *m)
 {
     (void)r;
     return gmv_sender_reset(STATE_OF(m), REPORT_OF(m));
 }
 
-static uint64_t sender_timer(const row *r, lent *m)
+static uint64_t sender_timer(const row *r, memory *m)
 {
     return gmv_sender_timer(r->setting, STATE_OF(m), REPORT_OF(m));
 }
 
-static uint64_t sender_block(const row *r, lent *m)
+static uint64_t sender_block(const row *r, memory *m)
 {
     return gmv_sender_block(r->setting, r->other, GMV_DATA_BLOCK, INPUT(r), STATE_OF(m),
                             REPORT_OF(m));
 }
 
-static uint64_t station_fresh(const row *r, lent *m)
+static uint64_t station_fresh(const row *r, memory *m)
 {
     (void)r;
     return gmv_station_fresh(STATE_OF(m));
 }
 
-static uint64_t station_open(const row *r, lent *m)
+static uint64_t station_open(const row *r, memory *m)
 {
     (void)r;
     return gmv_station_open(STATE_OF(m), REPORT_OF(m));
 }
 
-static uint64_t station_block(const row *r, lent *m)
+static uint64_t station_block(const row *r, memory *m)
 {
     return gmv_station_block(r->setting, r->other, INPUT(r), BUFFER_OF(m), STATE_OF(m),
                              REPORT_OF(m));
 }
 
-static uint64_t station_bad(const row *r, lent *m)
+static uint64_t station_bad(const row *r, memory *m)
 {
     (void)r;
     return gmv_station_bad(STATE_OF(m), REPORT_OF(m));
 }
 
-static uint64_t station_enquiry(const row *r, lent *m)
+static uint64_t station_enquiry(const row *r, memory *m)
 {
     (void)r;
     return gmv_station_enquiry(STATE_OF(m), REPORT_OF(m));
 }
 
-static uint64_t station_end(const row *r, lent *m)
+static uint64_t station_end(const row *r, memory *m)
 {
     (void)r;
     return gmv_station_end(STATE_OF(m), REPORT_OF(m));
@@ -474,11 +474,11 @@ static void look_at(guarded *memory)
     VALGRIND_MAKE_MEM_DEFINED(memory->at, memory->size);
 }
 
-static lent lend(const row *r, uint8_t paint)
+static memory lend(const row *r, uint8_t paint)
 {
     const function *f = &functions[r->function];
     const size_t words = f->state - (r->lack == STATE);
-    lent m;
+    memory m;
 
     m.state = r->state ? guard_copy(r->state, words * WORD) : only_written(words * WORD, paint);
     m.buffer = only_written(f->buffer - (r->lack == BUFFER), paint);
@@ -486,7 +486,7 @@ static lent lend(const row *r, uint8_t paint)
     return m;
 }
 
-static void take_back(lent *m)
+static void take_back(memory *m)
 {
     give_back(&m->state);
     give_back(&m->buffer);
@@ -503,7 +503,7 @@ static int independent(const guarded *a, const guarded *b)
 }
 
 /* The call is made; a report that is written anew is written to its last byte. */
-static int answers(const row *r, lent *m)
+static int answers(const row *r, memory *m)
 {
     int right = functions[r->function].call(r, m) == r->number;
 
@@ -515,7 +515,7 @@ static int answers(const row *r, lent *m)
     return right;
 }
 
-static int report_is_right(const row *r, const lent *a, const lent *b)
+static int report_is_right(const row *r, const memory *a, const memory *b)
 {
     if (r->told == KEPT)
         return unchanged(&a->report) && unchanged(&b->report);
@@ -523,7 +523,7 @@ static int report_is_right(const row *r, const lent *a, const lent *b)
 }
 
 /* A refusal leaves state and buffer. */
-static int rest_is_right(const row *r, const lent *a, const lent *b)
+static int rest_is_right(const row *r, const memory *a, const memory *b)
 {
     if (r->number != GMV_OK && !(unchanged(&a->state) && unchanged(&a->buffer)))
         return 0;
@@ -532,7 +532,7 @@ static int rest_is_right(const row *r, const lent *a, const lent *b)
 
 static void test_row(const row *r, uint8_t paint)
 {
-    lent a = lend(r, paint), b = lend(r, (uint8_t)~paint);
+    memory a = lend(r, paint), b = lend(r, (uint8_t)~paint);
     int right = answers(r, &a) & answers(r, &b);
 
     right = right && report_is_right(r, &a, &b) && rest_is_right(r, &a, &b);
