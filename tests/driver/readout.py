@@ -309,8 +309,9 @@ CASES = [
 ]
 
 
-def said(programs, *folders):
-    done = subprocess.run([os.path.join(programs, 'linkstatus')] + list(folders), stdout=subprocess.PIPE, check=False)
+def said(programs, *folders, environment=None):
+    done = subprocess.run([os.path.join(programs, 'linkstatus')] + list(folders), stdout=subprocess.PIPE, check=False,
+                          env=dict(os.environ, **environment) if environment else None)
     return done.stdout.decode().splitlines(), done.returncode
 
 

@@ -18,6 +18,7 @@ from readout import said
 HERE = os.path.dirname(os.path.abspath(__file__))
 SB = bytes([0x0B])
 QUERY = RULES.block(b'MSH|^~\\&|||||||ADT|0|P|2.3.1|0\r')
+BUSY = 500  # results
 FIRST_FORM = {'s': 'giamuvich sender 1\nfirst 1\ndelivered 0\nlast 0\nresynchronized 0\nfrozen 0\nend\n',
               'r': 'giamuvich receiver 1\nexpected 5\nstored 4\nend\n'}
 
@@ -468,6 +469,44 @@ def shown_settings(bench):
     return None if end.finish() == 0 and spoken(end)[-1] == 'stopped' else 'ends badly'
 
 
+def running_pair(bench, *options):
+    """Both ends, with a circuit; the options are the sender's."""
+    folders = bench.sender(), bench.receiver()
+    receiving = bench.start('receive', 'r', ['--minimal-listen', '0'])
+    sending = bench.start('send', 's', ['--minimal-connect', '127.0.0.1:%d' % receiving.port], *options)
+    if not wait_for(lambda: read_words(folders[0], 'state')['resynchronized'] == 1):
+        raise RuntimeError('no circuit')
+    return folders, [sending, receiving]
+
+
+def busy_books(bench):
+    """While results go through as fast as they can, the books of the pair never differ, and neither the pair nor the
+    receiver is called anything but good."""
+    slow = {'LD_PRELOAD': slow_disk(bench)['LD_PRELOAD'], 'FOLDER_MILLISECONDS': '15'}
+    folders, ends = running_pair(bench)
+    for number in range(1, BUSY + 1):
+        bench.put('%06d' % number, text(number))
+    calls, verdicts = 0, set()
+    while read_words(folders[0], 'state')['delivered'] < BUSY and not verdicts:
+        for looked_at in (folders, folders[1:]):
+            lines, status = said(bench.programs, *looked_at, environment=slow)  # much happens between two listings
+            calls += 1
+            if status != 0:
+                verdicts.add(tuple(lines[:1] + [line for line in lines if line.startswith('books: ')]))
+    if verdicts or calls < 5:
+        return '%s in %d calls' % (verdicts, calls)
+    return None if [end.finish() for end in ends] == [0, 0] else 'ends badly'
+
+
+def different_limits(bench):
+    """Ends that were started with different data limits are named by the pair's read-out."""
+    folders, ends = running_pair(bench, '--data-limit', '300')
+    wanted = (['warning: the data limits differ: 300 and 4096'], 1)
+    if not wait_for(lambda: (said(bench.programs, *folders)[0][:1], said(bench.programs, *folders)[1]) == wanted):
+        return 'linkstatus says %s' % (said(bench.programs, *folders),)
+    return None if [end.finish() for end in ends] == [0, 0] else 'ends badly'
+
+
 def hanging(bench):
     """A driver that is stopped is seen: its last turn gets older. One that runs turns each second."""
     folder = bench.receiver()
@@ -481,10 +520,10 @@ def hanging(bench):
 
 
 REPAIRS = [long_names, replaced, dropped_bytes, moved_folders, linked_files, floods, busy, deaf_caller, vanished_peers, plain_devices, hangups, first_forms, beyond, wrong_count,
-           strangers, shown_settings, hanging]
+           strangers, shown_settings, busy_books, different_limits, hanging]
 
 
-UNSANITIZED = (replaced, busy, hangups)  # a library is preloaded, which does not go with a sanitizer's; or mostly waiting
+UNSANITIZED = (replaced, busy, busy_books, hangups)  # a library is preloaded, which does not go with a sanitizer's; or mostly waiting
 
 
 def fault(name, file, old, new, test):
@@ -533,7 +572,13 @@ FAULTS = [
           'line_next_try(&end.line)', hanging),
 ]
 
-# The same of linkstatus: its cases, or those of the books, must find it.
+# The same of linkstatus, found by what it says while results go through.
+LATE_LISTING = Fault('the files are listed after the state is read', [
+    ('linkstatus/linkstatus.c', 'if (status->record.stored < stored)', 'if (0)'),
+    ('linkstatus/linkstatus.c', '    judge_receiver(verdict, status);',
+     '    greatest_number(path, &status->greatest);\n    judge_receiver(verdict, status);')], busy_books)
+
+# And by its cases, or those of the books.
 READ_OUT_FAULTS = [
     fault('the spool is not counted', 'status.c', 'return all->waiting + all->spool.files + all->refused.files;',
           'return all->waiting;', None),

@@ -1,13 +1,25 @@
-/* Preloaded into a driver: a disk on which each sync takes SYNC_MILLISECONDS. */
+/* Preloaded: a disk on which each sync takes SYNC_MILLISECONDS, and each listing of a folder FOLDER_MILLISECONDS. */
 #define _GNU_SOURCE
+#include <dirent.h>
 #include <dlfcn.h>
 #include <stdlib.h>
 #include <unistd.h>
 
-int fsync(int file)
+static void wait_as(const char *name)
 {
-    const char *value = getenv("SYNC_MILLISECONDS");
+    const char *value = getenv(name);
 
     usleep((useconds_t)(value == NULL ? 0 : strtol(value, NULL, 10)) * 1000);
+}
+
+DIR *opendir(const char *path)
+{
+    wait_as("FOLDER_MILLISECONDS");
+    return ((DIR *(*)(const char *))dlsym(RTLD_NEXT, "opendir"))(path);
+}
+
+int fsync(int file)
+{
+    wait_as("SYNC_MILLISECONDS");
     return ((int (*)(int))dlsym(RTLD_NEXT, "fsync"))(file);
 }
