@@ -8,7 +8,7 @@ use lib.ListN.{length, take, drop, getD, length-drop}
 use lib.Seq.{take-all}
 use lib.Dec.{eqb}
 use borrow.Author.Tests.{le-leb}
-use Rattle.data_bytes.specs.DataBytes.{allAllowed, firstForbidden}
+use Rattle.settings.specs.DataBytes.{allAllowed, firstForbidden}
 use Rattle.block.specs.Format.{countField, version}
 use Rattle.lists.specs.Bytes.{same}
 use Rattle.block.specs.Judge.{isReason, typeMatches, checksumMatches, judgeParts, judgeHybrid, headerOk, dataOf}

@@ -2,7 +2,7 @@
 use mathlib.Core.List.{List, [], _∷_, _++_}
 use Prim.Native.Nat.{ℕ, _+_, _/_}
 use lib.ListN.{length}
-use Rattle.data_bytes.specs.DataBytes.{xorFrom, digit}
+use Rattle.settings.specs.DataBytes.{xorFrom, digit}
 use Rattle.settings.specs.Settings.{byKind}
 use Rattle.settings.specs.declared.Settings.{Settings}
 

@@ -5,7 +5,7 @@ use Prim.Native.Nat.{ℕ, _-_}
 use lib.ListN.{length, take, drop, getD}
 use lib.Dec.{leb, eqb}
 use Rattle.lists.specs.Bytes.{same}
-use Rattle.data_bytes.specs.DataBytes.{allAllowed, firstForbidden}
+use Rattle.settings.specs.DataBytes.{allAllowed, firstForbidden}
 use Rattle.block.specs.Format.{version, countField, checksumOf, threeDigits}
 use Rattle.settings.specs.Settings.{byKind}
 use Rattle.settings.specs.declared.Settings.{Settings}

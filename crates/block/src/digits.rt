@@ -1,5 +1,5 @@
 // Fixed fields of three and five bytes.
-use data_bytes::digit_of;
+use settings::digit_of;
 ghost use mathlib.Core.Path.{_≡_};
 ghost use mathlib.Core.List.{[], _∷_};
 ghost use lib.ListN.{length};

@@ -2,9 +2,9 @@
 use crate::digits::is_five_digits;
 use crate::digits::is_three;
 use crate::digits::is_three_digits;
-use data_bytes::are_allowed;
-use data_bytes::checksum;
-use data_bytes::first_forbidden;
+use settings::are_allowed;
+use settings::checksum;
+use settings::first_forbidden;
 use settings::Kind;
 use settings::Settings;
 use verdict::Verdict;

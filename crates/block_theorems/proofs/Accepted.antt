@@ -10,7 +10,7 @@ use lib.Seq.{drop-drop}
 use lib.Dec.{eqb, leb, ltb}
 use borrow.Author.Tests.{eqb-true, leb-true, ltb-false}
 use Rattle.lists.proofs.Tests.{and-left, and-right}
-use Rattle.data_bytes.specs.DataBytes.{allAllowed, firstForbidden}
+use Rattle.settings.specs.DataBytes.{allAllowed, firstForbidden}
 use Rattle.block.specs.Format.{version, threeDigits, countField, checksumOf, hybridBody}
 use Rattle.settings.specs.Settings.{byKind, valid, capacityOf}
 use Rattle.lists.specs.Bytes.{same}

@@ -9,7 +9,7 @@ use lib.Dec.{eqb}
 use borrow.Author.Tests.{eqb-true, le-leb, ne-eqb, eqb-false, not-true}
 use Rattle.lists.proofs.Tests.{and-left, and-right}
 use Rattle.lists.specs.Bytes.{hasAny}
-use Rattle.data_bytes.specs.DataBytes.{allAllowed, digit}
+use Rattle.settings.specs.DataBytes.{allAllowed, digit}
 use Rattle.block.specs.Format.{version, fiveDigits, threeDigits, countField, hybridBody}
 use Rattle.settings.specs.Settings.{byKind, allowed, valid, hybridValid, minimalValid, limitValid}
 use Rattle.block.specs.Judge.{isReason, typeMatches}

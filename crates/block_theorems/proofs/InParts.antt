@@ -8,9 +8,9 @@ use Rattle.settings.specs.declared.Settings.{Settings}
 use Rattle.stream.specs.Stream.{Said, Mode, between, run, after}
 use Rattle.whole_block.specs.Whole.{initial}
 use Rattle.stream.specs.declared.Reader.{Reader}
-use Rattle.stream_theorems.specs.Session.{Served, session, joined}
-use Rattle.stream_theorems.proofs.Simulation.{Stands}
-use Rattle.stream_theorems.proofs.Parts.{Serves, session-from}
+use Rattle.block_theorems.specs.Session.{Served, session, joined}
+use Rattle.block_theorems.proofs.Simulation.{Stands}
+use Rattle.block_theorems.proofs.Parts.{Serves, session-from}
 use Rattle.block_theorems.specs.Shapes.{Writable, ReadsBack, accepted, typeRead}
 use Rattle.block_theorems.proofs.RoundTrip.{reads-back}
 

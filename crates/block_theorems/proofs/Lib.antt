@@ -7,3 +7,9 @@ pub mod Accepted
 pub mod Standing
 pub mod OneBlock
 pub mod InParts
+pub mod Content
+pub mod Simulation
+pub mod Parts
+pub mod Buffer
+pub mod Calls
+pub mod Example

@@ -8,7 +8,7 @@ use lib.ListN.{length, take, drop, length-append}
 use lib.Seq.{take-length}
 use borrow.Author.Tests.{eq-eqb, le-ltb}
 use Rattle.lists.specs.Bytes.{hasAny}
-use Rattle.data_bytes.specs.DataBytes.{allAllowed}
+use Rattle.settings.specs.DataBytes.{allAllowed}
 use Rattle.block.specs.Format.{threeDigits, checksumOf, hybridBody, hybridBlock, minimalBlock, blockOf}
 use Rattle.settings.specs.Settings.{byKind, valid, capacityOf, dataOffsetOf}
 use Rattle.block.specs.Judge.{typeMatches, checksumMatches, judgeMinimal, judge}
@@ -18,7 +18,7 @@ use Rattle.settings.specs.declared.Settings.{Settings}
 use Rattle.verdict.specs.declared.Verdict.{Verdict}
 use Rattle.verdict.specs.declared.Verdict.the-variants.{Accepted}
 use Rattle.stream.specs.Stream.{Said, between, said, run, outcome, verdicts}
-use Rattle.reader_buffer.specs.Content.{contentOf}
+use Rattle.block.specs.Content.{contentOf}
 use Rattle.whole_block.specs.Whole.{initial, wholeOf, checkOf}
 use Rattle.whole_block.specs.declared.Checked.the-variants.{Judged}
 use Rattle.whole_block.proofs.Checks.{check-judged}

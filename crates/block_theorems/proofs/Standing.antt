@@ -18,7 +18,7 @@ use Rattle.verdict.specs.declared.Verdict.{Verdict}
 use Rattle.verdict.specs.declared.Verdict.the-variants.{Accepted, Byte, Long, Shape, Count, Check, Interrupted}
 use Rattle.stream.proofs.Run.{run-append}
 use Rattle.stream.specs.Stream.{Said, verdicts, Mode, between, inside, ended, Moved, moved, said, outcome, move, run, after}
-use Rattle.reader_buffer.specs.Content.{contentOf}
+use Rattle.block.specs.Content.{contentOf}
 use Rattle.block_theorems.proofs.Accepted.{outcome-sound, body-good}
 use Rattle.block_theorems.proofs.Judging.{data-body}
 use Rattle.block_theorems.proofs.RoundTrip.{good-reads}

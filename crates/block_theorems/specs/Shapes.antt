@@ -5,7 +5,7 @@ use mathlib.Core.Bool.{true}
 use mathlib.Core.Logic.{_⊎_}
 use Prim.Native.Nat.{ℕ, _+_, _≤_}
 use lib.ListN.{length}
-use Rattle.data_bytes.specs.DataBytes.{allAllowed}
+use Rattle.settings.specs.DataBytes.{allAllowed}
 use Rattle.block.specs.Format.{threeDigits, checksumOf, hybridBody, blockOf}
 use Rattle.settings.specs.Settings.{byKind, valid}
 use Rattle.block.specs.Judge.{typeMatches}

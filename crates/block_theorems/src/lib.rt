@@ -1,1 +1,1 @@
-// Theorems only: proofs/.
+// Theorems only: what is read is what was written, in one part or in many (proofs/).

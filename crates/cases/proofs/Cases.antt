@@ -4,7 +4,7 @@ use Rattle.block.specs.Format.{fiveDigits, threeDigits, countField, checksumOf,
 use Rattle.lists.specs.Bytes.{same}
 use Rattle.block.specs.Judge.{typeMatches, headerOk, checksumMatches, judgeParts, dataOf, judgeHybrid, judge}
 use Rattle.settings.specs.Settings.{valid}
-use Rattle.reader_buffer.specs.Content.{contentOf}
+use Rattle.block.specs.Content.{contentOf}
 use Rattle.stream.specs.Stream.{outcome, move, run}
 use Rattle.whole_block.specs.Whole.{wholeOf, checkOf}
 use Rattle.numbers.specs.Numbers.{decimal}

@@ -1,1 +1,1 @@
-// The cases by hand of document 01: one list under one claim, proved of the definitions (specs/, proofs/).
+// Theorems only: P1 to P12 of document 01, one list under one claim (proofs/).

@@ -30,7 +30,7 @@ pub fn field_end(message: &[u8], from: usize, separator: u8) -> usize
 }
 
 // The offset after `count` separators of the segment that begins at `from`, or its end where it has fewer.
-pub fn field_start(message: &[u8], from: usize, separator: u8, count: usize) -> usize
+fn field_start(message: &[u8], from: usize, separator: u8, count: usize) -> usize
     ensures { λ r. ⌜ r ≡ from + startOf separator count (drop from (now (message .entry))) ⌝ }
 {
     let mut i = from;

@@ -25,8 +25,8 @@ use Rattle.sender.specs.declared.Waiting.{Waiting}
 use Rattle.sender.specs.declared.Waiting.the-variants.{Closed, Idle, Resynchronizing, Querying, Sending}
 use Rattle.sender.specs.declared.Event.the-variants.{NoEvent}
 use Rattle.sender.specs.declared.Acted.{Acted}
-use Rattle.sender_theorems.specs.Acts.{opened, ended, reset, timer, submit}
-use Rattle.sender_theorems.proofs.Invariant.{act-valid, crash-valid, fresh-valid}
+use Rattle.link.specs.SenderActs.{opened, ended, reset, timer, submit}
+use Rattle.link.proofs.SenderInvariant.{act-valid, crash-valid, fresh-valid}
 use Rattle.block_theorems.specs.Shapes.{typeRead}
 use Rattle.link.specs.Line.{Reader, newReader, readsByte, readerAfter, Arrival, arrival, acceptedOf, arriving, sameArrival, someOf, damages}
 use Rattle.link.specs.System.{Link, System, startOf, requestOf, sends, newCircuit, openedOf, sameFlag, samePersisted, writesNext, writesOf, storesOf, crashedSender, hearsAll, withReader, hearsOf, receivedWith, readsAll, readingWith, readsOf, withReceiving, keepsOf, sameExpected, isKept, answersNext, answersOf, crashedReceiver}

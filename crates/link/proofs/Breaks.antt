@@ -26,8 +26,8 @@ use Rattle.sender.specs.declared.Waiting.the-variants.{Closed, Idle, Resynchron
 use Rattle.sender.specs.declared.Sender.{Sender}
 use Rattle.sender.specs.declared.Event.the-variants.{NoEvent, DeliveredUnknown}
 use Rattle.sender.specs.declared.Acted.{Acted}
-use Rattle.sender_theorems.specs.History.{told}
-use Rattle.sender_theorems.proofs.Valid.{right-valid}
+use Rattle.link.specs.SenderHistory.{told}
+use Rattle.link.proofs.SenderValid.{right-valid}
 use Rattle.block_theorems.specs.Shapes.{Writable}
 use Rattle.link.specs.Line.{Reader, newReader}
 use Rattle.link.specs.System.{Link, System, requestOf, namedAfter, actedEnd, hearsAll, withReader, storedWith, stores}

@@ -22,7 +22,7 @@ use Rattle.sender.specs.Sender.{blockReadOf}
 use Rattle.sender.specs.declared.Persisted.{Persisted}
 use Rattle.sender.specs.declared.Sender.{Sender}
 use Rattle.sender.specs.declared.Acted.{Acted}
-use Rattle.sender_theorems.specs.History.{Entry, told}
+use Rattle.link.specs.SenderHistory.{Entry, told}
 use Rattle.block_theorems.specs.Shapes.{Writable, accepted}
 use Rattle.block_theorems.proofs.RoundTrip.{reads-back}
 use Rattle.link.specs.Line.{Reader}

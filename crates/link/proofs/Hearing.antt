@@ -24,7 +24,7 @@ use Rattle.sender.specs.Sender.{validSender, isOpen, waitingMessage, validResen
 use Rattle.sender.specs.declared.Persisted.{Persisted}
 use Rattle.sender.specs.declared.Sender.{Sender}
 use Rattle.sender.specs.declared.Acted.{Acted}
-use Rattle.sender_theorems.proofs.Valid.{right-from}
+use Rattle.link.proofs.SenderValid.{right-from}
 use Rattle.link.specs.Line.{accepts}
 use Rattle.link.proofs.Queues.{Answer, skip, sub-all, replies, refuses}
 use Rattle.link.proofs.Core.{Core, lose-back}

@@ -23,3 +23,11 @@ pub mod Example
 pub mod Breaks
 pub mod OldRequest
 pub mod Twice
+pub mod SenderValid
+pub mod SenderSteps
+pub mod SenderInvariant
+pub mod SenderRefused
+pub mod SenderCounts
+pub mod SenderExamples
+pub mod SenderDue
+pub mod ReceiverInvariant

@@ -14,7 +14,7 @@ use Rattle.settings.specs.Settings.{byKind, valid, validLink}
 use Rattle.settings.specs.declared.Kind.{Kind}
 use Rattle.settings.specs.declared.Kind.the-variants.{Hybrid, Minimal}
 use Rattle.settings.specs.declared.Settings.{Settings}
-use Rattle.data_bytes.specs.DataBytes.{allAllowed}
+use Rattle.settings.specs.DataBytes.{allAllowed}
 use Rattle.block.specs.Format.{hybridBlock, minimalBlock, blockOf}
 use Rattle.block.specs.Judge.{isReason, typeMatches}
 use Rattle.writer.specs.Write.{typeValid}

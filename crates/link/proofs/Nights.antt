@@ -17,7 +17,7 @@ use Rattle.stream.specs.Stream.{Said, between, run}
 use Rattle.receiver.specs.declared.Expected.{Expected}
 use Rattle.sender.specs.Sender.{validSender, blockReadOf, answeredBy, waitingMessage}
 use Rattle.sender.specs.declared.Waiting.the-variants.{Sending}
-use Rattle.sender_theorems.proofs.Valid.{right-valid}
+use Rattle.link.proofs.SenderValid.{right-valid}
 use Rattle.block_theorems.specs.Shapes.{accepted}
 use Rattle.link.specs.Line.{newReader}
 use Rattle.link.specs.System.{Link, System, hearsAll, withReader}

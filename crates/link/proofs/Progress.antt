@@ -11,7 +11,7 @@ use borrow.Author.Tests.{le-leb, lt-ltb, eq-eqb}
 use Rattle.lists.specs.Bytes.{same}
 use Rattle.settings.specs.Settings.{valid}
 use Rattle.settings.proofs.Laws.{valid-limit}
-use Rattle.data_bytes.specs.DataBytes.{allAllowed, firstForbidden}
+use Rattle.settings.specs.DataBytes.{allAllowed, firstForbidden}
 use Rattle.verdict.specs.declared.Verdict.{Verdict}
 use Rattle.verdict.specs.declared.Verdict.the-variants.{Accepted}
 use Rattle.fields.specs.Fields.{bytesOf}
@@ -44,8 +44,8 @@ use Rattle.sender.specs.declared.NumberedMessage.the-variants.{Numbered}
 use Rattle.sender.specs.declared.Event.{Event}
 use Rattle.sender.specs.declared.Event.the-variants.{NoEvent, Delivered, Dropped}
 use Rattle.sender.specs.declared.Acted.{Acted}
-use Rattle.sender_theorems.specs.History.{Entry, told}
-use Rattle.sender_theorems.proofs.Valid.{OnCircuit, Sent, WaitsRight, Right, right-from, right-valid}
+use Rattle.link.specs.SenderHistory.{Entry, told}
+use Rattle.link.proofs.SenderValid.{OnCircuit, Sent, WaitsRight, Right, right-from, right-valid}
 use Rattle.stream.specs.Stream.{between}
 use Rattle.link.specs.Line.{Reader, newReader}
 use Rattle.link.specs.System.{Link, System, startOf, requestOf, sendsOf, namedAfter, sends, openedOf, storedWith, opens, submits, stores, doOf}

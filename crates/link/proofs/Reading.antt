@@ -28,7 +28,7 @@ use Rattle.receiver.specs.declared.Expected.{Expected}
 use Rattle.receiver.specs.declared.Expected.the-variants.{Unknown, Next}
 use Rattle.receiver.specs.declared.Transaction.the-variants.{NoTransaction}
 use Rattle.receiver.specs.declared.Row.{Row}
-use Rattle.receiver_theorems.proofs.Invariant.{received-valid}
+use Rattle.link.proofs.ReceiverInvariant.{received-valid}
 use Rattle.sender.specs.declared.Persisted.{Persisted}
 use Rattle.sender.specs.declared.Waiting.{Waiting}
 use Rattle.link.specs.Line.{Arrival, arrival, accepts, acceptedOf, arriving}

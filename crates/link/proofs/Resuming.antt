@@ -24,7 +24,7 @@ use Rattle.sender.specs.declared.Waiting.the-variants.{Closed, Resynchronizing,
 use Rattle.sender.specs.declared.Sender.{Sender}
 use Rattle.sender.specs.declared.Event.{Event}
 use Rattle.sender.specs.declared.Event.the-variants.{NoEvent, DeliveredUnknown}
-use Rattle.sender_theorems.specs.History.{crashed}
+use Rattle.link.specs.SenderHistory.{crashed}
 use Rattle.link.specs.Line.{newReader}
 use Rattle.link.specs.System.{Link, System, startOf, requestOf, Do, crashesReceiver, crashesSender, doOf, runOf}
 use Rattle.link.specs.Promise.{Ready, transactions}

@@ -11,7 +11,7 @@ use lib.Dec.{leb, ltb, eqb}
 use borrow.Author.Tests.{lt-ltb, ltb-true, eq-eqb, ne-eqb, eqb-true}
 use Rattle.lists.specs.Bytes.{same}
 use Rattle.lists.proofs.Tests.{cond-ind, and-left}
-use Rattle.data_bytes.specs.DataBytes.{allAllowed}
+use Rattle.settings.specs.DataBytes.{allAllowed}
 use Rattle.fields.specs.Fields.{bytesOf}
 use Rattle.numbers.specs.Numbers.{numberField, greatestSent, textOf}
 use Rattle.numbers.specs.declared.SequenceNumber.{SequenceNumber}
@@ -35,7 +35,7 @@ use Rattle.sender.specs.declared.Sender.{Sender}
 use Rattle.sender.specs.declared.Event.{Event}
 use Rattle.sender.specs.declared.Event.the-variants.{NoEvent, Delivered, DeliveredUnknown, Dropped}
 use Rattle.sender.specs.declared.Acted.{Acted}
-use Rattle.sender_theorems.proofs.Valid.{WaitsRight, right-from}
+use Rattle.link.proofs.SenderValid.{WaitsRight, right-from}
 use Rattle.link.specs.System.{namedAfter}
 use Rattle.link.proofs.Queues.{all-head, Answer, skip, sub-all, replies, True, ToNumber, to-zero, to-stored, to-repeat, SaysExpected}
 use Rattle.link.proofs.Core.{Core, Holds, old, unknown, next, close-circuit, lose-back, not-both}

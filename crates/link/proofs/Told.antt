@@ -20,12 +20,12 @@ use Rattle.sender.specs.declared.Sender.{Sender}
 use Rattle.sender.specs.declared.NumberedMessage.{NumberedMessage}
 use Rattle.sender.specs.declared.NumberedMessage.the-variants.{Nothing, Numbered}
 use Rattle.sender.specs.declared.Event.{Event}
-use Rattle.sender_theorems.specs.Acts.{Act, opened, ended, reset, timer, block, submit, actOf, resendsOf}
-use Rattle.sender_theorems.specs.History.{told, waitsOf, isAbandoned, sendsToTell}
-use Rattle.sender_theorems.proofs.Valid.{right-from, WaitsRight}
-use Rattle.sender_theorems.proofs.Steps.{Step, refuses, keeps, starts, resends, abandons, shuts, steps}
-use Rattle.sender_theorems.proofs.Invariant.{act-valid}
-use Rattle.sender_theorems.proofs.Counts.{Counts, counts-step, told-right, few-step, up-step}
+use Rattle.link.specs.SenderActs.{Act, opened, ended, reset, timer, block, submit, actOf, resendsOf}
+use Rattle.link.specs.SenderHistory.{told, waitsOf, isAbandoned, sendsToTell}
+use Rattle.link.proofs.SenderValid.{right-from, WaitsRight}
+use Rattle.link.proofs.SenderSteps.{Step, refuses, keeps, starts, resends, abandons, shuts, steps}
+use Rattle.link.proofs.SenderInvariant.{act-valid}
+use Rattle.link.proofs.SenderCounts.{Counts, counts-step, told-right, few-step, up-step}
 use Rattle.link.specs.Line.{readsByte, readerAfter, damages}
 use Rattle.link.specs.System.{Link, System, SendingEnd, startOf, actedEnd, sends, samePersisted, writesNext, isKept, answersNext, hearsAll, withReader, hearsOf, readsOf, Do, opens, ends, resets, submits, stores, writes, crashesSender, hears, reads, answers, crashesReceiver, damagesForward, damagesBack, doOf, runOf}
 use Rattle.link.specs.System.{timer as timerRuns, keeps as keepsReceived}

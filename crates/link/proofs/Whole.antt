@@ -12,8 +12,8 @@ use Rattle.receiver.specs.Receiver.{validExpected}
 use Rattle.sender.specs.Sender.{validSender, blockReadOf}
 use Rattle.sender.specs.declared.Waiting.the-variants.{Closed}
 use Rattle.sender.specs.declared.Acted.{Acted}
-use Rattle.sender_theorems.specs.Acts.{block}
-use Rattle.sender_theorems.proofs.Invariant.{act-valid}
+use Rattle.link.specs.SenderActs.{block}
+use Rattle.link.proofs.SenderInvariant.{act-valid}
 use Rattle.link.specs.Line.{Arrival, arrival, accepts, acceptedOf, arriving}
 use Rattle.link.specs.System.{Link, System, sends}
 use Rattle.link.specs.Promise.{transactions}

@@ -6,7 +6,7 @@ use Prim.Native.Nat.{ℕ, zero, suc, _+_, _≤_}
 use lib.ListN.{length}
 use Rattle.settings.specs.Settings.{validLink}
 use Rattle.settings.specs.declared.Settings.{Settings}
-use Rattle.data_bytes.specs.DataBytes.{allAllowed}
+use Rattle.settings.specs.DataBytes.{allAllowed}
 use Rattle.numbers.specs.Numbers.{greatestSent}
 use Rattle.numbers.specs.declared.SequenceNumber.the-variants.{Number}
 use Rattle.messages.specs.Messages.{validType}

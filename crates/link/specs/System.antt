@@ -24,8 +24,8 @@ use Rattle.sender.specs.declared.Sender.{Sender}
 use Rattle.sender.specs.declared.NumberedMessage.{NumberedMessage}
 use Rattle.sender.specs.declared.NumberedMessage.the-variants.{Nothing, Numbered}
 use Rattle.sender.specs.declared.Acted.{Acted}
-use Rattle.sender_theorems.specs.Acts.{crashOf}
-use Rattle.sender_theorems.specs.History.{Entry, told, crashed}
+use Rattle.link.specs.SenderActs.{crashOf}
+use Rattle.link.specs.SenderHistory.{Entry, told, crashed}
 use Rattle.link.specs.Line.{Reader, newReader, readsByte, readerAfter, damages}
 
 -- what stands fixed: the block settings of both ends, f, r, the type of control messages, the numbered log, and the buffer for replies

@@ -1,1 +1,1 @@
-// Definitions and theorems only: specs/ and proofs/.
+// Theorems only: demand 3 (specs/Promise.antt), of the two ends and the line between them (proofs/).

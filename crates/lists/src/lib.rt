@@ -1,4 +1,7 @@
-// Copying bytes and handing on a part of them, with the laws about lists that the proofs of the other crates cite (proofs/).
+// Copying bytes, handing on a part of them and finding where a stretch ends, with the laws about lists that the proofs of the other crates cite (proofs/).
+mod find;
+
+pub use find::find_stop;
 ghost use mathlib.Core.Path.{_≡_};
 ghost use Prim.Native.Nat.{min};
 ghost use lib.ListN.{take, drop};

@@ -1,14 +1,17 @@
-// What the C functions for messages do, on slices: the words are looked at, the library is called, and its answer is written
-// into the words.
+// What the C functions for messages, fields and control blocks do, on slices: the words are looked at, the library is called,
+// and its answer is written into the words.
+mod control;
+mod field;
 mod read;
 mod report;
 mod write;
 
 use header::Code;
 use messages::Control;
+pub use control::control_block_words;
+pub use field::next_field_words;
 pub use read::read_answer_words;
 pub use read::read_header_words;
-pub use write::control_of;
 pub use write::write_answer_words;
 pub use write::write_control_words;
 

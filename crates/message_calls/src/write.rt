@@ -34,7 +34,7 @@ fn number_from(number: u64) -> SequenceNumber
     SequenceNumber::Number(number)
 }
 
-pub fn control_of(number: u64) -> ControlMade
+pub(crate) fn control_of(number: u64) -> ControlMade
     ensures { λ r. ⌜ r ≡ controlOf number ⌝ }
 {
     if number == 0 {

@@ -9,7 +9,7 @@ use lib.Dec.{leb}
 use borrow.Author.Tests.{leb-true, not-true}
 use Rattle.lists.specs.Bytes.{hasAny}
 use Rattle.lists.proofs.Tests.{and-left, and-right}
-use Rattle.data_bytes.specs.DataBytes.{allAllowed}
+use Rattle.settings.specs.DataBytes.{allAllowed}
 use Rattle.fields.specs.Fields.{fieldOf, bytesOf, joined}
 use Rattle.fields.proofs.Joined.{Each}
 use Rattle.header.specs.Header.{answerField, readableHeader, readableAnswer, acknowledgmentOf, codeField}

@@ -10,7 +10,7 @@ use borrow.Author.Tests.{leb-true, le-leb, ne-eqb}
 use Rattle.lists.specs.Bytes.{hasAny}
 use Rattle.lists.proofs.Tests.{and-left, and-right}
 use Rattle.settings.specs.Settings.{allowed}
-use Rattle.data_bytes.specs.DataBytes.{allAllowed}
+use Rattle.settings.specs.DataBytes.{allAllowed}
 use Rattle.fields.specs.Fields.{joined}
 use Rattle.fields.proofs.Joined.{Each}
 use Rattle.header.specs.Header.{controlIdField, sequenceField, headerOf}

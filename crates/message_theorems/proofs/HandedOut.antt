@@ -9,7 +9,7 @@ use lib.Dec.{leb}
 use borrow.Author.Tests.{le-leb}
 use Rattle.lists.specs.Bytes.{hasAny}
 use Rattle.lists.proofs.Tests.{and-right, cond-ind}
-use Rattle.data_bytes.specs.DataBytes.{allAllowed}
+use Rattle.settings.specs.DataBytes.{allAllowed}
 use Rattle.fields.specs.Fields.{fieldOf, bytesOf}
 use Rattle.fields.specs.declared.Field.{Field}
 use Rattle.header.specs.Header.{begins, ended, controlIdField, sequenceField, readableHeader, headerOf}

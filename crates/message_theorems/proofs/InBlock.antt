@@ -10,7 +10,7 @@ use Rattle.settings.specs.Settings.{valid}
 use Rattle.settings.specs.declared.Kind.{Kind}
 use Rattle.settings.specs.declared.Kind.the-variants.{Hybrid, Minimal}
 use Rattle.settings.specs.declared.Settings.{Settings}
-use Rattle.data_bytes.specs.DataBytes.{allAllowed}
+use Rattle.settings.specs.DataBytes.{allAllowed}
 use Rattle.block.specs.Format.{blockOf}
 use Rattle.block.specs.Judge.{typeMatches}
 use Rattle.writer.specs.Write.{needOf, typeValid, wrote, writeOf}

@@ -1,1 +1,1 @@
-// Theorems only: proofs/.
+// Theorems only: what is written reads back, and fits its block (proofs/).

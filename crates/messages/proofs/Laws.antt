@@ -14,7 +14,7 @@ use borrow.Rule.Slice.PartMut.{midOf, putMid}
 use Rattle.lists.specs.Bytes.{put, overwritten, clear, hasAny}
 use Rattle.lists.proofs.Put.{over-fits, back, put-none, put-put, length-put}
 use Rattle.lists.proofs.Tests.{cond-ind}
-use Rattle.data_bytes.specs.DataBytes.{allAllowed, firstForbidden}
+use Rattle.settings.specs.DataBytes.{allAllowed, firstForbidden}
 use Rattle.header.specs.declared.Code.{Code}
 use Rattle.numbers.specs.Numbers.{written}
 use Rattle.numbers.specs.declared.SequenceNumber.{SequenceNumber}

@@ -8,7 +8,7 @@ use lib.ListN.{length}
 use lib.Dec.{leb}
 use borrow.Author.Tests.{leb-true}
 use Rattle.lists.specs.Bytes.{put}
-use Rattle.data_bytes.specs.DataBytes.{allAllowed, firstForbidden}
+use Rattle.settings.specs.DataBytes.{allAllowed, firstForbidden}
 use Rattle.header.specs.declared.Code.{Code}
 use Rattle.numbers.specs.Numbers.{textOf}
 use Rattle.numbers.specs.declared.SequenceNumber.{SequenceNumber}

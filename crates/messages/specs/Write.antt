@@ -5,7 +5,7 @@ use Prim.Native.Nat.{ℕ, _+_}
 use lib.ListN.{length}
 use lib.Dec.{leb}
 use Rattle.lists.specs.Bytes.{put}
-use Rattle.data_bytes.specs.DataBytes.{allAllowed, firstForbidden}
+use Rattle.settings.specs.DataBytes.{allAllowed, firstForbidden}
 use Rattle.header.specs.declared.Code.{Code}
 use Rattle.numbers.specs.declared.SequenceNumber.{SequenceNumber}
 use Rattle.messages.specs.Messages.{answerMessage, controlMessage, validType, validControlId, validExpected}

@@ -87,8 +87,8 @@ pub fn write_answer(
     if !is_long_enough(buffer.len(), start, control_id.len(), digits) {
         return MessageWritten::TooShort;
     }
-    if !data_bytes::are_allowed(control_id) {
-        return MessageWritten::Byte(data_bytes::first_forbidden(control_id));
+    if !settings::are_allowed(control_id) {
+        return MessageWritten::Byte(settings::first_forbidden(control_id));
     }
     if !is_control_id(control_id) {
         return MessageWritten::Header;

@@ -15,7 +15,7 @@ use Rattle.lists.specs.Bytes.{put}
 use Rattle.lists.proofs.Tests.{and-left, and-right}
 use Rattle.lists.proofs.Parts.{drop-more, drop-none}
 use Rattle.lists.proofs.Put.{set-put, put-set}
-use Rattle.data_bytes.specs.DataBytes.{digit}
+use Rattle.settings.specs.DataBytes.{digit}
 use Rattle.numbers.specs.Numbers.{isDigit, allDigits, valueFrom, value, isMinusOne, digitsField, numberField, decimalOf, decimal, written}
 use Rattle.numbers.specs.declared.SequenceNumber.the-variants.{MinusOne, Number}
 use Rattle.numbers.specs.declared.NumberField.the-variants.{Missing, NotNumber, Present}

@@ -10,7 +10,7 @@ use borrow.Author.Tests.{leb-true, le-leb, ne-eqb, eqb-true}
 use Rattle.lists.specs.Bytes.{hasAny}
 use Rattle.lists.proofs.Tests.{and-left, and-right, cond-ind}
 use Rattle.settings.specs.Settings.{allowed}
-use Rattle.data_bytes.specs.DataBytes.{digit, allAllowed}
+use Rattle.settings.specs.DataBytes.{digit, allAllowed}
 use Rattle.numbers.specs.Numbers.{isDigit, allDigits, valueFrom, value, isMinusOne, digitsField, numberField, greatestExpected, decimal, textOf}
 use Rattle.numbers.specs.declared.SequenceNumber.{SequenceNumber}
 use Rattle.numbers.specs.declared.SequenceNumber.the-variants.{MinusOne, Number}

@@ -1,6 +1,6 @@
 // Writing a number: -1, or plain decimal.
 use crate::SequenceNumber;
-use data_bytes::digit_of;
+use settings::digit_of;
 ghost use mathlib.Core.Path.{_≡_};
 ghost use Prim.Native.Nat.{_+_, _≤_};
 ghost use lib.ListN.{length};

@@ -21,7 +21,7 @@ use Rattle.numbers.specs.declared.SequenceNumber.the-variants.{MinusOne, Number
 use Rattle.numbers.specs.declared.NumberField.{NumberField}
 use Rattle.numbers.specs.declared.NumberField.the-variants.{Missing, NotNumber, Present}
 use Rattle.numbers.proofs.Reading.{field-number-bound}
-use Rattle.data_bytes.specs.DataBytes.{allAllowed}
+use Rattle.settings.specs.DataBytes.{allAllowed}
 use Rattle.block.specs.Judge.{isReason}
 use Rattle.fields.specs.Fields.{bytesOf}
 use Rattle.fields.specs.declared.Field.{Field}

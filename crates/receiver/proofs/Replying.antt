@@ -13,7 +13,7 @@ use Rattle.settings.specs.declared.Kind.{Kind}
 use Rattle.settings.specs.declared.Kind.the-variants.{Hybrid, Minimal}
 use Rattle.settings.specs.declared.Settings.{Settings}
 use Rattle.settings.proofs.Laws.{valid-limit}
-use Rattle.data_bytes.specs.DataBytes.{allAllowed}
+use Rattle.settings.specs.DataBytes.{allAllowed}
 use Rattle.block.specs.Format.{blockOf}
 use Rattle.block.specs.Judge.{isReason, typeMatches}
 use Rattle.writer.specs.Write.{frameOf, needOf, typeValid, wrote, writeOf, lengthOf as blockLength}

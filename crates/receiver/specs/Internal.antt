@@ -8,7 +8,7 @@ use lib.Dec.{leb}
 use Rattle.lists.specs.Bytes.{put}
 use Rattle.settings.specs.Settings.{valid}
 use Rattle.settings.specs.declared.Settings.{Settings}
-use Rattle.data_bytes.specs.DataBytes.{allAllowed}
+use Rattle.settings.specs.DataBytes.{allAllowed}
 use Rattle.block.specs.Judge.{isReason}
 use Rattle.fields.specs.Fields.{bytesOf}
 use Rattle.messages.specs.Messages.{validControlId, validExpected}

@@ -7,7 +7,7 @@ use lib.Dec.{leb, eqb}
 use Rattle.settings.specs.Settings.{byKind, validLink}
 use Rattle.settings.specs.declared.Kind.{Kind}
 use Rattle.settings.specs.declared.Settings.{Settings}
-use Rattle.data_bytes.specs.DataBytes.{allAllowed}
+use Rattle.settings.specs.DataBytes.{allAllowed}
 use Rattle.verdict.specs.declared.Verdict.{Verdict}
 use Rattle.verdict.specs.declared.Verdict.the-variants.{Accepted, Byte, Long, Shape, Count, Check, Interrupted}
 use Rattle.block.specs.Format.{blockOf}

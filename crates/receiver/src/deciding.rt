@@ -38,7 +38,7 @@ fn decide_data(kind: Kind, application: Application, expected: Expected, content
     let Header::Readable(control_id, sequence) = header::read_header(content) else {
         return refused_by(kind, 9, 71);
     };
-    if !data_bytes::are_allowed(field_content(content, control_id)) {
+    if !settings::are_allowed(field_content(content, control_id)) {
         return refused_by(kind, 9, 71);
     }
     let number = read_number(

@@ -10,7 +10,7 @@ use lib.Dec.{leb, ltb, eqb}
 use borrow.Author.Tests.{le-leb, lt-leb, leb-true, lt-ltb, le-ltb, eq-eqb, ne-eqb, eqb-true}
 use Rattle.lists.specs.Bytes.{same}
 use Rattle.lists.proofs.Tests.{and-left, and-right}
-use Rattle.data_bytes.specs.DataBytes.{allAllowed, firstForbidden}
+use Rattle.settings.specs.DataBytes.{allAllowed, firstForbidden}
 use Rattle.fields.specs.Fields.{bytesOf}
 use Rattle.fields.specs.declared.Field.{Field}
 use Rattle.numbers.specs.Numbers.{numberField, greatestSent, greatestExpected, textOf}

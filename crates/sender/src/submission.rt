@@ -131,8 +131,8 @@ pub fn submit_transaction(data_limit: usize, sender: Sender, message: &[u8]) -> 
     if data_limit < message.len() {
         return refuse(4, sender);
     }
-    if !data_bytes::are_allowed(message) {
-        return refuse_byte(data_bytes::first_forbidden(message), sender);
+    if !settings::are_allowed(message) {
+        return refuse_byte(settings::first_forbidden(message), sender);
     }
     submit_header(sender, message)
 }

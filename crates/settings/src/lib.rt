@@ -1,4 +1,11 @@
-// The block settings of a link, and the bytes that data may have.
+// The block settings of a link, and the bytes of a block's data: which are allowed, their exclusive-or, decimal digits.
+mod bytes;
+mod digits;
+
+pub use bytes::are_allowed;
+pub use bytes::checksum;
+pub use bytes::first_forbidden;
+pub use digits::digit_of;
 ghost use mathlib.Core.Path.{_≡_};
 ghost use Rattle.settings.specs.Settings.{allowed, valid, validLink, dataOffsetOf, hybridOf, minimalOf};
 
@@ -23,7 +30,7 @@ pub enum Made {
 }
 
 // Data bytes are 20 to 7E and CR.
-pub fn is_allowed(x: u8) -> bool
+pub(crate) fn is_allowed(x: u8) -> bool
     ensures { λ r. ⌜ r ≡ allowed x ⌝ }
 {
     ((32 <= x) & (x <= 126)) | (x == 13)

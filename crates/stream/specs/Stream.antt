@@ -4,7 +4,7 @@ use mathlib.Core.Bool.{cond}
 use Prim.Native.Nat.{ℕ, _+_}
 use lib.ListN.{length, set}
 use lib.Dec.{ltb, eqb}
-use Rattle.reader_buffer.specs.Content.{contentOf}
+use Rattle.block.specs.Content.{contentOf}
 use Rattle.settings.specs.Settings.{capacityOf}
 use Rattle.block.specs.Judge.{judge}
 use Rattle.settings.specs.declared.Settings.{Settings}

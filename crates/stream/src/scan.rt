@@ -3,7 +3,7 @@ use crate::Answer;
 use crate::Phase;
 use crate::Reader;
 use crate::Reading;
-use search::find_stop;
+use lists::find_stop;
 use settings::Settings;
 use verdict::Verdict;
 ghost use mathlib.Core.Path.{_≡_};

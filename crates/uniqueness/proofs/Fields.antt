@@ -1,4 +1,4 @@
--- The public functions of the crate fields.
+-- The public functions of the crate fields. Written by tests/interface/uniqueness --write.
 use mathlib.Core.Path.{refl, sym, _∙_}
 use mathlib.Core.List.{List}
 use Prim.Native.Nat.{ℕ}
@@ -6,8 +6,6 @@ use denote.Ref.{now}
 use Rattle.uniqueness.specs.Unique.{Unique, UniqueContent}
 use Rattle.fields.proofs.field_end as field-end-contract
 use Rattle.fields.proofs.field_end.Reads as field-end-reads
-use Rattle.fields.proofs.field_start as field-start-contract
-use Rattle.fields.proofs.field_start.Reads as field-start-reads
 use Rattle.fields.proofs.find_field as find-field-contract
 use Rattle.fields.proofs.find_field.Reads as find-field-reads
 use Rattle.fields.proofs.field_content as field-content-contract
@@ -16,13 +14,6 @@ use Rattle.fields.proofs.field_content.Reads as field-content-reads
 pub field-end : Unique field-end-contract.ended (λ M. field-end-contract.clauses {M = M})
 field-end = record {
   told = field-end-reads.Learnt;
-  says = λ M 𝓤 H A mem run. refl;
-  one = λ κs a z z′ ws ws′ h h′. (h ∙ sym h′, refl);
-}
-
-pub field-start : Unique field-start-contract.ended (λ M. field-start-contract.clauses {M = M})
-field-start = record {
-  told = field-start-reads.Learnt;
   says = λ M 𝓤 H A mem run. refl;
   one = λ κs a z z′ ws ws′ h h′. (h ∙ sym h′, refl);
 }

@@ -1,4 +1,4 @@
--- The public functions of the crate header.
+-- The public functions of the crate header. Written by tests/interface/uniqueness --write.
 use mathlib.Core.Path.{refl, sym, _∙_}
 use Rattle.uniqueness.specs.Unique.{Unique}
 use Rattle.header.proofs.read_header as read-header-contract

@@ -1,17 +1,33 @@
--- The public functions of the crate message_calls.
-use mathlib.Core.Path.{refl, sym, _∙_}
+-- The public functions of the crate message_calls. Written by tests/interface/uniqueness --write.
+use mathlib.Core.Path.{refl}
 use Rattle.uniqueness.specs.Unique.{Unique}
 use Rattle.uniqueness.proofs.Once.{once}
+use Rattle.message_calls.proofs.control_block_words as control-block-words-contract
+use Rattle.message_calls.proofs.control_block_words.Reads as control-block-words-reads
+use Rattle.message_calls.proofs.next_field_words as next-field-words-contract
+use Rattle.message_calls.proofs.next_field_words.Reads as next-field-words-reads
 use Rattle.message_calls.proofs.read_header_words as read-header-words-contract
 use Rattle.message_calls.proofs.read_header_words.Reads as read-header-words-reads
 use Rattle.message_calls.proofs.read_answer_words as read-answer-words-contract
 use Rattle.message_calls.proofs.read_answer_words.Reads as read-answer-words-reads
-use Rattle.message_calls.proofs.control_of as control-of-contract
-use Rattle.message_calls.proofs.control_of.Reads as control-of-reads
 use Rattle.message_calls.proofs.write_answer_words as write-answer-words-contract
 use Rattle.message_calls.proofs.write_answer_words.Reads as write-answer-words-reads
 use Rattle.message_calls.proofs.write_control_words as write-control-words-contract
 use Rattle.message_calls.proofs.write_control_words.Reads as write-control-words-reads
+
+pub control-block-words : Unique control-block-words-contract.ended (λ M. control-block-words-contract.clauses {M = M})
+control-block-words = record {
+  told = control-block-words-reads.Learnt;
+  says = λ M 𝓤 H A mem run. refl;
+  one = λ κs a z z′ ws ws′ h h′. once h h′ (λ y. y .number) (λ y. (tt, (tt, (tt, (y .buffer, (tt, (y .report, tt)))))));
+}
+
+pub next-field-words : Unique next-field-words-contract.ended (λ M. next-field-words-contract.clauses {M = M})
+next-field-words = record {
+  told = next-field-words-reads.Learnt;
+  says = λ M 𝓤 H A mem run. refl;
+  one = λ κs a z z′ ws ws′ h h′. once h h′ (λ y. y .number) (λ y. (tt, (tt, (y .words, tt))));
+}
 
 pub read-header-words : Unique read-header-words-contract.ended (λ M. read-header-words-contract.clauses {M = M})
 read-header-words = record {
@@ -25,13 +41,6 @@ read-answer-words = record {
   told = read-answer-words-reads.Learnt;
   says = λ M 𝓤 H A mem run. refl;
   one = λ κs a z z′ ws ws′ h h′. once h h′ (λ y. y .number) (λ y. (tt, (y .words, tt)));
-}
-
-pub control-of : Unique control-of-contract.ended (λ M. control-of-contract.clauses {M = M})
-control-of = record {
-  told = control-of-reads.Learnt;
-  says = λ M 𝓤 H A mem run. refl;
-  one = λ κs a z z′ ws ws′ h h′. (h ∙ sym h′, refl);
 }
 
 pub write-answer-words : Unique write-answer-words-contract.ended (λ M. write-answer-words-contract.clauses {M = M})

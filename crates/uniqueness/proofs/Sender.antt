@@ -1,4 +1,4 @@
--- The public functions of the crate sender.
+-- The public functions of the crate sender. Written by tests/interface/uniqueness --write.
 use mathlib.Core.Path.{refl, sym, _∙_}
 use Rattle.uniqueness.specs.Unique.{Unique}
 use Rattle.sender.proofs.block_read as block-read-contract

@@ -1,8 +1,14 @@
--- The public functions of the crate settings.
+-- The public functions of the crate settings. Written by tests/interface/uniqueness --write.
 use mathlib.Core.Path.{refl, sym, _∙_}
 use Rattle.uniqueness.specs.Unique.{Unique}
-use Rattle.settings.proofs.is_allowed as is-allowed-contract
-use Rattle.settings.proofs.is_allowed.Reads as is-allowed-reads
+use Rattle.settings.proofs.are_allowed as are-allowed-contract
+use Rattle.settings.proofs.are_allowed.Reads as are-allowed-reads
+use Rattle.settings.proofs.first_forbidden as first-forbidden-contract
+use Rattle.settings.proofs.first_forbidden.Reads as first-forbidden-reads
+use Rattle.settings.proofs.checksum as checksum-contract
+use Rattle.settings.proofs.checksum.Reads as checksum-reads
+use Rattle.settings.proofs.digit_of as digit-of-contract
+use Rattle.settings.proofs.digit_of.Reads as digit-of-reads
 use Rattle.settings.proofs.Settings.hybrid as Settings-hybrid-contract
 use Rattle.settings.proofs.Settings.hybrid.Reads as Settings-hybrid-reads
 use Rattle.settings.proofs.Settings.minimal as Settings-minimal-contract
@@ -14,9 +20,30 @@ use Rattle.settings.proofs.Settings.is_link.Reads as Settings-is-link-reads
 use Rattle.settings.proofs.Settings.data_offset as Settings-data-offset-contract
 use Rattle.settings.proofs.Settings.data_offset.Reads as Settings-data-offset-reads
 
-pub is-allowed : Unique is-allowed-contract.ended (λ M. is-allowed-contract.clauses {M = M})
-is-allowed = record {
-  told = is-allowed-reads.Learnt;
+pub are-allowed : Unique are-allowed-contract.ended (λ M. are-allowed-contract.clauses {M = M})
+are-allowed = record {
+  told = are-allowed-reads.Learnt;
+  says = λ M 𝓤 H A mem run. refl;
+  one = λ κs a z z′ ws ws′ h h′. (h ∙ sym h′, refl);
+}
+
+pub first-forbidden : Unique first-forbidden-contract.ended (λ M. first-forbidden-contract.clauses {M = M})
+first-forbidden = record {
+  told = first-forbidden-reads.Learnt;
+  says = λ M 𝓤 H A mem run. refl;
+  one = λ κs a z z′ ws ws′ h h′. (h ∙ sym h′, refl);
+}
+
+pub checksum : Unique checksum-contract.ended (λ M. checksum-contract.clauses {M = M})
+checksum = record {
+  told = checksum-reads.Learnt;
+  says = λ M 𝓤 H A mem run. refl;
+  one = λ κs a z z′ ws ws′ h h′. (h ∙ sym h′, refl);
+}
+
+pub digit-of : Unique digit-of-contract.ended (λ M. digit-of-contract.clauses {M = M})
+digit-of = record {
+  told = digit-of-reads.Learnt;
   says = λ M 𝓤 H A mem run. refl;
   one = λ κs a z z′ ws ws′ h h′. (h ∙ sym h′, refl);
 }

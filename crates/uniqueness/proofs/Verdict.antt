@@ -1,4 +1,4 @@
--- The public functions of the crate verdict.
+-- The public functions of the crate verdict. Written by tests/interface/uniqueness --write.
 use mathlib.Core.Path.{refl, sym, _∙_}
 use Rattle.uniqueness.specs.Unique.{Unique}
 use Rattle.verdict.proofs.Verdict.number as Verdict-number-contract

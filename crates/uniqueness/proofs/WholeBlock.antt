@@ -1,4 +1,4 @@
--- The public functions of the crate whole_block.
+-- The public functions of the crate whole_block. Written by tests/interface/uniqueness --write.
 use mathlib.Core.Path.{refl, sym, _∙_}
 use Rattle.uniqueness.specs.Unique.{Unique}
 use Rattle.whole_block.proofs.check_block as check-block-contract

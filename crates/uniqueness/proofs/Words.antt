@@ -1,49 +1,13 @@
--- The public functions of the crate words.
+-- The public functions of the crate words. Written by tests/interface/uniqueness --write.
 use mathlib.Core.Path.{refl, sym, _∙_}
 use Rattle.uniqueness.specs.Unique.{Unique}
 use Rattle.uniqueness.proofs.Once.{once}
-use Rattle.words.proofs.write_reader as write-reader-contract
-use Rattle.words.proofs.write_reader.Reads as write-reader-reads
-use Rattle.words.proofs.read_reader as read-reader-contract
-use Rattle.words.proofs.read_reader.Reads as read-reader-reads
-use Rattle.words.proofs.write_verdict as write-verdict-contract
-use Rattle.words.proofs.write_verdict.Reads as write-verdict-reads
-use Rattle.words.proofs.write_pending as write-pending-contract
-use Rattle.words.proofs.write_pending.Reads as write-pending-reads
 use Rattle.words.proofs.write_report as write-report-contract
 use Rattle.words.proofs.write_report.Reads as write-report-reads
 use Rattle.words.proofs.type_byte as type-byte-contract
 use Rattle.words.proofs.type_byte.Reads as type-byte-reads
 use Rattle.words.proofs.verdict_of as verdict-of-contract
 use Rattle.words.proofs.verdict_of.Reads as verdict-of-reads
-
-pub write-reader : Unique write-reader-contract.ended (λ M. write-reader-contract.clauses {M = M})
-write-reader = record {
-  told = write-reader-reads.Learnt;
-  says = λ M 𝓤 H A mem run. refl;
-  one = λ κs a z z′ ws ws′ h h′. once h h′ (λ y. tt) (λ y. (y, (tt, tt)));
-}
-
-pub read-reader : Unique read-reader-contract.ended (λ M. read-reader-contract.clauses {M = M})
-read-reader = record {
-  told = read-reader-reads.Learnt;
-  says = λ M 𝓤 H A mem run. refl;
-  one = λ κs a z z′ ws ws′ h h′. (h ∙ sym h′, refl);
-}
-
-pub write-verdict : Unique write-verdict-contract.ended (λ M. write-verdict-contract.clauses {M = M})
-write-verdict = record {
-  told = write-verdict-reads.Learnt;
-  says = λ M 𝓤 H A mem run. refl;
-  one = λ κs a z z′ ws ws′ h h′. once h h′ (λ y. tt) (λ y. (y, (tt, (tt, (tt, (tt, tt))))));
-}
-
-pub write-pending : Unique write-pending-contract.ended (λ M. write-pending-contract.clauses {M = M})
-write-pending = record {
-  told = write-pending-reads.Learnt;
-  says = λ M 𝓤 H A mem run. refl;
-  one = λ κs a z z′ ws ws′ h h′. once h h′ (λ y. tt) (λ y. (y, (tt, tt)));
-}
 
 pub write-report : Unique write-report-contract.ended (λ M. write-report-contract.clauses {M = M})
 write-report = record {

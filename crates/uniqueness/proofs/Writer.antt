@@ -1,4 +1,4 @@
--- The public functions of the crate writer.
+-- The public functions of the crate writer. Written by tests/interface/uniqueness --write.
 use mathlib.Core.Path.{refl}
 use Rattle.uniqueness.specs.Unique.{Unique}
 use Rattle.uniqueness.proofs.Once.{once}

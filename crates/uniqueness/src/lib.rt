@@ -1,1 +1,1 @@
-// Theorems only: proofs/.
+// Theorems only: each promise allows one outcome (proofs/).

@@ -18,7 +18,7 @@ pub enum Checked {
 fn outcome_of(settings: Settings, body: &[u8], after: u8) -> Verdict
     ensures { λ r. ⌜ r ≡ outcome settings (now (body .entry)) after ⌝ }
 {
-    if reader_buffer::is_long(settings, body.len()) {
+    if block::is_long(settings, body.len()) {
         return Verdict::Long;
     }
     if after != 13 {
@@ -33,7 +33,7 @@ fn whole_verdict(settings: Settings, block: &[u8]) -> Verdict
     requires { ⌜ getD (now block) 0 0 ≡ settings .«start_block» ⌝ }
     ensures { λ r. ⌜ r ≡ wholeOf settings (now (block .entry)) ⌝ }
 {
-    let stop = 1 + search::find_stop(&block[1..], settings.start_block, settings.end_block);
+    let stop = 1 + lists::find_stop(&block[1..], settings.start_block, settings.end_block);
     if stop == block.len() {
         return Verdict::Shape;
     }

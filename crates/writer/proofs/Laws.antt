@@ -11,7 +11,7 @@ use borrow.Author.Tests.{le-leb, lt-leb, leb-true}
 use borrow.Rule.Slice.PartMut.{midOf, putMid}
 use Rattle.lists.proofs.Put.{back, put-put, length-put}
 use Rattle.lists.specs.Bytes.{put}
-use Rattle.data_bytes.specs.DataBytes.{allAllowed, firstForbidden}
+use Rattle.settings.specs.DataBytes.{allAllowed, firstForbidden}
 use Rattle.block.specs.Format.{version, fiveDigits, threeDigits, countField, checksumOf, hybridBody, hybridBlock, minimalBlock, blockOf}
 use Rattle.settings.specs.Settings.{byKind, valid}
 use Rattle.settings.specs.declared.Kind.{Kind}

@@ -5,7 +5,7 @@ use Prim.Native.Nat.{ℕ, _+_}
 use lib.ListN.{length}
 use lib.Dec.{leb}
 use Rattle.lists.specs.Bytes.{put}
-use Rattle.data_bytes.specs.DataBytes.{allAllowed, firstForbidden}
+use Rattle.settings.specs.DataBytes.{allAllowed, firstForbidden}
 use Rattle.block.specs.Format.{blockOf}
 use Rattle.settings.specs.Settings.{byKind, valid}
 use Rattle.block.specs.Judge.{typeMatches}

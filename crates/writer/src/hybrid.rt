@@ -1,6 +1,6 @@
 // Writing a hybrid block: SB t v v CR data ccccc xxx EB CR.
 use crate::content::write_content;
-use data_bytes::digit_of;
+use settings::digit_of;
 use settings::Settings;
 ghost use mathlib.Core.Path.{_≡_};
 ghost use mathlib.Core.List.{_++_};

@@ -74,8 +74,8 @@ pub fn write(settings: Settings, t: u8, content: &[u8], buffer: &mut [u8], start
     if !type_valid(kind, t, content) {
         return Written::Shape;
     }
-    if !data_bytes::are_allowed(content) {
-        return Written::Byte(data_bytes::first_forbidden(content));
+    if !settings::are_allowed(content) {
+        return Written::Byte(settings::first_forbidden(content));
     }
     match kind {
         Kind::Hybrid => Written::Block(hybrid::write_block(settings, t, content, buffer, start)),

@@ -6,7 +6,7 @@ use mathlib.Core.Path.{sym, _∙_}
 use borrow.Author.Tests.{not-true, not-false}
 use Rattle.receiver.proofs.Laws.{field-fits}
 use mathlib.Core.Path.{ap}
-use Rattle.data_bytes.specs.DataBytes.{allAllowed}
+use Rattle.settings.specs.DataBytes.{allAllowed}
 use Rattle.receiver.proofs.Laws.{header-forbidden, header-answers}
 
 read-header-requires : tie.Need-read-header-requires

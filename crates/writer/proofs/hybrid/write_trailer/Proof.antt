@@ -3,7 +3,7 @@ use lib.ListN.{length-set}
 use lib.Seq.{sets-eq}
 use Prim.Native.Nat.{_/_}
 use mathlib.Core.List.{[], _∷_}
-use Rattle.data_bytes.specs.DataBytes.{digit}
+use Rattle.settings.specs.DataBytes.{digit}
 use Rattle.block.specs.Format.{fiveDigits, threeDigits}
 use Rattle.writer.specs.Internal.{hybridTrailer}
 use borrow.Author.Needs.{needs}

@@ -1,0 +1,23 @@
+-- `block::buffer::block_content` meets its contract.
+use borrow.Author.Needs.{needs}
+use Rattle.block.proofs.BufferLaws.{content-part}
+use Rattle.block.proofs.buffer.block_content.Statement.{statement}
+use Rattle.block.proofs.buffer.block_content.Tie as tie
+
+data-offset-requires : tie.Need-data-offset-requires
+data-offset-requires c κs = search needs
+
+data-length-requires : tie.Need-data-length-requires
+data-length-requires c κs = search needs
+
+part-of-requires : tie.Need-part-of-requires
+part-of-requires c κs = search needs
+
+returns : tie.Need-returns
+returns c =
+    let a = c .before .before .before .before .args in
+    content-part (a .settings) (a .verdict) (a .buffer .now) _ (c .before .before .data-offset .result) (c .before .data-length .result) (c .before .before .data-offset .ensures) (c .before .data-length .ensures) (c .part-of .ensures)
+
+pub block-content-spec : {M : Type 1} → statement M
+block-content-spec =
+    tie.close (tie.spec data-offset-requires data-length-requires part-of-requires returns)

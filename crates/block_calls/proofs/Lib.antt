@@ -1,0 +1,4 @@
+pub mod ReaderLaws
+pub mod ReadLaws
+pub mod CheckLaws
+pub mod WriteLaws

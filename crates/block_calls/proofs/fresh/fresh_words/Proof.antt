@@ -1,0 +1,28 @@
+-- `giamuvich::fresh::fresh_words` meets its contract.
+use lib.ListN.{length}
+use borrow.Author.Tests.{lt-ltb, le-ltb}
+use borrow.Author.Needs.{needs}
+use Rattle.block_calls.specs.ReadCalls.{freshCall}
+use Rattle.block_calls.proofs.fresh.fresh_words.Statement.{statement}
+use Rattle.block_calls.proofs.fresh.fresh_words.Tie as tie
+
+returns : tie.Need-returns
+unfolding freshCall
+returns c = rw (lt-ltb (length (c .before .before .args .state .now)) 4 (c .if1 .taken))
+
+new-requires : tie.Need-new-requires
+new-requires c κs = search needs
+
+write-reader-requires : tie.Need-write-reader-requires
+write-reader-requires c κs = search needs
+
+same-length : tie.Need-same-length
+same-length c = search needs
+
+returns-2 : tie.Need-returns-2
+unfolding freshCall
+returns-2 c = rw (le-ltb (length (c .before .before .before .before .before .before .before .args .state .now)) 4 (c .before .before .before .before .before .if1 .left), c .before .before .write-reader .ensures, c .before .before .before .new .ensures)
+
+pub fresh-words-spec : {M : Type 1} → statement M
+fresh-words-spec =
+    tie.close (tie.spec returns new-requires write-reader-requires same-length returns-2)

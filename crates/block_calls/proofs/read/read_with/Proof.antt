@@ -1,0 +1,57 @@
+-- `block_calls::read::read_with` meets its contract.
+use borrow.Author.Needs.{needs}
+use Rattle.block_calls.proofs.ReadLaws.{read-known}
+use Rattle.block_calls.proofs.read.read_with.Statement.{statement}
+use Rattle.block_calls.proofs.read.read_with.Tie as tie
+
+read-reader-requires : tie.Need-read-reader-requires
+read-reader-requires c κs = search needs
+
+enum-known-reader : tie.Need-enum-known-reader
+enum-known-reader c = search needs
+
+enum-told : tie.Need-enum-told
+enum-told c = search needs
+
+same-length : tie.Need-same-length
+same-length c = search needs
+
+returns : tie.Need-returns
+returns c = rw (← (c .before .before .read-reader .ensures), c .enum-told .given .1)
+
+read-requires : tie.Need-read-requires
+read-requires c κs = search needs
+
+finish-requires : tie.Need-finish-requires
+finish-requires c κs = search needs
+
+same-length-2 : tie.Need-same-length-2
+same-length-2 c = search needs
+
+same-length-3 : tie.Need-same-length-3
+same-length-3 c = search needs
+
+same-length-4 : tie.Need-same-length-4
+same-length-4 c = search needs
+
+returns-2 : tie.Need-returns-2
+returns-2 c =
+    let a = c .before .before .before .before .before .before .before .before .before .before .before .before .before .before .before .before .before .before .before .before .args in
+    rw (← (c .before .before .before .before .before .before .before .before .before .before .before .before .before .before .read-reader .ensures), c .before .before .before .before .before .before .before .before .before .before .before .before .reader .given .1)
+    (read-known (a .settings) (a .state .now) (a .verdict .now) (c .before .before .before .before .before .before .before .before .before .read .last .1 .1 .1 .0) (c .before .before .before .before .before .before .before .before .before .read .result) _ (c .before .before .before .before .finish .result) _ _ (c .before .before .before .before .finish .ensures) (c .before .before .before .before .before .before .before .before .before .read .ensures))
+
+pub read-with-spec : {M : Type 1} → statement M
+read-with-spec =
+    tie.close
+    (tie.spec
+    read-reader-requires
+    enum-known-reader
+    enum-told
+    same-length
+    returns
+    read-requires
+    finish-requires
+    same-length-2
+    same-length-3
+    same-length-4
+    returns-2)

@@ -1,0 +1,74 @@
+-- `block_calls::read::read_words` meets its contract.
+use mathlib.Core.Path.{sym, _∙_}
+use borrow.Author.Tests.{not-true, not-false}
+use borrow.Author.Needs.{needs}
+use Rattle.block_calls.proofs.ReadLaws.{read-refused, read-few-state, read-few-verdict, read-few-buffer, read-done}
+use Rattle.block_calls.proofs.read.read_words.Statement.{statement}
+use Rattle.block_calls.proofs.read.read_words.Tie as tie
+
+enum-known-made : tie.Need-enum-known-made
+enum-known-made c = search needs
+
+enum-told : tie.Need-enum-told
+enum-told c = search needs
+
+returns : tie.Need-returns
+returns c =
+    let a = c .before .before .before .before .before .before .args in
+    rw (c .enum-told .given .1) (read-refused (a .state .now) (a .part .now) (a .buffer .now) (a .verdict .now))
+
+returns-2 : tie.Need-returns-2
+returns-2 c =
+    let a = c .before .before .before .before .before .before .before .before .args in
+    rw (c .before .before .made .given .1) (read-few-state _ (a .state .now) (a .part .now) (a .buffer .now) (a .verdict .now) (c .if1 .taken))
+
+returns-3 : tie.Need-returns-3
+returns-3 c =
+    let a = c .before .before .before .before .before .before .before .before .before .args in
+    rw (c .before .before .before .made .given .1) (read-few-verdict _ (a .state .now) (a .part .now) (a .buffer .now) (a .verdict .now) (c .before .if1 .left) (c .if2 .taken))
+
+buffer-fits-requires : tie.Need-buffer-fits-requires
+buffer-fits-requires c κs = search needs
+
+same-length : tie.Need-same-length
+same-length c = search needs
+
+returns-4 : tie.Need-returns-4
+returns-4 c =
+    let a = c .before .before .before .before .before .before .before .before .before .before .before .before .args in
+    rw (c .before .before .before .before .before .before .made .given .1) (read-few-buffer _ (a .state .now) (a .part .now) (a .buffer .now) (a .verdict .now) (c .before .before .before .before .if1 .left) (c .before .before .before .if2 .left) (sym (c .before .buffer-fits .ensures) ∙ not-true _ (c .if3 .taken)))
+
+read-with-requires : tie.Need-read-with-requires
+read-with-requires c κs = search needs
+
+same-length-2 : tie.Need-same-length-2
+same-length-2 c = search needs
+
+same-length-3 : tie.Need-same-length-3
+same-length-3 c = search needs
+
+same-length-4 : tie.Need-same-length-4
+same-length-4 c = search needs
+
+returns-5 : tie.Need-returns-5
+returns-5 c =
+    let a = c .before .before .before .before .before .before .before .before .before .before .before .before .before .before .before .before .before .before .before .before .before .before .args in
+    rw (c .before .before .before .before .before .before .before .before .before .before .before .before .before .before .before .before .made .given .1) (c .before .before .before .before .before .before .read-with .ensures ∙ read-done _ (a .state .now) (a .part .now) (a .buffer .now) (a .verdict .now) (c .before .before .before .before .before .before .before .before .before .before .before .before .before .before .if1 .left) (c .before .before .before .before .before .before .before .before .before .before .before .before .before .if2 .left) (sym (c .before .before .before .before .before .before .before .before .before .before .before .buffer-fits .ensures) ∙ not-false _ (c .before .before .before .before .before .before .before .before .before .before .if3 .left)))
+
+pub read-words-spec : {M : Type 1} → statement M
+read-words-spec =
+    tie.close
+    (tie.spec
+    enum-known-made
+    enum-told
+    returns
+    returns-2
+    returns-3
+    buffer-fits-requires
+    same-length
+    returns-4
+    read-with-requires
+    same-length-2
+    same-length-3
+    same-length-4
+    returns-5)

@@ -1,0 +1,105 @@
+-- `block_calls::reader_words::write_verdict` meets its contract.
+use mathlib.Core.Path.{_∙_}
+use mathlib.Core.List.{[], _∷_}
+use native.Mathlib.Omega.{arith}
+use lib.ListN.{length-set}
+use borrow.Author.Needs.{needs}
+use Rattle.lists.proofs.Over.{few, written-over}
+use Rattle.block_calls.specs.ReaderWords.{verdictWords}
+use Rattle.block_calls.proofs.reader_words.write_verdict.Statement.{statement}
+use Rattle.block_calls.proofs.reader_words.write_verdict.Tie as tie
+
+returns : tie.Need-returns
+unfolding verdictWords
+returns c = few (c .before .before .args .words .now) _ (c .if1 .taken)
+
+slice-write-words : tie.Need-slice-write-words
+slice-write-words c = omega arith
+
+word-requires : tie.Need-word-requires
+word-requires c κs = search needs
+
+slice-write-words-2 : tie.Need-slice-write-words-2
+slice-write-words-2 c = simp length-set (omega arith)
+
+number-requires : tie.Need-number-requires
+number-requires c κs = search needs
+
+slice-write-words-3 : tie.Need-slice-write-words-3
+slice-write-words-3 c = simp length-set (omega arith)
+
+forbidden-offset-requires : tie.Need-forbidden-offset-requires
+forbidden-offset-requires c κs = search needs
+
+word-requires-2 : tie.Need-word-requires-2
+word-requires-2 c κs = search needs
+
+slice-write-words-4 : tie.Need-slice-write-words-4
+slice-write-words-4 c = simp length-set (omega arith)
+
+block-type-requires : tie.Need-block-type-requires
+block-type-requires c κs = search needs
+
+byte-word-requires : tie.Need-byte-word-requires
+byte-word-requires c κs = search needs
+
+slice-write-words-5 : tie.Need-slice-write-words-5
+slice-write-words-5 c = simp length-set (omega arith)
+
+data-start-requires : tie.Need-data-start-requires
+data-start-requires c κs = search needs
+
+word-requires-3 : tie.Need-word-requires-3
+word-requires-3 c κs = search needs
+
+slice-write-words-6 : tie.Need-slice-write-words-6
+slice-write-words-6 c = simp length-set (omega arith)
+
+data-length-requires : tie.Need-data-length-requires
+data-length-requires c κs = search needs
+
+word-requires-4 : tie.Need-word-requires-4
+word-requires-4 c κs = search needs
+
+slice-write-words-7 : tie.Need-slice-write-words-7
+slice-write-words-7 c = simp length-set (omega arith)
+
+word-requires-5 : tie.Need-word-requires-5
+word-requires-5 c κs = search needs
+
+slice-write-words-8 : tie.Need-slice-write-words-8
+slice-write-words-8 c = simp length-set (omega arith)
+
+same-length : tie.Need-same-length
+same-length c = simp length-set
+
+returns-2 : tie.Need-returns-2
+unfolding verdictWords
+returns-2 c = written-over (c .before .before .before .before .before .before .before .before .before .before .before .before .before .args .words .now) (_ ∷ _ ∷ _ ∷ _ ∷ _ ∷ _ ∷ _ ∷ _ ∷ []) (c .before .before .before .before .before .before .before .before .before .before .before .if1 .left) ∙ rw (c .before .before .before .before .before .before .before .before .before .before .word .ensures, c .before .before .before .before .before .before .before .before .before .number .ensures, c .before .before .before .before .before .before .before .word2 .ensures, c .before .before .before .before .before .before .before .before .forbidden-offset .ensures, c .before .before .before .before .before .byte-word .ensures, c .before .before .before .before .before .before .block-type .ensures, c .before .before .before .word3 .ensures, c .before .before .before .before .data-start .ensures, c .before .word4 .ensures, c .before .before .data-length .ensures, c .word5 .ensures)
+
+pub write-verdict-spec : {M : Type 1} → statement M
+write-verdict-spec =
+    tie.close
+    (tie.spec
+    returns
+    slice-write-words
+    word-requires
+    slice-write-words-2
+    number-requires
+    slice-write-words-3
+    forbidden-offset-requires
+    word-requires-2
+    slice-write-words-4
+    block-type-requires
+    byte-word-requires
+    slice-write-words-5
+    data-start-requires
+    word-requires-3
+    slice-write-words-6
+    data-length-requires
+    word-requires-4
+    slice-write-words-7
+    word-requires-5
+    slice-write-words-8
+    same-length
+    returns-2)

@@ -1,0 +1,53 @@
+-- `block_calls::write::write_words` meets its contract.
+use borrow.Author.Needs.{needs}
+use Rattle.block_calls.proofs.WriteLaws.{write-refused, write-few, write-done}
+use Rattle.block_calls.proofs.write.write_words.Statement.{statement}
+use Rattle.block_calls.proofs.write.write_words.Tie as tie
+
+enum-known-made : tie.Need-enum-known-made
+enum-known-made c = search needs
+
+enum-told : tie.Need-enum-told
+enum-told c = search needs
+
+returns : tie.Need-returns
+returns c = rw (c .enum-told .given .1) (write-refused _ (c .before .before .before .before .before .args .content .now) (c .before .before .before .before .before .args .buffer .now) (c .before .before .before .before .before .args .start) (c .before .before .before .before .before .args .report .now))
+
+returns-2 : tie.Need-returns-2
+returns-2 c = rw (c .before .before .made .given .1) (write-few _ _ (c .before .before .before .before .before .before .before .args .content .now) (c .before .before .before .before .before .before .before .args .buffer .now) (c .before .before .before .before .before .before .before .args .start) (c .before .before .before .before .before .before .before .args .report .now) (c .if1 .taken))
+
+type-byte-requires : tie.Need-type-byte-requires
+type-byte-requires c κs = search needs
+
+write-requires : tie.Need-write-requires
+write-requires c κs = search needs
+
+report-written-requires : tie.Need-report-written-requires
+report-written-requires c κs = search needs
+
+same-length : tie.Need-same-length
+same-length c = search needs
+
+same-length-2 : tie.Need-same-length-2
+same-length-2 c = search needs
+
+returns-3 : tie.Need-returns-3
+returns-3 c =
+    let a = c .before .before .before .before .before .before .before .before .before .before .before .before .before .before .before .before .args in
+    rw (c .before .before .before .before .before .before .before .before .before .before .before .made .given .1) (write-done (c .before .before .before .before .before .before .before .before .before .before .before .made .given .0 .0) (a .t) (a .content .now) (a .buffer .now) (a .start) (a .report .now) (c .before .before .before .before .before .before .write .last .1 .1 .1 .0) (c .before .before .report-written .last .1 .0) (c .before .before .before .before .before .before .write .result) (c .before .before .report-written .result)
+    (c .before .before .before .before .before .before .before .before .before .if1 .left) (c .before .before .report-written .ensures) (rw (c .before .before .before .before .before .before .before .before .type-byte .ensures) at (c .before .before .before .before .before .before .write .ensures)))
+
+pub write-words-spec : {M : Type 1} → statement M
+write-words-spec =
+    tie.close
+    (tie.spec
+    enum-known-made
+    enum-told
+    returns
+    returns-2
+    type-byte-requires
+    write-requires
+    report-written-requires
+    same-length
+    same-length-2
+    returns-3)

@@ -1,0 +1,4 @@
+pub mod ReaderWords
+pub mod ReadCalls
+pub mod CheckCalls
+pub mod WriteCalls

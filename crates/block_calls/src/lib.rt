@@ -1,0 +1,20 @@
+// What the C functions for blocks do, on slices and settings that are made: the words are looked at, the library is called,
+// and its answer is written into the words.
+mod check;
+mod fresh;
+mod read;
+mod reader_words;
+mod write;
+
+use stream::Reader;
+pub use check::check_words;
+pub use fresh::fresh_words;
+pub use read::read_words;
+pub use write::report_written;
+pub use write::write_words;
+
+// What a reader's words encode.
+pub enum Decoded {
+    Unknown,
+    Known(Reader),
+}

@@ -1,0 +1,107 @@
+// Document 01, 'Cases by hand', the others that concern blocks: data of D and D + 1 bytes, byte 7F, empty input. A line
+// for each: what was tried, and the numbers that came.
+use crate::print::print_number;
+use crate::print::print_text;
+use settings::Made;
+use settings::Settings;
+use stream::Answer;
+use stream::Reader;
+use whole_block::Checked;
+use writer::Written;
+
+const DATA_LIMIT: usize = 16;
+
+fn print_refusal(number: u64, offset: usize) -> usize {
+    print_number(number);
+    print_number(offset as u64);
+    0
+}
+
+// Prints the number and the offset of a forbidden byte, and returns the length of the block written.
+fn print_written(written: Written) -> usize {
+    match written {
+        Written::Setting => print_refusal(1, 0),
+        Written::TooShort => print_refusal(2, 0),
+        Written::Long => print_refusal(4, 0),
+        Written::Shape => print_refusal(5, 0),
+        Written::Byte(offset) => print_refusal(3, offset),
+        Written::Block(length) => {
+            print_number(0);
+            print_number(0);
+            length
+        }
+    }
+}
+
+// Writes a block of this data, and checks what was written: the writer's number and offset, then the check's number, offset
+// and data length.
+fn write_and_check(settings: Settings, content: &[u8], buffer: &mut [u8]) {
+    let written = writer::write(settings, 68, content, buffer, 0);
+    let length = print_written(written);
+    if 0 < length {
+        if length <= buffer.len() {
+            print_check(settings, &buffer[0..length]);
+        }
+    }
+    print_text(b"\n");
+}
+
+fn print_check(settings: Settings, bytes: &[u8]) {
+    let Checked::Judged(verdict) = whole_block::check_block(settings, bytes) else {
+        print_number(1);
+        return;
+    };
+    print_number(verdict.number());
+    print_number(verdict.forbidden_offset() as u64);
+    print_number(verdict.data_length() as u64);
+}
+
+fn print_reading(settings: Settings, part: &[u8]) {
+    let mut buffer = [0u8; 64];
+    let reading = stream::read(settings, Reader::new(), part, &mut buffer);
+    let answer = reading.answer;
+    match answer {
+        Answer::Setting => print_text(b" setting"),
+        Answer::TooShort => print_text(b" too short"),
+        Answer::State => print_text(b" state"),
+        Answer::Pending => print_text(b" pending"),
+        Answer::Found(_, verdict) => print_number(verdict.number()),
+    }
+    print_number(reading.used as u64);
+    print_text(b"\n");
+}
+
+fn run_cases(settings: Settings) {
+    let mut buffer = [0u8; 64];
+    let full = [65u8; DATA_LIMIT];
+    print_text(b"data of D bytes:");
+    write_and_check(settings, &full, &mut buffer);
+    let longer = [65u8; DATA_LIMIT + 1];
+    print_text(b"data of D + 1 bytes:");
+    write_and_check(settings, &longer, &mut buffer);
+    print_text(b"a data byte 7F, written:");
+    write_and_check(settings, b"AB\x7f", &mut buffer);
+    print_text(b"a data byte 7F, checked:");
+    print_check(settings, b"\x0bD23\rAB\x7f00008019\x1c\r");
+    print_text(b"\n");
+    print_text(b"a block of D + 1 bytes, checked:");
+    print_check(settings, b"\x0bD23\rAAAAAAAAAAAAAAAAA00022002\x1c\r");
+    print_text(b"\n");
+    print_text(b"empty input, checked:");
+    print_check(settings, b"");
+    print_text(b"\n");
+    print_text(b"empty input, read:");
+    print_reading(settings, b"");
+}
+
+pub(crate) fn run() {
+    let made = Settings::hybrid(
+        Settings::START_BLOCK as u64,
+        Settings::END_BLOCK as u64,
+        DATA_LIMIT as u64,
+    );
+    let Made::Valid(settings) = made else {
+        return;
+    };
+    run_cases(settings);
+}

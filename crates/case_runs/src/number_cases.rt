@@ -1,0 +1,122 @@
+// Document 01, 'Cases by hand', the others that concern sequence numbers: number 999,999,999,999,998 and one more; submit of
+// f + 1 first. A line for each: what was tried, and what came.
+use crate::print::print_number;
+use crate::print::print_text;
+use receiver::Application;
+use receiver::Expected;
+use receiver::Transaction;
+use sender::Sender;
+use sender::SenderMade;
+use settings::Made;
+use settings::Settings;
+use verdict::Verdict;
+
+const DATA_LIMIT: usize = 128;
+// Where the MSA segment of a reply to a control ID of 15 bytes stands, without its CR.
+const MSA_START: usize = 48;
+
+const MSA_END: usize = 87;
+
+const GREATEST: u64 = 999999999999998;
+
+const TRANSACTION_6: [u8; 31] = *b"MSH|^~\\&|||||||ADT|6|P|2.3.1|6\r";
+
+const TRANSACTION_7: [u8; 31] = *b"MSH|^~\\&|||||||ADT|7|P|2.3.1|7\r";
+
+const TRANSACTION_GREATEST: [u8; 59] =
+    *b"MSH|^~\\&|||||||ADT|999999999999998|P|2.3.1|999999999999998\r";
+
+const ONE_MORE: [u8; 59] = *b"MSH|^~\\&|||||||ADT|999999999999999|P|2.3.1|999999999999999\r";
+
+fn print_transaction(transaction: Transaction) {
+    match transaction {
+        Transaction::NoTransaction => print_text(b" none"),
+        Transaction::Numbered(n) => print_number(n),
+    }
+}
+
+fn print_expected(expected: Expected) {
+    match expected {
+        Expected::Unknown => print_text(b" none"),
+        Expected::Next(n) => print_number(n),
+    }
+}
+
+// The act's number, the transaction to persist, the expected number then, and the end of the answer: MSA-1 to MSA-4.
+fn print_received(settings: Settings, expected: Expected, content: &[u8]) -> Expected {
+    let mut buffer = [0u8; DATA_LIMIT + 15];
+    let received = receiver::receive(
+        settings,
+        Application::Accepts,
+        expected,
+        Verdict::Accepted(68, content.len()),
+        content,
+        &mut buffer,
+        0,
+    );
+    let persisted = received.persisted;
+    let then = persisted.expected;
+    let transaction = persisted.transaction;
+    print_number(received.number);
+    print_transaction(transaction);
+    print_expected(then);
+    print_text(b" ");
+    print_acknowledgment(&buffer);
+    print_text(b"\n");
+    then
+}
+
+fn print_acknowledgment(reply: &[u8]) {
+    if MSA_END <= reply.len() {
+        print_text(&reply[MSA_START..MSA_END]);
+    }
+}
+
+fn run_receiver(settings: Settings) {
+    print_text(b"received 999999999999998:");
+    let expected = print_received(settings, Expected::Unknown, &TRANSACTION_GREATEST);
+    print_text(b"received one more:");
+    let unused = print_received(settings, expected, &ONE_MORE);
+}
+
+// The act's number and the last number submitted then.
+fn print_submitted(sender: Sender, message: &[u8]) -> Sender {
+    let acted = sender::submit_transaction(DATA_LIMIT, sender, message);
+    let then = acted.sender;
+    let persisted = then.persisted;
+    print_number(acted.number);
+    print_number(persisted.last);
+    print_text(b"\n");
+    then
+}
+
+fn run_first(first: u64, message: &[u8], next: &[u8]) {
+    let SenderMade::Made(fresh) = sender::new_sender(first) else {
+        print_text(b" refused\n");
+        return;
+    };
+    let then = print_submitted(fresh, message);
+    print_text(b"then:");
+    let unused = print_submitted(then, next);
+}
+
+pub(crate) fn run() {
+    print_text(b"resends where nothing else is said:");
+    print_number(Sender::RESENDS);
+    print_text(b"\n");
+    let made = Settings::hybrid(
+        Settings::START_BLOCK as u64,
+        Settings::END_BLOCK as u64,
+        DATA_LIMIT as u64,
+    );
+    let Made::Valid(settings) = made else {
+        return;
+    };
+    run_receiver(settings);
+    print_text(b"first number 999999999999998, submitted 999999999999998:");
+    run_first(GREATEST, &TRANSACTION_GREATEST, &ONE_MORE);
+    print_text(b"first number 999999999999999:");
+    run_first(GREATEST + 1, &ONE_MORE, &ONE_MORE);
+    print_text(b"first number 6, submitted 7:");
+    run_first(6, &TRANSACTION_7, &TRANSACTION_6);
+}

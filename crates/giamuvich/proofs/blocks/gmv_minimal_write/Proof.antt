@@ -1,0 +1,23 @@
+-- `giamuvich::blocks::gmv_minimal_write` meets its contract.
+use borrow.Author.Needs.{needs}
+use Rattle.giamuvich.proofs.blocks.gmv_minimal_write.Statement.{statement}
+use Rattle.giamuvich.proofs.blocks.gmv_minimal_write.Tie as tie
+
+minimal-requires : tie.Need-minimal-requires
+minimal-requires c κs = search needs
+
+write-words-requires : tie.Need-write-words-requires
+write-words-requires c κs = search needs
+
+same-length : tie.Need-same-length
+same-length c = search needs
+
+same-length-2 : tie.Need-same-length-2
+same-length-2 c = search needs
+
+returns : tie.Need-returns
+returns c = rw (c .before .before .before .before .before .before .before .minimal .ensures) at (c .before .before .before .before .write-words .ensures)
+
+pub gmv-minimal-write-spec : {M : Type 1} → statement M
+gmv-minimal-write-spec =
+    tie.close (tie.spec minimal-requires write-words-requires same-length same-length-2 returns)

@@ -1,0 +1,33 @@
+-- `giamuvich::receiver::gmv_hybrid_receive` meets its contract.
+use borrow.Author.Needs.{needs}
+use Rattle.giamuvich.proofs.receiver.gmv_hybrid_receive.Statement.{statement}
+use Rattle.giamuvich.proofs.receiver.gmv_hybrid_receive.Tie as tie
+
+hybrid-requires : tie.Need-hybrid-requires
+hybrid-requires c κs = search needs
+
+received-words-requires : tie.Need-received-words-requires
+received-words-requires c κs = search needs
+
+same-length : tie.Need-same-length
+same-length c = search needs
+
+same-length-2 : tie.Need-same-length-2
+same-length-2 c = search needs
+
+same-length-3 : tie.Need-same-length-3
+same-length-3 c = search needs
+
+returns : tie.Need-returns
+returns c = rw (c .before .before .before .before .before .before .before .before .before .before .hybrid .ensures) at (c .before .before .before .before .before .before .received-words .ensures)
+
+pub gmv-hybrid-receive-spec : {M : Type 1} → statement M
+gmv-hybrid-receive-spec =
+    tie.close
+    (tie.spec
+    hybrid-requires
+    received-words-requires
+    same-length
+    same-length-2
+    same-length-3
+    returns)

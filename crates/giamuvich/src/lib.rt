@@ -1,0 +1,40 @@
+// The C functions (include/giamuvich.h): plain numbers, byte slices and words that the driver lends. Each makes the settings
+// where it has any, and calls the function of the same act in the crate of its layer's calls.
+mod blocks;
+mod control;
+mod fields;
+mod messages;
+mod receiver;
+mod sender;
+mod station;
+
+pub use blocks::gmv_hybrid_check;
+pub use blocks::gmv_hybrid_read;
+pub use blocks::gmv_hybrid_write;
+pub use blocks::gmv_minimal_check;
+pub use blocks::gmv_minimal_read;
+pub use blocks::gmv_minimal_write;
+pub use blocks::gmv_reader_fresh;
+pub use control::gmv_hybrid_control_block;
+pub use control::gmv_minimal_control_block;
+pub use fields::gmv_field_next;
+pub use messages::gmv_answer_read;
+pub use messages::gmv_answer_write;
+pub use messages::gmv_control_write;
+pub use messages::gmv_header_read;
+pub use receiver::gmv_hybrid_receive;
+pub use receiver::gmv_minimal_receive;
+pub use receiver::gmv_receiver_fresh;
+pub use sender::gmv_sender_block;
+pub use sender::gmv_sender_ended;
+pub use sender::gmv_sender_fresh;
+pub use sender::gmv_sender_open;
+pub use sender::gmv_sender_reset;
+pub use sender::gmv_sender_submit;
+pub use sender::gmv_sender_timer;
+pub use station::gmv_station_bad;
+pub use station::gmv_station_block;
+pub use station::gmv_station_end;
+pub use station::gmv_station_enquiry;
+pub use station::gmv_station_fresh;
+pub use station::gmv_station_open;

@@ -1,0 +1,68 @@
+// The receiver.
+use settings::Settings;
+ghost use mathlib.Core.Path.{_≡_};
+ghost use Rattle.settings.specs.Settings.{hybridOf, minimalOf};
+ghost use Rattle.receiver_calls.specs.ReceiverCalls.{fresh, freshCall, called, receiveCall};
+
+#[no_mangle]
+pub extern "C" fn gmv_receiver_fresh(state: &mut [u64]) -> u64
+    ensures { λ r. ⌜ fresh r (now (state .exit)) ≡ freshCall (now (state .entry)) ⌝ }
+{
+    receiver_calls::fresh_receiver_words(state)
+}
+
+#[no_mangle]
+pub extern "C" fn gmv_hybrid_receive(
+    start_block: u64,
+    end_block: u64,
+    data_limit: u64,
+    application: u64,
+    state: &mut [u64],
+    block_number: u64,
+    block_type: u64,
+    content: &[u8],
+    buffer: &mut [u8],
+    start: usize,
+    report: &mut [u64],
+) -> u64
+    ensures { λ r. ⌜ called r (now (state .exit)) (now (buffer .exit)) (now (report .exit)) ≡ receiveCall (hybridOf «start_block» «end_block» «data_limit») application (now (state .entry)) «block_number» «block_type» (now (content .entry)) (now (buffer .entry)) start (now (report .entry)) ⌝ }
+{
+    receiver_calls::received_words(
+        Settings::hybrid(start_block, end_block, data_limit),
+        application,
+        state,
+        block_number,
+        block_type,
+        content,
+        buffer,
+        start,
+        report,
+    )
+}
+
+#[no_mangle]
+pub extern "C" fn gmv_minimal_receive(
+    data_limit: u64,
+    application: u64,
+    state: &mut [u64],
+    block_number: u64,
+    block_type: u64,
+    content: &[u8],
+    buffer: &mut [u8],
+    start: usize,
+    report: &mut [u64],
+) -> u64
+    ensures { λ r. ⌜ called r (now (state .exit)) (now (buffer .exit)) (now (report .exit)) ≡ receiveCall (minimalOf «data_limit») application (now (state .entry)) «block_number» «block_type» (now (content .entry)) (now (buffer .entry)) start (now (report .entry)) ⌝ }
+{
+    receiver_calls::received_words(
+        Settings::minimal(data_limit),
+        application,
+        state,
+        block_number,
+        block_type,
+        content,
+        buffer,
+        start,
+        report,
+    )
+}

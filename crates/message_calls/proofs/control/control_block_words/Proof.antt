@@ -1,0 +1,99 @@
+-- `message_calls::control::control_block_words` meets its contract.
+use borrow.Author.Needs.{needs}
+use Rattle.message_calls.proofs.ControlLaws.{call-is, no-link, few-words, all-done}
+use Rattle.block_calls.proofs.WriteLaws.{finished-with}
+use borrow.Author.Tests.{not-true, not-false}
+use mathlib.Core.Path.{refl, sym, _∙_}
+use Rattle.message_calls.proofs.control.control_block_words.Statement.{statement}
+use Rattle.message_calls.proofs.control.control_block_words.Tie as tie
+
+enum-known-made : tie.Need-enum-known-made
+enum-known-made c = search needs
+
+enum-told : tie.Need-enum-told
+enum-told c = search needs
+
+returns : tie.Need-returns
+returns c = let a = c .before .before .before .before .before .args in call-is (a .letters .now) (a .number) (a .buffer .now) (a .start) (a .report .now) (a .made) _ _ _ (c .enum-told .given .1) refl refl
+
+from-letters-requires : tie.Need-from-letters-requires
+from-letters-requires c κs = search needs
+
+enum-known-name : tie.Need-enum-known-name
+enum-known-name c = search needs
+
+enum-told-2 : tie.Need-enum-told-2
+enum-told-2 c = search needs
+
+returns-2 : tie.Need-returns-2
+returns-2 c = let a = c .before .before .before .before .before .before .before .before .before .args in call-is (a .letters .now) (a .number) (a .buffer .now) (a .start) (a .report .now) (a .made) _ _ _ (c .before .before .before .before .made .given .1) (sym (c .before .before .from-letters .ensures) ∙ c .enum-told2 .given .1) refl
+
+control-of-requires : tie.Need-control-of-requires
+control-of-requires c κs = search needs
+
+enum-known-control : tie.Need-enum-known-control
+enum-known-control c = search needs
+
+enum-told-3 : tie.Need-enum-told-3
+enum-told-3 c = search needs
+
+returns-3 : tie.Need-returns-3
+returns-3 c = let a = c .before .before .before .before .before .before .before .before .before .before .before .before .before .args in call-is (a .letters .now) (a .number) (a .buffer .now) (a .start) (a .report .now) (a .made) _ _ _ (c .before .before .before .before .before .before .before .before .made .given .1) (sym (c .before .before .before .before .before .before .from-letters .ensures) ∙ c .before .before .before .before .name .given .1) (sym (c .before .before .control-of .ensures) ∙ c .enum-told3 .given .1)
+
+is-link-requires : tie.Need-is-link-requires
+is-link-requires c κs = search needs
+
+returns-4 : tie.Need-returns-4
+returns-4 c =
+    let a = c .before .before .before .before .before .before .before .before .before .before .before .before .before .before .before .before .args in
+    no-link (c .before .before .before .before .before .before .before .before .before .before .before .made .given .0 .0) (c .before .before .before .before .before .before .before .name .given .0 .0) (c .before .before .before .control .given .0 .0) (a .buffer .now) (a .start) (a .report .now) (sym (c .before .is-link .ensures) ∙ not-true _ (c .if1 .taken))
+    ∙ call-is (a .letters .now) (a .number) (a .buffer .now) (a .start) (a .report .now) (a .made) _ _ _ (c .before .before .before .before .before .before .before .before .before .before .before .made .given .1) (sym (c .before .before .before .before .before .before .before .before .before .from-letters .ensures) ∙ c .before .before .before .before .before .before .before .name .given .1) (sym (c .before .before .before .before .before .control-of .ensures) ∙ c .before .before .before .control .given .1)
+
+returns-5 : tie.Need-returns-5
+returns-5 c =
+    let a = c .before .before .before .before .before .before .before .before .before .before .before .before .before .before .before .before .before .args in
+    few-words (c .before .before .before .before .before .before .before .before .before .before .before .before .made .given .0 .0) (c .before .before .before .before .before .before .before .before .name .given .0 .0) (c .before .before .before .before .control .given .0 .0) (a .buffer .now) (a .start) (a .report .now) (sym (c .before .before .is-link .ensures) ∙ not-false _ (c .before .if1 .left)) (c .if2 .taken)
+    ∙ call-is (a .letters .now) (a .number) (a .buffer .now) (a .start) (a .report .now) (a .made) _ _ _ (c .before .before .before .before .before .before .before .before .before .before .before .before .made .given .1) (sym (c .before .before .before .before .before .before .before .before .before .before .from-letters .ensures) ∙ c .before .before .before .before .before .before .before .before .name .given .1) (sym (c .before .before .before .before .before .before .control-of .ensures) ∙ c .before .before .before .before .control .given .1)
+
+write-control-block-requires : tie.Need-write-control-block-requires
+write-control-block-requires c κs = search needs
+
+report-written-requires : tie.Need-report-written-requires
+report-written-requires c κs = search needs
+
+same-length : tie.Need-same-length
+same-length c = search needs
+
+same-length-2 : tie.Need-same-length-2
+same-length-2 c = search needs
+
+returns-6 : tie.Need-returns-6
+returns-6 c =
+    let a = c .before .before .before .before .before .before .before .before .before .before .before .before .before .before .before .before .before .before .before .before .before .before .before .before .before .args in
+    finished-with (a .report .now) _ _ (c .before .before .before .before .before .before .write-control-block .result) (c .before .before .report-written .result) _ (c .before .before .report-written .ensures) (c .before .before .before .before .before .before .write-control-block .ensures)
+    ∙ all-done (c .before .before .before .before .before .before .before .before .before .before .before .before .before .before .before .before .before .before .before .before .made .given .0 .0) (c .before .before .before .before .before .before .before .before .before .before .before .before .before .before .before .before .name .given .0 .0) (c .before .before .before .before .before .before .before .before .before .before .before .before .control .given .0 .0) (a .buffer .now) (a .start) (a .report .now) (sym (c .before .before .before .before .before .before .before .before .before .before .is-link .ensures) ∙ not-false _ (c .before .before .before .before .before .before .before .before .before .if1 .left)) (c .before .before .before .before .before .before .before .before .if2 .left)
+    ∙ call-is (a .letters .now) (a .number) (a .buffer .now) (a .start) (a .report .now) (a .made) _ _ _ (c .before .before .before .before .before .before .before .before .before .before .before .before .before .before .before .before .before .before .before .before .made .given .1) (sym (c .before .before .before .before .before .before .before .before .before .before .before .before .before .before .before .before .before .before .from-letters .ensures) ∙ c .before .before .before .before .before .before .before .before .before .before .before .before .before .before .before .before .name .given .1) (sym (c .before .before .before .before .before .before .before .before .before .before .before .before .before .before .control-of .ensures) ∙ c .before .before .before .before .before .before .before .before .before .before .before .before .control .given .1)
+
+pub control-block-words-spec : {M : Type 1} → statement M
+control-block-words-spec =
+    tie.close
+    (tie.spec
+    enum-known-made
+    enum-told
+    returns
+    from-letters-requires
+    enum-known-name
+    enum-told-2
+    returns-2
+    control-of-requires
+    enum-known-control
+    enum-told-3
+    returns-3
+    is-link-requires
+    returns-4
+    returns-5
+    write-control-block-requires
+    report-written-requires
+    same-length
+    same-length-2
+    returns-6)
