@@ -351,22 +351,19 @@ uint64_t gmv_control_write(const uint8_t *type, size_t type_length, uint64_t num
  * Persisted is what a crash and a power cut leave (HOST-34).
  *
  * The driver's duties at both ends, besides memory. They are needed so that each transaction is stored
- * once and in order: docs/HOST.md says why, and docs/LINK.md has the theorem.
+ * once and in order: docs/LINK.md has the theorem. Each is said here in short; docs/HOST.md has it
+ * whole, with its reason.
  *   HOST-13  both ends have the same settings of blocks, and pass the same ones in every call,
- *   HOST-27  the line is empty in both directions at each new circuit, the tenancy's first too, and
- *            after a crash of either end. On TCP bytes of the old connection can still be unread when
- *            the new one is there: they are dropped. A plain serial device, where no hangup reaches
- *            the other end, does not keep this (HOST-29),
- *   HOST-28  a TCP connection that is ended is reset (SO_LINGER, 0 seconds), so that the system drops
- *            what was written and has not arrived,
+ *   HOST-27  a new circuit, and either end after a crash, finds the line empty in both directions: what
+ *            is still unread of an old connection is dropped (a plain serial device does not keep this,
+ *            HOST-29),
+ *   HOST-28  a TCP connection that is ended is reset (SO_LINGER, 0 seconds),
  *   HOST-12  at each new circuit the reader starts afresh (gmv_reader_fresh),
- *   HOST-31  when a circuit ends, and after a crash, what is not done is dropped: a reply not yet
- *            sent, sends named and not yet written, blocks read and not yet acted on,
- *   HOST-35  a call changes the state in memory first: a driver that cannot persist it sends nothing,
- *            also nothing that was decided or named before, ends the circuit and goes on from what is
- *            persisted, as after a crash,
- *   HOST-36  what is found at a start, the log too, is made durable before anything rests on it: an
- *            earlier process may have ended before it was (a renamed file whose folder is not synced),
+ *   HOST-31  replies not yet sent, sends not yet written and blocks not yet acted on are dropped with
+ *            their circuit, and by a crash,
+ *   HOST-35  a call changes the state in memory: a driver that cannot persist it sends nothing more,
+ *            ends the circuit and goes on from what is persisted, as after a crash,
+ *   HOST-36  what is found at a start, the log too, is made durable before anything rests on it,
  *   HOST-39  each tenant begins with a new sender (gmv_sender_fresh) and a log of its own. */
 
 /* ---- The receiver of sequence numbers ----
@@ -374,12 +371,10 @@ uint64_t gmv_control_write(const uint8_t *type, size_t type_length, uint64_t num
  * The driver's duties besides those of both ends:
  *   HOST-15, HOST-16  the state and the transaction named in the report are persisted, as one act,
  *            before the reply goes out,
- *   HOST-17  one block at a time: the reply to a block is decided after the state of the block before
- *            it is persisted,
- *   HOST-18  blocks are offered in the order in which they were read; one that is refused is offered
- *            again before any later one, or dropped,
- *   HOST-2   the reply buffer is not the reader's buffer: the data of the block still lies in that,
- *   HOST-19  of a refused block the words of the verdict are passed as they are (type 0, length 0). */
+ *   HOST-17  and before the next block is decided,
+ *   HOST-18  blocks are offered in the order in which they were read; a refused one is offered again
+ *            first, or dropped,
+ *   HOST-2   the reply buffer is not the reader's buffer: the data of the block still lies in that. */
 
 /* The words of a receiver's state. All of it is persisted. */
 enum {
@@ -390,7 +385,7 @@ enum {
 /* The words of a receiver's report. */
 enum {
     GMV_RECEIVED_TRANSACTION = 0,  /* the number of the transaction to persist with the state (its
-                                      message is the block's data as it came); 0: none */
+                                      message is the block's data as it came: HOST-19); 0: none */
     GMV_RECEIVED_REPLY_LENGTH = 1, /* the bytes of the reply block; 0: no reply */
     GMV_RECEIVED_BLOCK = 2,        /* the block's number: 0, or 3 to 9 */
     GMV_RECEIVED_WORDS = 3
@@ -404,7 +399,8 @@ uint64_t gmv_receiver_fresh(uint64_t *state, size_t state_words);
 /* The receiver's act on a block that its reader gave.
  *
  * block_number is the verdict's number (0 accepted, or 3 to 8), block_type its type, and data the
- * data of an accepted block. data_limit is at least 128.
+ * data of an accepted block; of a refused block the words of the verdict are passed as they are (type
+ * 0, length 0). data_limit is at least 128.
  *
  * application is the application's verdict on a transaction that is due, GMV_CODE_AA or GMV_CODE_AE
  * (it is looked at only for such a one, but must be one of the two). To ask the application about
@@ -455,18 +451,13 @@ uint64_t gmv_minimal_receive(uint64_t data_limit,
  * The driver's duties besides those of both ends:
  *   HOST-21  the first GMV_SENDER_PERSISTED_WORDS words of the state are persisted, as one act, before
  *            the next block goes out,
- *   HOST-20  a message is persisted in the log before the state that counts it as submitted, is the
- *            only one of its number, and stays there until the persisted GMV_SENDER_DELIVERED has
- *            passed it (HOST-40); while frozen nothing can be submitted (11), and the host keeps what
- *            it has,
- *   HOST-22  what a report names is sent at once, in the order named; an older send that is not yet
- *            written may be dropped for a newer one; a block of which a part is written is finished, or
- *            the circuit is ended,
+ *   HOST-20, HOST-40  a message, one for each number, is persisted in the log before the state that
+ *            counts it as submitted, until the persisted GMV_SENDER_DELIVERED has passed it,
+ *   HOST-22  what a report names is sent at once, in the order named, each block whole,
  *   HOST-23  before the first circuit is opened the control block is written once, to try it: a bad
  *            type is refused only there (1),
  *   HOST-24  each block that the reader finds on an open circuit is reported, a refused one too,
- *   HOST-41  the timer is started, or started anew, at each send that a report names, goes on where a
- *            report names none (a dropped answer among them), and is stopped where nothing waits,
+ *   HOST-41  the timer runs anew from each send that a report names, as long as something waits,
  *   HOST-32  after GMV_EVENT_ABANDONED and GMV_EVENT_FROZE the circuit has ended for the sender: the
  *            driver closes the line, and does not call gmv_sender_ended (it would answer 11),
  *   HOST-26  the type of control messages and resends are the same in every call of one sender. */
@@ -639,14 +630,12 @@ uint64_t gmv_minimal_control_block(uint64_t data_limit,
  * 0 after 7, and holds the text of the message that is not yet complete.
  *
  * The driver's duties besides memory:
- *   HOST-45  it frames the units that come from the line, checks each block (TERM, BCC, text length,
- *            the character that ends it), and reports each unit once, in the order in which they came;
- *            a block that is cut off (Timer B) is discarded and not reported,
+ *   HOST-45  it frames the units that come from the line, checks each block, and reports each unit
+ *            once, in order (one that Timer B cuts off not at all),
  *   HOST-47  it opens the station when it has become slave (the ACK0 of that is its own affair), and
  *            may open it again at any time,
  *   HOST-48, HOST-49  when Timer D runs out, and when it sends an EOT of its own, it calls
- *            gmv_station_end, and opens the station anew when it has become slave again. Timer D runs
- *            while the station is open, anew from each reply,
+ *            gmv_station_end. Timer D runs while the station is open, anew from each reply,
  *   HOST-46  it lends the same message buffer, unaltered, in every call of gmv_station_block, and takes
  *            a complete message out of it before it reports the next block. */
 
