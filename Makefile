@@ -1,10 +1,11 @@
 # Two commands: `make` proves and builds all and lists a sample; `make test` is the gate.
+# `make setup` installs the Debian packages that are lacking; the gate does so too, and nothing else does.
 # `make bench` measures (PART=blocks, messages or acts: that part alone); `make fuzz` fuzzes for
 # FUZZ_SECONDS; `make clean` removes target/, which is all that is ever made here.
 
 .DEFAULT_GOAL := all
 .NOTPARALLEL:
-.PHONY: all setup prove sample test bench fuzz clean
+.PHONY: all tools all_tools setup prove sample test bench fuzz clean
 
 export PATH := $(PATH):$(HOME)/.cargo/bin
 
@@ -14,17 +15,25 @@ driver := target/driver/gmv_driver
 proved_sources := crates.txt $(shell find crates -type f \( -name '*.rt' -o -name '*.antt' \))
 
 # The library and its header for a driver, and the tools, all proved; and the example driver.
-all: setup prove $(archive) $(header) $(driver) sample
+all: tools prove $(archive) $(header) $(driver) sample
 
-# Installs Debian packages that are lacking. Needs no network where nothing is.
+# What this needs is here; else it says what is lacking.
+tools:
+	@tests/setup --check build
+
+# The same of what the tests, the bench and the fuzzers need.
+all_tools:
+	@tests/setup --check all
+
+# Needs no network where nothing is lacking.
 setup:
 	@tests/setup
 
 # Proves every crate and builds the programs, target/bin/blocklist among them.
-prove: setup
+prove: tools
 	rt check
 
-$(archive): $(proved_sources) | setup
+$(archive): $(proved_sources) | tools
 	tests/archive
 
 $(header): include/giamuvich.h
@@ -42,12 +51,12 @@ sample: prove
 test:
 	@tests/gate
 
-bench: setup $(archive)
+bench: all_tools $(archive)
 	CARGO_TARGET_DIR=$(CURDIR)/target/bench cargo run --release --offline --manifest-path bench/Cargo.toml --bin bench -- $(PART)
 	bench/gate_times
 
 FUZZ_SECONDS ?= 600
-fuzz: setup $(archive)
+fuzz: all_tools $(archive)
 	tests/fuzz/run --seconds $(FUZZ_SECONDS)
 
 clean:

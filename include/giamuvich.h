@@ -20,18 +20,19 @@
  * never those behind them. Lines, timers and storage are the caller's: an end of a link is told what
  * happened, and its report says what to do.
  *
- * What the caller answers for, and nothing else:
- *   - each pointer has memory of the length that is passed with it (a length of 0 may come with
- *     any pointer, also a null pointer),
- *   - memory that a function may change overlaps nothing else that is passed in the same call,
- *   - a pointer to words is aligned for uint64_t, and no other thread changes the memory during the
- *     call (C itself asks for both),
- *   - input is initialised. A state is input: its words are what an earlier call left in them.
- *     Memory that a function only writes need not be initialised: a verdict, a report, fields, the
- *     buffer of a writer, a reply, a station or a fresh reader, and the state at a .._fresh function
- *     and at gmv_station_open. No answer depends on what it held, and what is not written stays as
- *     it was,
- *   - for the receiver, the sender and the station, the duties in their sections.
+ * What the caller answers for, and nothing else. HOST-1 and so on are labels of docs/HOST.md, which
+ * has each duty with its reason:
+ *   HOST-1  each pointer has memory of the length that is passed with it (a length of 0 may come with
+ *           any pointer, also a null pointer),
+ *   HOST-2  memory that a function may change overlaps nothing else that is passed in the same call,
+ *   HOST-3  a pointer to words is aligned for uint64_t,
+ *   HOST-4  input is initialised. A state is input: its words are what an earlier call left in them.
+ *           Memory that a function only writes need not be initialised: a verdict, a report, fields,
+ *           the buffer of a writer, a reply, a station or a fresh reader, and the state at a .._fresh
+ *           function and at gmv_station_open. No answer depends on what it held, and what is not
+ *           written stays as it was,
+ *   HOST-5  no other thread changes the memory during the call,
+ *   and for the receiver, the sender and the station, the duties in their sections.
  *
  * Settings are plain numbers and are checked in every call that takes them:
  *   start_block, end_block  the bytes SB and EB of a hybrid link; 0B and 1C where nothing else is
@@ -49,15 +50,17 @@
  * sender that are told of a refused block, or find data without a header (9): its number is in their
  * report.
  *
- * 1 and 2 say that the driver called wrongly, and 11 that words encode no state, so that a stored
- * word is bad: stop the link. But a sender also answers 11 to an act that does not apply now, and
- * that is ordinary: to a submission while it is frozen, and to a timer or a block while no circuit is
- * open, so to the next block after it gave up or froze.
+ * Look at every number (HOST-6 says what to do by each). 1 and 2 say that the driver called wrongly,
+ * and 11 that words encode no state, so that a stored word is bad: stop the link. But a sender also
+ * answers 11 to an act that does not apply now, and that is ordinary: to a submission while it is
+ * frozen, and to a timer or a block while no circuit is open, so to the next block after it gave up or
+ * froze.
  *
  * A call that is refused by 1 or 2 changes nothing: a verdict, a report or fields still hold what an
  * earlier call left there. So it is with the 11 of a reader, a receiver and a station, and with the 9
  * of a function that reads a message. Every other refusal writes the verdict or the report anew: a
- * check's 3 to 8, a writer's 3, 4, 5, 9 and 10, and a sender's 11, 4, 3, 9 and 10.
+ * check's 3 to 8, a writer's 3, 4, 5, 9 and 10, and a sender's 11, 4, 3, 9 and 10. Look at them only
+ * after a call that wrote them (HOST-7).
  *
  * Refusals come in the order 1, 2, 11, and then those of the block: reading 8, 4, 5, 3, 6, 7;
  * writing 4, 5, 3. Minimal reading has 8, 4, 5, 3 only, and 5 there means only EB without CR. For
@@ -157,14 +160,15 @@ uint64_t gmv_reader_fresh(uint64_t *state, size_t state_words);
 
 /* Reads a part of a stream: up to the first byte that brings a verdict, or all of it.
  *
- * Pass the same settings, and lend the same buffer, unaltered, in every call of one stream. The
- * buffer has at least data_limit + 12 bytes (minimal: data_limit). It holds the bytes of the current
- * block between SB and EB, as many as fit in that; no other byte of it changes. An accepted block's
- * data is the part of the buffer from verdict[GMV_VERDICT_DATA_OFFSET] on,
- * verdict[GMV_VERDICT_DATA_LENGTH] bytes long, until the next call.
+ * Pass the same settings, and lend the same buffer, unaltered, in every call of one stream (HOST-9);
+ * begin each new circuit with a fresh reader (HOST-12). The buffer has at least data_limit + 12 bytes
+ * (minimal: data_limit). It holds the bytes of the current block between SB and EB, as many as fit in
+ * that; no other byte of it changes. An accepted block's data is the part of the buffer from
+ * verdict[GMV_VERDICT_DATA_OFFSET] on, verdict[GMV_VERDICT_DATA_LENGTH] bytes long, until the next
+ * call (HOST-11).
  *
  * Where verdict[GMV_VERDICT_USED] is less than part_length, a verdict was found: call again with the
- * rest of the part. verdict[GMV_VERDICT_FOUND] may also be 1 when all of the part was used.
+ * rest of the part (HOST-10). verdict[GMV_VERDICT_FOUND] may also be 1 when all of the part was used.
  *
  * Returns 0, and state, buffer and verdict are as said; or 1, 2 or 11 with nothing changed. 2: the
  * state has under GMV_READER_WORDS words, the verdict under GMV_VERDICT_WORDS, or the buffer is too
@@ -344,36 +348,33 @@ uint64_t gmv_control_write(const uint8_t *type, size_t type_length, uint64_t num
  * A line carries the blocks of one sender and the replies of one receiver. It may lose and damage
  * them, but keeps their order and brings none twice. A circuit is one connection of the line. A
  * tenancy is one sender with its log, from gmv_sender_fresh on, over as many circuits as it takes.
- * Persisted is what a crash and a power cut leave. Both ends have the same settings of blocks, and
- * pass the same ones in every call.
+ * Persisted is what a crash and a power cut leave (HOST-34).
  *
- * The duties below are needed so that each transaction is stored once and in order (docs/LINK.md has
- * the theorem, docs/HOST.md the duties as a checklist). On a plain serial device, where no hangup
- * reaches the other end, they are not kept: the line is not empty at a new circuit. A TCP connection
- * that is ended is closed so that the system drops what was written and has not arrived (SO_LINGER,
- * 0 seconds): else it can come in after the next one was opened. */
+ * The driver's duties at both ends, besides memory. They are needed so that each transaction is stored
+ * once and in order: docs/LINK.md has the theorem. Each is said here in short; docs/HOST.md has it
+ * whole, with its reason.
+ *   HOST-13  both ends have the same settings of blocks, and pass the same ones in every call,
+ *   HOST-27  a new circuit, and either end after a crash, finds the line empty in both directions: what
+ *            is still unread of an old connection is dropped (a plain serial device does not keep this,
+ *            HOST-29),
+ *   HOST-28  a TCP connection that is ended is reset (SO_LINGER, 0 seconds),
+ *   HOST-12  at each new circuit the reader starts afresh (gmv_reader_fresh),
+ *   HOST-31  replies not yet sent, sends not yet written and blocks not yet acted on are dropped with
+ *            their circuit, and by a crash,
+ *   HOST-35  a call changes the state in memory: a driver that cannot persist it sends nothing more,
+ *            ends the circuit and goes on from what is persisted, as after a crash,
+ *   HOST-36  what is found at a start, the log too, is made durable before anything rests on it,
+ *   HOST-39  each tenant begins with a new sender (gmv_sender_fresh) and a log of its own. */
 
 /* ---- The receiver of sequence numbers ----
  *
- * The driver's duties besides memory:
- *   - the state and the transaction named in the report are persisted, as one act, before the
- *     reply goes out,
- *   - one block at a time: the reply to a block is decided after the state of the block before it
- *     is persisted,
- *   - blocks are offered in the order in which they were read; one that is refused is offered again
- *     before any later one, or dropped; what was read and not acted on is dropped with its circuit
- *     (else a transaction can be stored twice: docs/LINK.md, run 11),
- *   - the call changes the state in memory first: a driver that cannot persist it sends nothing, no
- *     reply that was decided before either, ends the circuit and goes on from what is persisted, as
- *     after a crash,
- *   - what is found at a start is made durable before anything rests on it: an earlier process may
- *     have ended before it was (a renamed file whose folder is not synced),
- *   - the reply buffer is not the reader's buffer: the data of the block still lies in that,
- *   - of a refused block the words of the verdict are passed as they are (type 0, length 0),
- *   - when a circuit ends, a reply that was not yet sent is dropped, and the reader starts afresh
- *     (gmv_reader_fresh),
- *   - no byte of an earlier circuit, and none of an earlier tenant, comes in on a new circuit. On TCP
- *     bytes of the old connection can still be unread when the new one is there: they are dropped. */
+ * The driver's duties besides those of both ends:
+ *   HOST-15, HOST-16  the state and the transaction named in the report are persisted, as one act,
+ *            before the reply goes out,
+ *   HOST-17  and before the next block is decided,
+ *   HOST-18  blocks are offered in the order in which they were read; a refused one is offered again
+ *            first, or dropped,
+ *   HOST-2   the reply buffer is not the reader's buffer: the data of the block still lies in that. */
 
 /* The words of a receiver's state. All of it is persisted. */
 enum {
@@ -384,7 +385,7 @@ enum {
 /* The words of a receiver's report. */
 enum {
     GMV_RECEIVED_TRANSACTION = 0,  /* the number of the transaction to persist with the state (its
-                                      message is the block's data as it came); 0: none */
+                                      message is the block's data as it came: HOST-19); 0: none */
     GMV_RECEIVED_REPLY_LENGTH = 1, /* the bytes of the reply block; 0: no reply */
     GMV_RECEIVED_BLOCK = 2,        /* the block's number: 0, or 3 to 9 */
     GMV_RECEIVED_WORDS = 3
@@ -398,14 +399,14 @@ uint64_t gmv_receiver_fresh(uint64_t *state, size_t state_words);
 /* The receiver's act on a block that its reader gave.
  *
  * block_number is the verdict's number (0 accepted, or 3 to 8), block_type its type, and data the
- * data of an accepted block. data_limit is at least 128.
+ * data of an accepted block; of a refused block the words of the verdict are passed as they are (type
+ * 0, length 0). data_limit is at least 128.
  *
  * application is the application's verdict on a transaction that is due, GMV_CODE_AA or GMV_CODE_AE
  * (it is looked at only for such a one, but must be one of the two). To ask the application about
- * what is due and about nothing else, act on a copy of the state first, with GMV_CODE_AA. Only where
- * GMV_RECEIVED_TRANSACTION is not 0 then, ask it. Then act on the state itself, with its verdict.
- * (Nothing is kept between calls: what the first one wrote is written over.) A driver that asks
- * before the call runs the application again at each resend.
+ * what is due and about nothing else (HOST-14), act on a copy of the state first, with GMV_CODE_AA;
+ * where GMV_RECEIVED_TRANSACTION is not 0 then, ask it; then act on the state itself, with its verdict.
+ * Nothing is kept between calls, and what the first one wrote is written over.
  *
  * The reply block is written into the buffer from offset start on, of which only the reply's bytes
  * change; the buffer from start on has at least data_limit + 15 bytes (minimal: + 3), whatever the
@@ -447,34 +448,19 @@ uint64_t gmv_minimal_receive(uint64_t data_limit,
 
 /* ---- The sender of sequence numbers ----
  *
- * The driver's duties besides memory:
- *   - the first GMV_SENDER_PERSISTED_WORDS words of the state are persisted, as one act, before the
- *     next block goes out,
- *   - an act changes the state in memory first: a driver that cannot persist it sends nothing, also
- *     nothing that was named before, ends the circuit and goes on from what is persisted, as after a
- *     crash,
- *   - what is found at a start, the log too, is made durable before anything rests on it: an earlier
- *     process may have ended before it was (a renamed file whose folder is not synced),
- *   - before the first circuit is opened the control block is written once, to try it: a bad type is
- *     refused only there (1), while opening and the timer would count sends that cannot be made,
- *   - a message is persisted in the log before the state that counts it as submitted, is the only one
- *     of its number, and stays there until the persisted GMV_SENDER_DELIVERED has passed it; while
- *     frozen nothing can be submitted (11), and the host keeps what it has,
- *   - sends go out in the order in which the reports named them; an older one that is not yet
- *     written may be dropped for a newer one; a block of which a part is written is finished, or the
- *     circuit is ended,
- *   - the timer is started, or started anew, at each send that a report names, goes on where a report
- *     names none (a dropped answer among them), and is stopped where nothing waits,
- *   - after GMV_EVENT_ABANDONED and GMV_EVENT_FROZE the circuit has ended for the sender: the driver
- *     closes the line, and does not call gmv_sender_ended (it would answer 11),
- *   - each block that the reader finds on an open circuit is reported, a refused one too,
- *   - when a circuit ends, and after a crash, sends named and not yet written are dropped, and so are
- *     blocks that were read and not yet reported; at a new circuit the reader starts afresh
- *     (gmv_reader_fresh),
- *   - each tenant begins with a new sender (gmv_sender_fresh) and a log of its own, and the line is
- *     empty in both directions then, at each new circuit and after a crash of either end,
- *   - the type of control messages and resends are the same in every call of one sender (with another
- *     resends a count may exceed resends + 1). */
+ * The driver's duties besides those of both ends:
+ *   HOST-21  the first GMV_SENDER_PERSISTED_WORDS words of the state are persisted, as one act, before
+ *            the next block goes out,
+ *   HOST-20, HOST-40  a message, one for each number, is persisted in the log before the state that
+ *            counts it as submitted, until the persisted GMV_SENDER_DELIVERED has passed it,
+ *   HOST-22  what a report names is sent at once, in the order named, each block whole,
+ *   HOST-23  before the first circuit is opened the control block is written once, to try it: a bad
+ *            type is refused only there (1),
+ *   HOST-24  each block that the reader finds on an open circuit is reported, a refused one too,
+ *   HOST-41  the timer runs anew from each send that a report names, as long as something waits,
+ *   HOST-32  after GMV_EVENT_ABANDONED and GMV_EVENT_FROZE the circuit has ended for the sender: the
+ *            driver closes the line, and does not call gmv_sender_ended (it would answer 11),
+ *   HOST-26  the type of control messages and resends are the same in every call of one sender. */
 
 /* How often a message is sent again, where nothing else is agreed. */
 enum { GMV_RESENDS_DEFAULT = 3 };
@@ -483,7 +469,7 @@ enum { GMV_RESENDS_DEFAULT = 3 };
 #define GMV_LARGEST_NUMBER UINT64_C(999999999999998)
 
 /* The words of a sender's state. After a crash the first GMV_SENDER_PERSISTED_WORDS are restored
- * and the others set to 0 (no circuit is open). */
+ * and the others set to 0 (no circuit is open; HOST-37). */
 enum {
     GMV_SENDER_FIRST = 0,          /* the first sequence number, 1 to 999999999999998 */
     GMV_SENDER_DELIVERED = 1,      /* the last number known to be delivered; first - 1: none yet */
@@ -517,14 +503,13 @@ enum {
 /* What happened. */
 enum {
     GMV_EVENT_NONE = 0,      /* nothing but what the other words say */
-    GMV_EVENT_DELIVERED = 1, /* a transaction is known to be delivered. One number can be told twice:
-                                before a crash that came before the state was persisted, and after it
-                                (then with code 0). Persist first and tell then; a crash in between
-                                leaves it untold, and the persisted GMV_SENDER_DELIVERED says it */
+    GMV_EVENT_DELIVERED = 1, /* a transaction is known to be delivered. Persist first, and tell the
+                                application then. One number can come twice, before a crash and after
+                                it, then with code 0 (HOST-25) */
     GMV_EVENT_ABANDONED = 2, /* a send fell due with all sends spent: the circuit ended */
     GMV_EVENT_FROZE = 3,     /* an answer that cannot be: frozen until an operator resets; the circuit
                                 ended. gmv_answer_read reads the answer from the same data, and what it
-                                answered is what waited in the state before the call */
+                                answered is what waited in the state before the call (HOST-44) */
     GMV_EVENT_DROPPED = 4    /* an answer was dropped, as something else waits. Where nothing waits an
                                 answer is dropped too, and not told: GMV_EVENT_NONE */
 };
@@ -563,7 +548,7 @@ enum {
  *   waiting 3: resynchronized, not frozen, sends 1 to 100;
  *   waiting 4: resynchronized, not frozen, delivered < last, sends 1 to 100.
  * Waiting is never over 4. To look at restored words before they are used, act on a copy: with frozen
- * 0 open it, with frozen 1 reset it. 11 then says that they encode no state. */
+ * 0 open it, with frozen 1 reset it. 11 then says that they encode no state (HOST-38). */
 
 /* A new sender: nothing submitted, first number `first`. Returns 0; or, in this order and with
  * nothing changed, 1 (first is not 1 to 999999999999998) or 2 (state_words below GMV_SENDER_WORDS).
@@ -645,17 +630,14 @@ uint64_t gmv_minimal_control_block(uint64_t data_limit,
  * 0 after 7, and holds the text of the message that is not yet complete.
  *
  * The driver's duties besides memory:
- *   - it frames the units that come from the line, checks each block (TERM, BCC, text length, the
- *     character that ends it), and reports each unit once, in the order in which they came; a block
- *     that is cut off (Timer B) is discarded and not reported,
- *   - it opens the station when it has become slave (the ACK0 of that is its own affair), and may
- *     open it again at any time,
- *   - when Timer D runs out, and when it sends an EOT of its own, it calls gmv_station_end (000,
- *     C.3.1.5: "BLK is reset to "one" upon a timer-D timeout or upon transmission or reception of
- *     EOT"), and opens the station anew when it has become slave again. Timer D runs while the
- *     station is open, anew from each reply,
- *   - it lends the same message buffer, unaltered, in every call of gmv_station_block,
- *   - it takes a complete message out of the buffer before it reports the next block. */
+ *   HOST-45  it frames the units that come from the line, checks each block, and reports each unit
+ *            once, in order (one that Timer B cuts off not at all),
+ *   HOST-47  it opens the station when it has become slave (the ACK0 of that is its own affair), and
+ *            may open it again at any time,
+ *   HOST-48, HOST-49  when Timer D runs out, and when it sends an EOT of its own, it calls
+ *            gmv_station_end. Timer D runs while the station is open, anew from each reply,
+ *   HOST-46  it lends the same message buffer, unaltered, in every call of gmv_station_block, and takes
+ *            a complete message out of it before it reports the next block. */
 
 /* The words of a station's state. Keep them from call to call; they need not survive a crash. */
 enum {

@@ -1,5 +1,5 @@
 /* Memory that a function only writes may hold anything before the call, and a refusal either writes
- * the report anew or leaves what an earlier call put there (docs/HOST.md has the table). Each call
+ * the report anew or leaves what an earlier call put there (the header says which). Each call
  * is made with two fillings of that memory: what it answers and writes is the same.
  *
  * With -DNEVER_WRITTEN, valgrind is told that this memory was never written (docs/TRUSTED.md). */

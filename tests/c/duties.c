@@ -1,5 +1,5 @@
 /* What the header tells the author of a driver to do beside the calls, run on the library: what comes
- * of it, and what comes of the other way. docs/HOST.md has the same as a checklist. */
+ * of it, and what comes of the other way. docs/HOST.md has each duty. */
 #include "harness.h"
 
 #include <string.h>
