@@ -34,7 +34,7 @@ prove: tools
 	rt check
 
 $(archive): $(proved_sources) | tools
-	tests/archive
+	rt staticlib giamuvich
 
 $(header): include/giamuvich.h
 	@mkdir -p $(@D)

@@ -57,7 +57,7 @@ validWaiting p Resynchronizing n = (not (p .frozen) && not (p .resynchronized)) 
 validWaiting p Querying n = (not (p .frozen) && p .resynchronized) && validSends n
 validWaiting p Sending n = (not (p .frozen) && p .resynchronized) && (ltb (p .delivered) (p .last) && validSends n)
 
--- every state that a run of acts can reach is such a one (sender_theorems), and no act on such a one can overflow or leave them
+-- every state that a run of acts can reach is such a one (link, SenderValid), and no act on such a one can overflow or leave them
 unfoldable pub validSender : Sender → Bool
 validSender s = validPersisted (s .persisted) && validWaiting (s .persisted) (s .waiting) (s .sends)
 
