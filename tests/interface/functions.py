@@ -15,8 +15,8 @@ Written by `tests/documents --write`; the gate compares. {functions} public func
 
 No function has a `requires`. The contract of each is an equation: its result, and what the lent memory named here holds after
 the call, is what the cited definition gives for the inputs and the memory before. So a contract allows one result and one
-content; theorem T-52 of [THEOREMS.md](THEOREMS.md) says it of each function. Three exceptions return a part of what was lent:
-DECISIONS.md K-1. `settings.valid` is the definition `valid` in crates/settings/specs, `lists::part_of` a function of
+content; theorem T-52 of [THEOREMS.md](THEOREMS.md) says it of each function. Of a part that is returned the content is fixed, not
+where it lies (DECISIONS.md K-1). `settings.valid` is the definition `valid` in crates/settings/specs, `lists::part_of` a function of
 crates/lists/src.
 """
 
@@ -57,7 +57,7 @@ def functions_in(crate, text):
         owner = opened or ("" if closed else owner)
         if name:
             formula = re.search(r"ensures \{ λ r\. ⌜ (.*) ⌝ \}", head)
-            assert formula, f"crates/{crate}: {name} has no contract of the form that is read here"
+            assert formula and "requires" not in head, f"crates/{crate}: {name} has no contract of the form that is read here"
             memory = list(dict.fromkeys(re.findall(r"«?(\w+)»? \.exit", formula.group(1))))
             found.append(Function(crate, owner, name, bool(exported), cited_in(formula.group(1), text), memory))
     return found
@@ -75,7 +75,8 @@ def public_functions():
 def row(function):
     path = [function.name] if function.exported else [function.crate, function.owner, function.name]
     cited = ", ".join(f"`{name}`" for name in function.cited) or "its arguments"
-    return f"| `{'::'.join(part for part in path if part)}` | {cited} | {', '.join(function.memory)} |"
+    memory = "".join(f" {name}," for name in function.memory).rstrip(",")
+    return f"| `{'::'.join(part for part in path if part)}` | {cited} |{memory} |"
 
 
 def edit_rows():

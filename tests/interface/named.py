@@ -65,9 +65,10 @@ def theorem_rows():
 def theorem_faults():
     """Each label once, and each name of a row stands in the file that the row links to."""
     rows = theorem_rows()
-    labels = sorted((label for label, _ in rows), key=lambda label: int(label[2:]))
-    if labels != [f"T-{number}" for number in range(1, len(labels) + 1)]:
-        yield "docs/THEOREMS.md: the labels are not T-1, T-2 and so on, each once"
+    labels = [label for label, _ in rows]
+    for label in sorted({*labels, *(f"T-{number}" for number in range(1, len(labels) + 1))}):
+        if labels.count(label) != 1:
+            yield f"docs/THEOREMS.md: {label} has {labels.count(label)} rows"
     for label, where in rows:
         links = re.findall(r"\]\(\.\./(crates/\S+\.antt)\) ((?:`[^`]+`(?:, )?)+)", where)
         if not links:
