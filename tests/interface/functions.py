@@ -16,8 +16,8 @@ Written by `tests/documents --write`; the gate compares. {functions} public func
 No function has a `requires`. The contract of each is an equation: its result, and what the lent memory named here holds after
 the call, is what the cited definition gives for the inputs and the memory before. So a contract allows one result and one
 content; theorem T-52 of [THEOREMS.md](THEOREMS.md) says it of each function. Of a part that is returned the content is fixed, not
-where it lies (DECISIONS.md K-1). `settings.valid` is the definition `valid` in crates/settings/specs, `lists::part_of` a function of
-crates/lists/src.
+where it lies (DECISIONS.md K-1). `settings.valid` is the definition `valid` in crates/settings/specs, `lists::part_of` a function
+of crates/lists/src.
 """
 
 EDITS = """

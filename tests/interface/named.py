@@ -21,7 +21,8 @@ def document(name):
 
 def defining(folder, name):
     """The files of crates/*/FOLDER that give this name its type. A theorem may stand, indented, under a parameter of several."""
-    start = rf"^{'' if folder == 'specs' else ' *'}(?:abbrev |unfoldable )?(?:pub )?(?:record |data )?{re.escape(name)}(?: [:({{]|$)"
+    indent = "" if folder == "specs" else " *"
+    start = rf"^{indent}(?:abbrev |unfoldable )?(?:pub )?(?:record |data )?{re.escape(name)}(?: [:({{]|$)"
     return [file for file in sorted(ROOT.glob(f"crates/*/{folder}/*.antt")) if re.search(start, file.read_text(), re.M)]
 
 
@@ -51,8 +52,8 @@ def function_faults(functions):
         for crate, name in sorted(set(re.findall(r"`([a-z_]+)::(?:\w+::)?(\w+)`", text))):
             sources = text_of(f"crates/{crate}/src/*.rt")
             if not re.search(rf'\bpub (?:extern "C" )?(?:fn|struct|enum|const) {name}\b', sources):
-                others = [function.crate for function in functions if function.name == name]
-                yield f"docs/{page}.md: crates/{crate}/src has no public {name}" + (f"; it is in {', '.join(others)}" if others else "")
+                others = "".join(f"; {function.crate} has it" for function in functions if function.name == name)
+                yield f"docs/{page}.md: crates/{crate}/src has no public {name}{others}"
         for name in sorted(set(re.findall(r"`(gmv_[a-z_*]+)", text))):
             if not fnmatch.filter(exported, name):
                 yield f"docs/{page}.md: {name} is no C function"
