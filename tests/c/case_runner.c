@@ -2,17 +2,15 @@
  * memory of exactly its size, and the number and every word and byte afterwards are compared. Each is
  * then made again with null pointers where a length is 0, with words more than needed, which do not
  * change, and with every smaller count of words, which is 2 (or 1, where it was 1). */
+#include "case_text.h"
 #include "harness.h"
 
-#include <ctype.h>
 #include <stdarg.h>
 #include <stdio.h>
 #include <stdlib.h>
 #include <string.h>
 
-enum { WORD = sizeof(uint64_t), MEMORIES = 4, NUMBERS = 8, LARGEST = 110000, CHOICES = 32 };
-enum { RANGES = 256 };
-enum { MORE_WORDS = 3, LONGEST_LINE = 20000 };
+enum { WORD = sizeof(uint64_t), MEMORIES = 4, NUMBERS = 8, MORE_WORDS = 3 };
 enum { NULL_BYTES = 1, NULL_WORDS = 2 }; /* which memory of no length has a null pointer */
 
 /* ---- a call */
@@ -22,7 +20,7 @@ typedef struct {
     const char *name;
     size_t name_length, need;
     size_t size; /* in bytes */
-    uint8_t before[LARGEST], after[LARGEST];
+    uint8_t before[LARGEST_MEMORY], after[LARGEST_MEMORY];
     guarded given;
 } memory;
 
@@ -110,314 +108,48 @@ typedef struct {
 #define ROW(name, signature, ...) {#name, signature, call_##name},
 static const function functions[] = {FUNCTIONS(ROW)};
 
-/* ---- where a fault is */
-
-static const char *file_name = "";
-static int line_number;
-static const char *at;  /* the rest of the line */
-static int malformed;   /* the line is no case */
 static unsigned long cases_run, calls_made;
-
-static void fault(const char *what)
-{
-    check_fact(0, what, file_name, line_number);
-}
-
-/* Said once for a line; the rest of it is skipped. */
-static void no_case(const char *what)
-{
-    if (!malformed)
-        fault(what);
-    malformed = 1;
-    at = "";
-}
-
-static void expect_text(const char *text)
-{
-    if (strncmp(at, text, strlen(text)) == 0)
-        at += strlen(text);
-    else
-        no_case(text);
-}
-
-/* ---- choices: every combination of them is a call of its own */
-
-static size_t chosen[CHOICES], choices_of[CHOICES], choice_count;
-
-/* Which of so many alternatives this call takes. */
-static size_t choose(size_t count)
-{
-    if (choice_count == CHOICES || count == 0) {
-        no_case("a choice of nothing, or too many choices");
-        return 0;
-    }
-    choices_of[choice_count] = count;
-    return chosen[choice_count++];
-}
-
-/* Goes to the next combination; 0 after the last one. */
-static int next_combination(void)
-{
-    for (size_t i = choice_count; i-- > 0;) {
-        if (++chosen[i] < choices_of[i])
-            return 1;
-        chosen[i] = 0;
-    }
-    return 0;
-}
-
-/* ---- values */
-
-/* Decimal digits; with a minus 2^64 less that number. */
-static uint64_t plain_number(void)
-{
-    int minus = *at == '-';
-    uint64_t value = 0;
-
-    at += minus;
-    if (!isdigit((unsigned char)*at) || (*at == '0' && isdigit((unsigned char)at[1])))
-        no_case("no number");
-    while (isdigit((unsigned char)*at)) {
-        uint64_t digit = (uint64_t)(*at++ - '0');
-
-        if (value > (UINT64_MAX - digit) / 10)
-            no_case("a number over 2^64 - 1");
-        value = 10 * value + digit;
-    }
-    return minus ? 0 - value : value;
-}
-
-/* A number, or {..} with numbers and ranges of numbers: one of them. */
-static uint64_t number(void)
-{
-    uint64_t count = 0, firsts[RANGES], counts[RANGES], which;
-    size_t ranges = 0;
-
-    if (*at != '{')
-        return plain_number();
-    do {
-        at++;
-        firsts[ranges] = plain_number();
-        counts[ranges] = 1;
-        if (strncmp(at, "..", 2) == 0) {
-            at += 2;
-            counts[ranges] = plain_number() - firsts[ranges] + 1;
-        }
-        count += counts[ranges++];
-    } while (*at == ' ' && ranges < RANGES && count < LARGEST && !malformed);
-    expect_text("}");
-    which = choose((size_t)count);
-    for (size_t i = 0; i < ranges; i++) {
-        if (which < counts[i])
-            return firsts[i] + which;
-        which -= counts[i];
-    }
-    return 0;
-}
-
-static unsigned hex_digits(void)
-{
-    static const char digits[] = "0123456789abcdef";
-    unsigned value = 0;
-
-    for (int i = 0; i < 2; i++, at += !malformed) {
-        const char *digit = *at ? strchr(digits, *at) : NULL;
-
-        if (!digit)
-            no_case("no hex digit");
-        else
-            value = 16 * value + (unsigned)(digit - digits);
-    }
-    return value;
-}
-
-/* The bytes of a value, as far as they are read. */
-typedef struct {
-    uint8_t *bytes;
-    size_t size;
-} text;
-
-static void add(text *t, const uint8_t *bytes, size_t size, uint64_t times)
-{
-    if (times > LARGEST || size * times > LARGEST - t->size) {
-        no_case("too many bytes");
-        return;
-    }
-    for (; times > 0; times--, t->size += size)
-        memmove(t->bytes + t->size, bytes, size);
-}
-
-/* One byte of a quoted text. */
-static uint8_t quoted_byte(void)
-{
-    if (*at != '\\') {
-        if ((unsigned char)*at < 0x20 || (unsigned char)*at > 0x7E)
-            no_case("a byte that is not printed");
-        return malformed ? 0 : (uint8_t)*at++;
-    }
-    at += 2;
-    switch (at[-1]) {
-    case 'r':
-        return '\r';
-    case 'n':
-        return '\n';
-    case '"':
-    case '\\':
-        return (uint8_t)at[-1];
-    case 'x':
-        return (uint8_t)hex_digits();
-    default:
-        at--;
-        no_case("an unknown escape");
-        return 0;
-    }
-}
-
-/* "..", perhaps after a count and *, perhaps before / and how many bytes of it are meant. */
-static void quoted(text *t)
-{
-    static uint8_t bytes[LONGEST_LINE];
-    uint64_t times = 1;
-    size_t size = 0;
-
-    if (isdigit((unsigned char)*at)) {
-        times = plain_number();
-        expect_text("*");
-    }
-    expect_text("\"");
-    while (*at != '"' && !malformed)
-        bytes[size++] = quoted_byte();
-    expect_text("\"");
-    if (*at == '/') {
-        uint64_t first = (at++, number());
-
-        if (first > size)
-            no_case("more bytes than there are");
-        else
-            size = (size_t)first;
-    }
-    add(t, bytes, size, times);
-}
-
-/* {"..." "..."}: one of these. */
-static void one_of(text *t)
-{
-    static uint8_t skipped[LARGEST];
-    const size_t index = choice_count, which = choose(1); /* the count is known at the end */
-    size_t count = 0;
-
-    do {
-        text other = {skipped, 0};
-
-        at++;
-        do
-            quoted(count == which ? t : &other);
-        while (*at != ' ' && *at != '}' && !malformed);
-        count++;
-    } while (*at == ' ' && !malformed);
-    expect_text("}");
-    if (!malformed)
-        choices_of[index] = count;
-}
-
-/* [00..1f 7f]: one byte, one of these. */
-static void one_byte(text *t)
-{
-    uint8_t bytes[256];
-    size_t count = 0;
-
-    do {
-        unsigned first = (at++, hex_digits()), last = first;
-
-        if (strncmp(at, "..", 2) == 0)
-            last = (at += 2, hex_digits());
-        for (; first <= last && count < 256; first++)
-            bytes[count++] = (uint8_t)first;
-    } while (*at == ' ' && !malformed);
-    expect_text("]");
-    add(t, &bytes[choose(count) % 256], 1, 1);
-}
-
-static size_t bytes_value(uint8_t *bytes)
-{
-    text t = {bytes, 0};
-
-    do {
-        if (*at == '{')
-            one_of(&t);
-        else if (*at == '[')
-            one_byte(&t);
-        else
-            quoted(&t);
-    } while (*at != ' ' && *at != '\0');
-    return t.size;
-}
-
-/* (1 2 3), or () */
-static size_t words_value(uint8_t *bytes)
-{
-    size_t count = 0;
-
-    expect_text("(");
-    while (*at != ')' && !malformed) {
-        uint64_t word = number();
-
-        if (count == LARGEST / WORD)
-            no_case("too many words");
-        else
-            memcpy(bytes + WORD * count++, &word, WORD);
-        if (*at == ' ')
-            at++;
-        else if (*at != ')')
-            no_case("no word");
-    }
-    expect_text(")");
-    return WORD * count;
-}
 
 /* ---- a line */
 
+/* A blank, a name of this length, and what follows it. */
+static int skips_name(const char *name, size_t length, const char *after)
+{
+    const char *rest = line.rest;
+
+    if (rest[0] != ' ' || strncmp(rest + 1, name, length) != 0 ||
+        strncmp(rest + 1 + length, after, strlen(after)) != 0)
+        return 0;
+    line.rest += 1 + length + strlen(after);
+    return 1;
+}
+
 static void expect_name(const char *name, size_t length, const char *after)
 {
-    expect_text(" ");
-    if (strncmp(at, name, length) != 0)
+    if (!skips_name(name, length, after))
         no_case("another name than the next parameter's");
-    else
-        at += length;
-    expect_text(after);
 }
 
-static void length_of(memory *m)
+/* So many bytes or words, painted. */
+static void painted(memory *m, uint64_t count, size_t unit, int paint)
 {
-    uint64_t size = number();
-
-    if (size > LARGEST)
-        no_case("too large a buffer");
-    m->size = malformed ? 0 : (size_t)size;
-    memset(m->before, 0x55, m->size);
-}
-
-/* So many words as needed, or as NAME_words says. */
-static void written_words(memory *m)
-{
-    m->size = m->need * WORD;
-    if (at[0] == ' ' && strncmp(at + 1, m->name, m->name_length) == 0 &&
-        strncmp(at + 1 + m->name_length, "_words=", 7) == 0) {
-        at += 1 + m->name_length + 7;
-        m->size = WORD * (size_t)(number() % (LARGEST / WORD));
-    }
-    memset(m->before, 0xEE, m->size);
+    if (count > LARGEST_MEMORY / unit)
+        no_case("too large a memory");
+    m->size = line.malformed ? 0 : (size_t)count * unit;
+    memset(m->before, paint, m->size);
 }
 
 static void memory_value(memory *m)
 {
     if (m->kind == 'w') {
-        written_words(m);
+        int counted = skips_name(m->name, m->name_length, "_words=");
+
+        painted(m, counted ? number_value() : m->need, WORD, 0xEE);
         return;
     }
     expect_name(m->name, m->name_length, m->kind == 'o' ? "_length=" : "=");
     if (m->kind == 'o')
-        length_of(m);
+        painted(m, number_value(), 1, 0x55);
     else
         m->size = m->kind == 's' ? words_value(m->before) : bytes_value(m->before);
 }
@@ -427,14 +159,14 @@ static void inputs(const char *signature)
     size_t numbers = 0;
 
     made.memory_count = 0;
-    while (*signature && !malformed) {
+    while (*signature && !line.malformed) {
         const char *name = strchr(signature, ':') + 1;
         size_t length = strcspn(name, " ");
         memory *m = &made.memories[made.memory_count];
 
         if (*signature == 'n') {
             expect_name(name, length, "=");
-            made.numbers[numbers++] = number();
+            made.numbers[numbers++] = number_value();
         } else {
             m->kind = *signature;
             m->need = strtoul(signature + 1, NULL, 10);
@@ -450,13 +182,11 @@ static void inputs(const char *signature)
 /* What a memory holds at exit: same, words from the first on, or OFFSET:bytes. */
 static void exit_value(memory *m)
 {
-    static uint8_t bytes[LARGEST];
+    static uint8_t bytes[LARGEST_MEMORY];
     size_t offset = 0, size;
 
-    if (strncmp(at, "same", 4) == 0) {
-        at += 4;
+    if (skips("same"))
         return;
-    }
     if (m->kind == 's' || m->kind == 'w') {
         size = words_value(bytes);
         if (size != m->need * WORD)
@@ -467,32 +197,31 @@ static void exit_value(memory *m)
         size = bytes_value(bytes);
     }
     if (offset > m->size || size > m->size - offset)
-        no_case("more at exit than was lent");
+        no_case("more at exit than was given");
     else
         memcpy(m->after + offset, bytes, size);
 }
 
+static void line_ends(size_t choices)
+{
+    if (!line.malformed && (*line.rest || choices_read() != choices))
+        no_case("more than a case, or a choice at exit");
+}
+
 static void exits(void)
 {
-    const size_t choices = choice_count;
+    const size_t choices = choices_read();
 
     expect_text(" -> ");
     made.expected = plain_number();
     for (size_t i = 0; i < made.memory_count; i++)
         memcpy(made.memories[i].after, made.memories[i].before, made.memories[i].size);
-    if (strcmp(at, " same") == 0) {
-        at += 5;
-        return;
-    }
-    for (size_t i = 0; i < made.memory_count && !malformed; i++)
+    for (size_t i = 0, same = skips(" same"); !same && i < made.memory_count; i++)
         if (made.memories[i].kind != 'b') {
             expect_name(made.memories[i].name, made.memories[i].name_length, "=");
             exit_value(&made.memories[i]);
         }
-    if (choice_count != choices)
-        no_case("a choice at exit");
-    if (*at && !malformed)
-        no_case("more than a case");
+    line_ends(choices);
 }
 
 /* ---- the calls of a case */
@@ -511,7 +240,7 @@ static void compare_memory(memory *m, int changes)
     const uint8_t *expected = changes ? m->after : m->before;
 
     if (!same_from(&m->given, size) || memcmp(m->given.at, expected, size) != 0) {
-        printf("%s:%d: %.*s is not as expected\n", file_name, line_number, (int)m->name_length,
+        printf("%s:%d: %.*s is not as expected\n", line.file, line.number, (int)m->name_length,
                m->name);
         fault("memory after the call");
     }
@@ -523,7 +252,7 @@ static void make_call(const function *f, uint64_t expected, int changes)
 
     calls_made++;
     if (found != expected) {
-        printf("%s:%d: answered %lu, expected %lu\n", file_name, line_number, (unsigned long)found,
+        printf("%s:%d: answered %lu, expected %lu\n", line.file, line.number, (unsigned long)found,
                (unsigned long)expected);
         fault("the number");
     }
@@ -584,157 +313,150 @@ static void run_call(const function *f)
 
 static void run_function(const function *f)
 {
-    const char *start = at;
+    const char *start = line.rest;
 
-    memset(chosen, 0, sizeof chosen);
+    first_combination();
     do {
-        at = start;
-        choice_count = 0;
+        line.rest = start;
+        read_again();
         inputs(f->signature);
         exits();
-        if (!malformed)
+        if (!line.malformed)
             run_call(f);
-    } while (!malformed && next_combination());
+    } while (!line.malformed && next_combination());
 }
 
 /* ---- streams */
 
-/* A stream in parts of every size: the verdicts with the bytes of the stream read by then, and the
- * state and the buffer at its end. */
-static void run_stream(settings link)
+/* What a stream must give, in whatever parts: the verdicts with the bytes of the stream read by then,
+ * and the state and the buffer at its end. */
+typedef struct {
+    uint8_t verdicts[LARGEST_MEMORY], state[LARGEST_MEMORY], buffer[LARGEST_MEMORY];
+    size_t verdicts_size, state_size, buffer_size;
+} stream;
+
+static stream expected;
+
+static void read_in_parts(settings link, const memory *input, size_t part)
 {
-    static uint8_t input[LARGEST], verdicts[LISTED * GMV_VERDICT_WORDS * WORD], bytes[LARGEST];
-    uint64_t state[LARGEST / WORD];
-    size_t length, size = 0, held;
+    guarded buffer;
+    listing list = read_stream(link, input->before, input->size, part, &buffer);
 
-    expect_name("input", 5, "=");
-    choice_count = 0;
-    length = bytes_value(input);
-    expect_name("-> verdicts", 11, "=");
-    while (*at == '(' && size + GMV_VERDICT_WORDS * WORD <= sizeof verdicts)
-        size += words_value(verdicts + size);
-    expect_name("state", 5, "=");
-    if (words_value((uint8_t *)state) != GMV_READER_WORDS * WORD)
-        no_case("not as many words as a reader has");
-    expect_name("buffer", 6, "=0:");
-    held = bytes_value(bytes);
-    if (*at || choice_count > 0 || length > LONGEST_LINE || held > need_of(link))
-        no_case("more than a case");
-    for (size_t part = 1; part <= (length ? length : 1) && !malformed; part++) {
-        guarded buffer;
-        listing list = read_stream(link, input, length, part, &buffer);
+    calls_made++;
+    if (list.count * sizeof list.words[0] != expected.verdicts_size ||
+        memcmp(list.words, expected.verdicts, expected.verdicts_size) != 0)
+        fault("the verdicts of the stream");
+    if (memcmp(list.state, expected.state, sizeof list.state) != 0)
+        fault("the state at the stream's end");
+    if (memcmp(buffer.at, expected.buffer, expected.buffer_size) != 0 ||
+        !same_from(&buffer, expected.buffer_size))
+        fault("the buffer at the stream's end");
+    give_back(&buffer);
+}
 
-        calls_made++;
-        if (list.count * sizeof list.words[0] != size || memcmp(list.words, verdicts, size) != 0)
-            fault("the verdicts of the stream");
-        if (memcmp(list.state, state, sizeof list.state) != 0)
-            fault("the state at the stream's end");
-        if (memcmp(buffer.at, bytes, held) != 0 || !same_from(&buffer, held))
-            fault("the buffer at the stream's end");
-        give_back(&buffer);
+static void run_stream(settings link, const char *signature)
+{
+    const memory *input = &made.memories[0];
+
+    read_again();
+    inputs(signature);
+    if (!link.minimal) {
+        link.start_block = made.numbers[0];
+        link.end_block = made.numbers[1];
     }
-}
-
-static void run_hybrid_stream(void)
-{
-    settings link = hybrid(0);
-
-    expect_name("start_block", 11, "=");
-    link.start_block = plain_number();
-    expect_name("end_block", 9, "=");
-    link.end_block = plain_number();
-    expect_name("data_limit", 10, "=");
-    link.data_limit = plain_number();
-    run_stream(link);
-}
-
-static void run_minimal_stream(void)
-{
-    settings link = minimal(0);
-
-    expect_name("data_limit", 10, "=");
-    link.data_limit = plain_number();
-    run_stream(link);
+    link.data_limit = made.numbers[link.minimal ? 0 : 2];
+    expect_name("-> verdicts", 11, "=");
+    for (expected.verdicts_size = 0; *line.rest == '(' && expected.verdicts_size < 4096;)
+        expected.verdicts_size += words_value(expected.verdicts + expected.verdicts_size);
+    expect_name("state", 5, "=");
+    expected.state_size = words_value(expected.state);
+    expect_name("buffer", 6, "=0:");
+    expected.buffer_size = bytes_value(expected.buffer);
+    line_ends(0);
+    if (expected.state_size != GMV_READER_WORDS * WORD || expected.buffer_size > need_of(link))
+        no_case("not the memory of a reader");
+    for (size_t part = 1; part <= (input->size ? input->size : 1) && !line.malformed; part++)
+        read_in_parts(link, input, part);
 }
 
 /* ---- lines and files */
 
-static void run_line(const char *line)
+static void run_line(const char *text)
 {
-    size_t length = strcspn(line, " ");
+    const size_t length = strcspn(text, " ");
 
-    at = line + length;
-    malformed = 0;
+    line.rest = text + length;
+    line.malformed = 0;
     cases_run++;
     for (size_t i = 0; i < sizeof functions / sizeof functions[0]; i++)
-        if (strlen(functions[i].name) == length && strncmp(functions[i].name, line, length) == 0) {
+        if (strlen(functions[i].name) == length && strncmp(functions[i].name, text, length) == 0) {
             run_function(&functions[i]);
             return;
         }
-    if (strncmp(line, "hybrid_stream ", 14) == 0)
-        run_hybrid_stream();
-    else if (strncmp(line, "minimal_stream ", 15) == 0)
-        run_minimal_stream();
+    if (strncmp(text, "hybrid_stream ", 14) == 0)
+        run_stream(hybrid(0), HYBRID "b:input");
+    else if (strncmp(text, "minimal_stream ", 15) == 0)
+        run_stream(minimal(0), MINIMAL "b:input");
     else
         no_case("an unknown function");
 }
 
 void run_case(const char *file, int number_of_line, const char *format, ...)
 {
-    static char line[LONGEST_LINE];
+    static char text[LONGEST_LINE];
     va_list values;
     int length;
 
     va_start(values, format);
-    length = vsnprintf(line, sizeof line, format, values);
+    length = vsnprintf(text, sizeof text, format, values);
     va_end(values);
-    file_name = file;
-    line_number = number_of_line;
-    if (length < 0 || (size_t)length >= sizeof line)
+    line.file = file;
+    line.number = number_of_line;
+    if (length < 0 || (size_t)length >= sizeof text)
         fault("too long a case");
     else
-        run_line(line);
+        run_line(text);
 }
 
 /* A line of a file: a comment, a test's name, or a case of that test; there is none yet where the count
  * of its cases is -1. */
-static void file_line(char *line, long *cases_of_test)
+static void file_line(char *text, long *cases_of_test)
 {
-    size_t length = strlen(line);
+    size_t length = strlen(text);
 
-    if (length == 0 || line[length - 1] != '\n') {
+    if (length == 0 || text[length - 1] != '\n') {
         fault("a line without an end, or too long");
         return;
     }
-    line[length - 1] = '\0';
-    if (line[0] == '\0' || line[0] == '#')
+    text[length - 1] = '\0';
+    if (text[0] == '\0' || text[0] == '#')
         return;
-    if (strncmp(line, "== ", 3) == 0) {
+    if (strncmp(text, "== ", 3) == 0) {
         if (*cases_of_test == 0)
             fault("a test without a case before this one");
-        begin_test(line + 3);
+        begin_test(text + 3);
         *cases_of_test = 0;
     } else if (*cases_of_test < 0) {
         fault("a case without a test's name");
     } else {
-        run_line(line);
+        run_line(text);
         ++*cases_of_test;
     }
 }
 
 void run_cases_of(const char *path)
 {
-    static char line[LONGEST_LINE];
+    static char text[LONGEST_LINE];
     unsigned long cases_before = cases_run, calls_before = calls_made;
     long cases_of_test = -1;
     FILE *file = fopen(path, "r");
 
     begin_test(path);
-    file_name = path;
-    line_number = 0;
-    while (file && fgets(line, sizeof line, file)) {
-        line_number++;
-        file_line(line, &cases_of_test);
+    line.file = path;
+    line.number = 0;
+    while (file && fgets(text, sizeof text, file)) {
+        line.number++;
+        file_line(text, &cases_of_test);
     }
     if (!file || fclose(file) != 0 || cases_of_test <= 0)
         fault("no such file, or one without a case at its end");

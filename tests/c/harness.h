@@ -78,7 +78,8 @@ uint8_t random_data_byte(void);
 
 /* The cases of a file of tests/cases, and one case as such a file has it, made here. */
 void run_cases_of(const char *path);
-void run_case(const char *file, int number_of_line, const char *format, ...);
+void run_case(const char *file, int number_of_line, const char *format, ...)
+    __attribute__((format(printf, 3, 4)));
 #define CASE(...) run_case(__FILE__, __LINE__, __VA_ARGS__)
 
 /* The groups of tests. */
