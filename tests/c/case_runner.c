@@ -1,6 +1,6 @@
 /* Runs the cases of tests/cases, whose README.md says what a line is. Each call of a case is made with
  * memory of exactly its size, and the number and every word and byte afterwards are compared. Each is
- * then made again with null pointers where a length is 0, with words more than needed, which do not
+ * then made again with other pointers where a length is 0, with words more than needed, which do not
  * change, and with every smaller count of words, which is 2 (or 1, where it was 1). */
 #include "case_text.h"
 #include "harness.h"
@@ -11,7 +11,9 @@
 #include <string.h>
 
 enum { WORD = sizeof(uint64_t), MEMORIES = 4, NUMBERS = 8, MORE_WORDS = 3 };
-enum { NULL_BYTES = 1, NULL_WORDS = 2 }; /* which memory of no length has a null pointer */
+/* Which memory is meant; and what the pointers to memory of no length are: a bit for each memory says
+ * that it is null, and NOWHERE that all of them point to nothing. */
+enum { ALL_WORDS = MEMORIES, NO_WORDS, NOWHERE = 1 << MEMORIES };
 
 /* ---- a call */
 
@@ -28,23 +30,28 @@ typedef struct {
     uint64_t numbers[NUMBERS], expected;
     memory memories[MEMORIES];
     size_t memory_count;
-    int null_pointers;
+    int pointers;
 } call;
 
 static call made; /* too large for a stack */
 
+static int of_words(const memory *m)
+{
+    return m->kind == 's' || m->kind == 'w';
+}
+
 static uint8_t *bytes_at(size_t i)
 {
-    int null = made.null_pointers & NULL_BYTES && made.memories[i].given.size == 0;
+    const guarded *given = &made.memories[i].given;
 
-    return null ? NULL : made.memories[i].given.at;
+    if (given->size == 0 && made.pointers == NOWHERE)
+        return (uint8_t *)(UINTPTR_MAX - (of_words(&made.memories[i]) ? WORD - 1 : 0));
+    return given->size == 0 && made.pointers & 1 << i ? NULL : given->at;
 }
 
 static uint64_t *words_at(size_t i)
 {
-    int null = made.null_pointers & NULL_WORDS && made.memories[i].given.size == 0;
-
-    return null ? NULL : words_of(&made.memories[i].given);
+    return (uint64_t *)(void *)bytes_at(i);
 }
 
 /* The signature names a function's parameters in the header's order: n a number, b bytes that are
@@ -187,7 +194,7 @@ static void exit_value(memory *m)
 
     if (skips("same"))
         return;
-    if (m->kind == 's' || m->kind == 'w') {
+    if (of_words(m)) {
         size = words_value(bytes);
         if (size != m->need * WORD)
             no_case("not as many words as are written");
@@ -262,11 +269,6 @@ static void make_call(const function *f, uint64_t expected, int changes)
     }
 }
 
-static int of_words(const memory *m)
-{
-    return m->kind == 's' || m->kind == 'w';
-}
-
 static void with_more_words(const function *f, size_t more)
 {
     for (size_t i = 0; i < made.memory_count; i++)
@@ -275,40 +277,64 @@ static void with_more_words(const function *f, size_t more)
     make_call(f, made.expected, 1);
 }
 
-/* With at most this count of words in one memory, or in all of them where `which` is none. */
+/* This memory is one of words, and one of those that are meant. */
+static int is_meant(size_t i, size_t which)
+{
+    return of_words(&made.memories[i]) && (which == i || which == ALL_WORDS);
+}
+
+/* With at most this count of words in one memory, or in all of them. */
 static void with_fewer_words(const function *f, size_t which, size_t words)
 {
     for (size_t i = 0; i < made.memory_count; i++) {
         memory *m = &made.memories[i];
-        int fewer = of_words(m) && (i == which || which == MEMORIES) && m->size > words * WORD;
 
-        give(m, fewer ? words * WORD : m->size);
+        give(m, is_meant(i, which) && m->size > words * WORD ? words * WORD : m->size);
     }
     make_call(f, made.expected == GMV_SETTING ? GMV_SETTING : GMV_TOO_SHORT, 0);
+}
+
+/* All memory that these pointers say is null has no length, where those that are meant have no words. */
+static int may_point_so(int pointers, size_t which)
+{
+    for (size_t i = 0; i < MEMORIES && pointers != NOWHERE; i++)
+        if (pointers & 1 << i &&
+            (i >= made.memory_count || (made.memories[i].size > 0 && !is_meant(i, which))))
+            return 0;
+    return 1;
+}
+
+/* As it is, and with no words at all in one memory of words or in all, with all kinds of pointers. */
+static void with_all_pointers(const function *f)
+{
+    for (made.pointers = 0; made.pointers <= NOWHERE; made.pointers++) {
+        if (may_point_so(made.pointers, NO_WORDS))
+            with_more_words(f, 0);
+        for (size_t i = 0; i <= ALL_WORDS; i++)
+            if ((i == ALL_WORDS || (i < made.memory_count && of_words(&made.memories[i]))) &&
+                may_point_so(made.pointers, i))
+                with_fewer_words(f, i, 0);
+    }
+    made.pointers = 0;
 }
 
 static void run_call(const function *f)
 {
     size_t most = 0;
 
-    for (made.null_pointers = 0; made.null_pointers <= (NULL_BYTES | NULL_WORDS);
-         made.null_pointers++) {
-        with_more_words(f, 0);
-        with_fewer_words(f, MEMORIES, 0);
-    }
-    made.null_pointers = 0;
+    with_all_pointers(f);
     for (size_t more = 1; made.expected != GMV_TOO_SHORT && more <= MORE_WORDS; more++)
         with_more_words(f, more);
     for (size_t i = 0; i < made.memory_count; i++) {
         const memory *m = &made.memories[i];
 
-        for (size_t words = 0; of_words(m) && words < m->need; words++)
+        for (size_t words = 1; of_words(m) && words < m->need; words++)
             with_fewer_words(f, i, words);
         if (of_words(m) && m->need > most)
             most = m->need;
     }
     for (size_t words = 1; words < most; words++)
-        with_fewer_words(f, MEMORIES, words);
+        with_fewer_words(f, ALL_WORDS, words);
 }
 
 static void run_function(const function *f)
