@@ -464,7 +464,7 @@ static void a_state(const char *words, const unsigned long *w)
                  "0 state=(%lu %lu %lu %lu 0 %lu 1) report=(%lu 0 1 0 0 0 0 0)", w[0], w[1], w[2],
                  w[3], 2 + w[3], 1 + w[3]);
     for (size_t i = 0; i < 3; i++)
-        CASE("%s state=(%s) -> %s", acts[i], words, acts[i] == done || !strcmp(acts[i], done) ? after : refused);
+        CASE("%s state=(%s) -> %s", acts[i], words, strcmp(acts[i], done) == 0 ? after : refused);
 }
 
 /* A state with one word changed, for every word. */
