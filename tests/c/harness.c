@@ -9,25 +9,25 @@
 
 /* ---- tests */
 
-static const char *current;
+static char current[128]; /* the test's name */
 static int facts_failed, tests_passed, tests_failed;
 
 static void end_test(void)
 {
-    if (!current)
+    if (!current[0])
         return;
     printf("%s %s\n", facts_failed ? "FAILED" : "ok", current);
     if (facts_failed)
         tests_failed++;
     else
         tests_passed++;
-    current = NULL;
+    current[0] = '\0';
 }
 
 void begin_test(const char *name)
 {
     end_test();
-    current = name;
+    snprintf(current, sizeof current, "%s", name);
     facts_failed = 0;
 }
 
@@ -274,7 +274,7 @@ static void read_whole_part(settings link, guarded *state, const uint8_t *bytes,
 
 listing read_stream(settings link, const uint8_t *bytes, size_t length, size_t size, guarded *buffer)
 {
-    listing list = {0, {{0}}};
+    listing list = {0, {{0}}, {0}};
     guarded state = guard(GMV_READER_WORDS * sizeof(uint64_t), 0xEE);
     guarded verdict = guard(GMV_VERDICT_WORDS * sizeof(uint64_t), 0xEE);
     size_t at = 0;
@@ -289,6 +289,7 @@ listing read_stream(settings link, const uint8_t *bytes, size_t length, size_t s
         at = end;
     }
     CHECK(same_from(buffer, buffer->size));
+    memcpy(list.state, state.at, sizeof list.state);
     give_back(&state);
     give_back(&verdict);
     return list;

@@ -63,6 +63,7 @@ enum { LISTED = 64 };
 typedef struct {
     size_t count;
     uint64_t words[LISTED][GMV_VERDICT_WORDS]; /* GMV_VERDICT_USED: bytes of the stream read by then */
+    uint64_t state[GMV_READER_WORDS];          /* at the stream's end */
 } listing;
 
 /* Reads the bytes in parts of `size` bytes each, or of random sizes from 0 to 7 where size is 0. The
@@ -75,18 +76,21 @@ void seed_random(uint64_t seed);
 uint64_t random_below(uint64_t bound);
 uint8_t random_data_byte(void);
 
+/* The cases of a file of tests/cases, and one case as such a file has it, made here. */
+void run_cases_of(const char *path);
+void run_case(const char *file, int number_of_line, const char *format, ...)
+    __attribute__((format(printf, 3, 4)));
+#define CASE(...) run_case(__FILE__, __LINE__, __VA_ARGS__)
+
 /* The groups of tests. */
+void test_constants(void);
 void test_cases(void);
 void test_round_trips(void);
-void test_refusals(void);
 void test_settings(void);
 void test_random(void);
-void test_messages(void);
-void test_fields(void);
-void test_receiver(void);
-void test_sender(void);
+void test_sweeps(void);
+void test_message_trips(void);
 void test_link(void);
-void test_station(void);
 void test_lent(void);
 void test_duties(void);
 void test_stack(void);

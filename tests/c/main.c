@@ -11,24 +11,34 @@ static void run_all(enum memory_kind kind)
 {
     use_memory(kind);
     seed_random(20261115);
+    test_constants();
     test_cases();
     test_round_trips();
-    test_refusals();
     test_settings();
     test_random();
-    test_messages();
-    test_fields();
-    test_receiver();
-    test_sender();
+    test_sweeps();
+    test_message_trips();
     test_link();
-    test_station();
     test_lent();
     test_duties();
 }
 
-int main(void)
+/* The cases of these files alone. */
+static int run_files(int count, char **paths)
+{
+    for (int kind = FENCED_PAGES; kind <= EXACT_MALLOC; kind++) {
+        use_memory((enum memory_kind)kind);
+        for (int i = 0; i < count; i++)
+            run_cases_of(paths[i]);
+    }
+    return finish_tests();
+}
+
+int main(int count, char **arguments)
 {
     setvbuf(stdout, NULL, _IOLBF, 0); /* what was said stays said if a call faults */
+    if (count > 1)
+        return run_files(count - 1, arguments + 1);
 #ifdef NEVER_WRITTEN
     test_lent(); /* under valgrind: docs/TRUSTED.md */
     return finish_tests();

@@ -1,4 +1,5 @@
-/* Settings: 1 exactly where one is outside its range, in every function and before all else. */
+/* Settings: the defaults, and every pair of SB and EB: 1 exactly where one is outside its range, in
+ * every function of blocks and before all else. */
 #include "harness.h"
 
 #include <string.h>
@@ -87,35 +88,6 @@ static void every_start_and_end_byte(void)
     end_memory(&m);
 }
 
-static void large_start_and_end(void)
-{
-    const uint64_t large[] = {256 + 0x0B, (uint64_t)1 << 32, ((uint64_t)1 << 32) + 0x0B,
-                              UINT64_MAX, UINT64_MAX - 0xF4};
-    memory m = new_memory();
-
-    for (size_t i = 0; i < sizeof large / sizeof large[0]; i++) {
-        settings start = {0, large[i], 0x1C, 4}, end = {0, 0x0B, large[i], 4};
-
-        refused_everywhere(start, &m);
-        refused_everywhere(end, &m);
-    }
-    end_memory(&m);
-}
-
-static void every_kind_of_limit(settings link)
-{
-    const uint64_t limits[] = {0, 1, 2, 127, 128, 4096, 65535, 65536, 99993, 99994, 99995, 100000,
-                               UINT32_MAX, (uint64_t)UINT32_MAX + 2, (uint64_t)1 << 63,
-                               UINT64_MAX - 11, UINT64_MAX};
-    memory m = new_memory();
-
-    for (size_t i = 0; i < sizeof limits / sizeof limits[0]; i++) {
-        link.data_limit = limits[i];
-        refused_or_taken(limits[i] >= 1 && limits[i] <= 99994, link, &m);
-    }
-    end_memory(&m);
-}
-
 /* The defaults are what a minimal block has, and what document 01's cases have. */
 static void defaults(void)
 {
@@ -140,10 +112,4 @@ void test_settings(void)
     defaults();
     begin_test("settings: SB and EB from 0 to 300, all pairs");
     every_start_and_end_byte();
-    begin_test("settings: SB and EB far over a byte");
-    large_start_and_end();
-    begin_test("settings: the hybrid data limit");
-    every_kind_of_limit(hybrid(1));
-    begin_test("settings: the minimal data limit");
-    every_kind_of_limit(minimal(1));
 }

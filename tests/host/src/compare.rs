@@ -17,7 +17,7 @@ pub const GUARD_BYTE: u8 = 0xC3;
 /// blocks, and messages that were read or written. Of the messages read, those with a header that
 /// the model reads are counted too, and those with an answer. Acts are calls of the functions for
 /// the receiver and the sender, those on simulated links apart, with the runs of such links; acts of
-/// stations and calls of the field reader are counted apart too.
+/// stations, calls of the field reader and calls of the cases by hand are counted apart too.
 pub struct Compare {
     pub random: Random,
     pub inputs: u64,
@@ -30,6 +30,7 @@ pub struct Compare {
     pub kinds: Kinds,
     pub station: StationCounts,
     pub fields: FieldCounts,
+    pub cases: u64,
 }
 
 /// Acts by what every run promises: the receiver's by layer, the sender's by r (`RESENDS`), and those
@@ -68,11 +69,11 @@ pub struct WriteCall<'a> {
 }
 
 /// What a call must give: its number and the memory afterwards.
-struct Expected {
-    number: u64,
-    state: Vec<u64>,
-    buffer: Vec<u8>,
-    words: Vec<u64>,
+pub struct Expected {
+    pub number: u64,
+    pub state: Vec<u64>,
+    pub buffer: Vec<u8>,
+    pub words: Vec<u64>,
 }
 
 /// A reader in the middle of a stream, beside what its memory must be.
@@ -120,6 +121,7 @@ impl Compare {
             kinds: Kinds::default(),
             station: StationCounts::default(),
             fields: FieldCounts::default(),
+            cases: 0,
         }
     }
 
@@ -343,7 +345,7 @@ impl Compare {
     }
 }
 
-fn expected_read(call: &ReadCall, verdict_before: &[u64]) -> Expected {
+pub fn expected_read(call: &ReadCall, verdict_before: &[u64]) -> Expected {
     let mut expected = Expected {
         number: 0,
         state: call.state.to_vec(),
@@ -372,7 +374,7 @@ fn expected_read(call: &ReadCall, verdict_before: &[u64]) -> Expected {
     expected
 }
 
-fn expected_write(call: &WriteCall, report_before: &[u64]) -> Expected {
+pub fn expected_write(call: &WriteCall, report_before: &[u64]) -> Expected {
     let mut expected = Expected {
         number: 0,
         state: Vec::new(),

@@ -1,5 +1,9 @@
-//! Runs the groups of tests: `hosttests [SEED] [GROUP]`. The seed is a decimal number.
+//! Runs the groups of tests: `hosttests [SEED] [GROUP]`. The seed is a decimal number. `hosttests
+//! --cases FILE..` runs the cases of these files alone.
 
+mod case_model;
+mod case_text;
+mod cases;
 mod compare;
 mod compare_ends;
 mod compare_fields;
@@ -28,13 +32,14 @@ use std::time::Instant;
 
 const SEED: u64 = 20_261_115;
 
-const COUNTS: usize = 28;
+const COUNTS: usize = 29;
 
 /// How many inputs a whole run compares at least: calls of the functions for blocks; messages read
 /// or written; of the messages read, those whose header can be read, and those that are answers;
 /// acts of the receiver and the sender compared with the model; acts on simulated links, and runs of
 /// such links; of the acts compared, those of each kind; acts of stations, with what happened in them;
-/// and calls of the field reader, with what they gave, and headers and answers found by its steps.
+/// calls of the field reader, with what they gave, and headers and answers found by its steps; and
+/// calls of the cases by hand.
 const LEAST: [(&str, u64); COUNTS] = [
     ("inputs", 1_000_000),
     ("messages", 2_000_000),
@@ -64,6 +69,7 @@ const LEAST: [(&str, u64); COUNTS] = [
     ("calls that found no field", 100_000),
     ("headers found by steps", 20_000),
     ("answers found by steps", 10_000),
+    ("calls of cases by hand", 400_000),
 ];
 
 /// What a group compared, in the order of `LEAST`.
@@ -99,6 +105,7 @@ fn counts(compare: &Compare) -> [u64; COUNTS] {
         fields.none,
         fields.headers,
         fields.answers,
+        compare.cases,
     ]
 }
 
@@ -130,6 +137,7 @@ fn tally(compare: &Compare) -> String {
         (compare.link_acts, "acts on links"),
         (compare.station.acts, "acts of stations"),
         (compare.fields.calls, "calls of the field reader"),
+        (compare.cases, "calls of cases"),
     ];
     let counted = counts.iter().filter(|(count, _)| *count > 0);
     let texts: Vec<String> = counted
@@ -150,8 +158,30 @@ fn print_counts(compared: &[u64; COUNTS]) {
     }
 }
 
+/// The cases of these files alone, each a group.
+fn run_files(paths: &[String]) -> ExitCode {
+    let (mut passed, mut failed) = (0, 0);
+    faults::install();
+    for path in paths {
+        let mut compare = Compare::new(SEED);
+        faults::enter("cases", passed, failed);
+        match cases::file_at(&mut compare, path) {
+            Ok(()) => passed += 1,
+            Err(why) => {
+                println!("FAIL {why}");
+                failed += 1;
+            }
+        }
+    }
+    println!("host: {passed} passed, {failed} failed");
+    ExitCode::from(u8::from(failed > 0 || passed == 0))
+}
+
 fn main() -> ExitCode {
     let arguments: Vec<String> = std::env::args().skip(1).collect();
+    if arguments.first().is_some_and(|word| word == "--cases") {
+        return run_files(&arguments[1..]);
+    }
     let seed = match arguments.first().map(|text| text.parse::<u64>()) {
         None => SEED,
         Some(Ok(seed)) => seed,

@@ -1,5 +1,4 @@
-//! The two ends at the C boundary: null pointers with length 0, and memory at the edge of what may
-//! be touched.
+//! The two ends at the C boundary: memory at the edge of what may be touched.
 
 use super::memory::Pages;
 use crate::compare::{Compare, Outcome};
@@ -8,83 +7,12 @@ use crate::guarded::same;
 use crate::library;
 use crate::make;
 use crate::make_ends::{self, Plan};
-use host::ends_ffi::{self, raw};
+use host::ends_ffi;
 use host::message_model::{Memory, LARGEST_SENT, MINUS_ONE};
 use host::model::Settings;
 use host::prng::Random;
 use host::receiver_model::{self, Incoming, Received, RECEIVED_WORDS};
 use host::sender_model::{self, Act, Acted, Sender, ACT_WORDS, SENDER_WORDS};
-use std::ptr::{dangling_mut, null_mut};
-
-/// Null pointers, and pointers to nothing, with length 0.
-pub fn ends_null_pointers(compare: &mut Compare) -> Outcome {
-    let nowhere: [*mut u8; 3] = [null_mut(), dangling_mut(), usize::MAX as *mut u8];
-    for pointer in nowhere {
-        compare.acts += 24;
-        let found = receiver_with(pointer);
-        let expected = [2, 2, 2, 2, 0, 2, 2, 2, 0, 1];
-        same("answer", &found, &expected).map_err(|why| format!("receiver, {pointer:?}: {why}"))?;
-        let found = sender_with(pointer);
-        let expected = [1, 2, 9, 2, 2, 2, 2, 2, 2, 2, 2, 0, 1, 2];
-        same("answer", &found, &expected).map_err(|why| format!("sender, {pointer:?}: {why}"))?;
-    }
-    Ok(())
-}
-
-/// Answers to: a fresh state of no words; the hybrid receiver without a state, a buffer, a report,
-/// and data; the minimal one the same; and with a wrong setting and nothing at all.
-fn receiver_with(bytes: *mut u8) -> [u64; 10] {
-    let words: *mut u64 = bytes.cast();
-    let none: *const u8 = bytes;
-    let (mut state, mut buffer, mut report) = ([0], [0; 150], [0; 3]);
-    let (s, b, r) = (state.as_mut_ptr(), buffer.as_mut_ptr(), report.as_mut_ptr());
-    // SAFETY: every pointer has memory of the length passed, which is 0 for the odd ones.
-    unsafe {
-        [
-            raw::gmv_receiver_fresh(words, 0),
-            raw::gmv_hybrid_receive(11, 28, 128, 1, words, 0, 0, 68, none, 0, b, 150, 0, r, 3),
-            raw::gmv_hybrid_receive(11, 28, 128, 1, s, 1, 0, 68, none, 0, bytes, 0, 0, r, 3),
-            raw::gmv_hybrid_receive(11, 28, 128, 1, s, 1, 0, 68, none, 0, b, 150, 0, words, 0),
-            raw::gmv_hybrid_receive(11, 28, 128, 1, s, 1, 0, 68, none, 0, b, 150, 0, r, 3),
-            raw::gmv_minimal_receive(128, 1, words, 0, 0, 68, none, 0, b, 150, 0, r, 3),
-            raw::gmv_minimal_receive(128, 1, s, 1, 0, 68, none, 0, bytes, 0, 0, r, 3),
-            raw::gmv_minimal_receive(128, 1, s, 1, 0, 68, none, 0, b, 150, 0, words, 0),
-            raw::gmv_minimal_receive(128, 1, s, 1, 0, 68, none, 0, b, 150, 0, r, 3),
-            raw::gmv_minimal_receive(127, 1, words, 0, 0, 68, none, 0, bytes, 0, 0, words, 0),
-        ]
-    }
-}
-
-/// Answers to: a fresh state of a wrong number and of no words; submitting nothing, and without a
-/// state or report; the other acts without state or report; a block without data; a control block
-/// of no type, and one without buffer and report.
-fn sender_with(bytes: *mut u8) -> [u64; 14] {
-    let words: *mut u64 = bytes.cast();
-    let none: *const u8 = bytes;
-    let (mut state, mut report) = ([1, 0, 0, 0, 0, 2, 1], [0; 8]);
-    let (s, r) = (state.as_mut_ptr(), report.as_mut_ptr());
-    let mut buffer = [0; 60];
-    let (b, text) = (buffer.as_mut_ptr(), b"ADT".as_ptr());
-    // SAFETY: every pointer has memory of the length passed, which is 0 for the odd ones.
-    unsafe {
-        [
-            raw::gmv_sender_fresh(0, words, 0),
-            raw::gmv_sender_fresh(1, words, 0),
-            raw::gmv_sender_submit(128, none, 0, s, 7, r, 8),
-            raw::gmv_sender_submit(128, none, 0, words, 0, r, 8),
-            raw::gmv_sender_submit(128, none, 0, s, 7, words, 0),
-            raw::gmv_sender_open(words, 0, words, 0),
-            raw::gmv_sender_ended(s, 7, words, 0),
-            raw::gmv_sender_reset(words, 0, r, 8),
-            raw::gmv_sender_timer(3, words, 0, words, 0),
-            raw::gmv_sender_block(3, 0, 68, none, 0, words, 0, r, 8),
-            raw::gmv_sender_block(3, 0, 68, none, 0, s, 7, words, 0),
-            raw::gmv_sender_block(3, 0, 68, none, 0, s, 7, r, 8),
-            raw::gmv_hybrid_control_block(11, 28, 128, none, 0, 0, b, 60, 0, r, 8),
-            raw::gmv_minimal_control_block(128, text, 3, 0, bytes, 0, 0, words, 0),
-        ]
-    }
-}
 
 /// One set of pages for each kind of memory.
 struct GuardPages {

@@ -3,94 +3,37 @@
 
 use crate::compare::{Compare, Outcome};
 use crate::guarded::same;
-use crate::library;
 use crate::make::CARRIAGE_RETURN;
 use crate::make_messages::{self, ANSWER_17, BAR, CONTROL_0, CONTROL_MINUS_1};
 use crate::real;
 use host::ffi;
-use host::field_model::{Fields, Next};
 
-/// A message and each step through it, worked out by hand: offset, length, delimiter (1 bar, 2 CR,
-/// 3 the message's end), next position.
-type Hand<'a> = (&'a [u8], &'a [[u64; 4]]);
-
-const HANDS: [Hand; 15] = [
-    (
-        ANSWER_17,
-        &[
-            [0, 3, 1, 4],
-            [4, 4, 1, 9],
-            [9, 0, 1, 10],
-            [10, 0, 1, 11],
-            [11, 0, 1, 12],
-            [12, 0, 1, 13],
-            [13, 0, 1, 14],
-            [14, 0, 1, 15],
-            [15, 3, 1, 19],
-            [19, 2, 1, 22],
-            [22, 1, 1, 24],
-            [24, 5, 2, 30],
-            [30, 3, 1, 34],
-            [34, 2, 1, 37],
-            [37, 2, 1, 40],
-            [40, 0, 1, 41],
-            [41, 2, 2, 44],
-        ],
-    ),
-    (b"", &[]),
-    (b"|", &[[0, 0, 1, 1]]),
-    (b"\r", &[[0, 0, 2, 1]]),
-    (b"x", &[[0, 1, 3, 1]]),
-    (b"x|", &[[0, 1, 1, 2]]),
-    (b"x\r", &[[0, 1, 2, 2]]),
-    (b"x|\r", &[[0, 1, 1, 2], [2, 0, 2, 3]]),
-    (b"x\r|", &[[0, 1, 2, 2], [2, 0, 1, 3]]),
-    (b"\r\r", &[[0, 0, 2, 1], [1, 0, 2, 2]]),
-    (b"||x", &[[0, 0, 1, 1], [1, 0, 1, 2], [2, 1, 3, 3]]),
-    (b"x|yz", &[[0, 1, 1, 2], [2, 2, 3, 4]]),
-    (b"x\r\ny", &[[0, 1, 2, 2], [2, 2, 3, 4]]),
-    (b"\n\0^~\\&", &[[0, 6, 3, 6]]),
-    (
-        b"\xFC\x8D|\x7C\x0D\x0D",
-        &[[0, 2, 1, 3], [3, 0, 1, 4], [4, 0, 2, 5], [5, 0, 2, 6]],
-    ),
+/// Document 01's answer, and short messages with every way to begin and to end.
+const SHORT: [&[u8]; 15] = [
+    ANSWER_17,
+    b"",
+    b"|",
+    b"\r",
+    b"x",
+    b"x|",
+    b"x\r",
+    b"x|\r",
+    b"x\r|",
+    b"\r\r",
+    b"||x",
+    b"x|yz",
+    b"x\r\ny",
+    b"\n\0^~\\&",
+    b"\xFC\x8D|\x7C\x0D\x0D",
 ];
 
-/// Each message by hand, and behind its last field none; the model says the same.
-pub fn fields_by_hand(compare: &mut Compare) -> Outcome {
-    for (message, expected) in HANDS {
-        let steps: Vec<Next> = expected
-            .iter()
-            .map(|&[offset, length, delimiter, position]| [1, offset, length, delimiter, position])
-            .collect();
-        same("model's steps", &Fields::new(message).steps(), &steps)
-            .and_then(|()| library_steps(message, &steps))
-            .map_err(|why| format!("{why}; message {}", library::text(message)))?;
-        compare.walk(message)?;
-    }
-    Ok(())
-}
-
-fn library_steps(message: &[u8], steps: &[Next]) -> Outcome {
-    let mut position = 0;
-    let behind = [0, 0, 0, 0, message.len() as u64];
-    for step in steps.iter().chain([&behind, &behind]) {
-        let mut words = [77; 6];
-        let answer = ffi::field_next(message, position, &mut words);
-        same("answer", &[answer], &[0])?;
-        same("words", &words[..5], step)?;
-        same("word behind", &words[5..], &[77])?;
-        position = words[4] as usize;
-    }
-    Ok(())
-}
-
-/// Every position in the messages by hand, in a real message and in document 01's, and far behind.
+/// A walk through short messages, and every position in these, in real messages and in document 01's,
+/// and far behind.
 pub fn field_positions(compare: &mut Compare) -> Outcome {
-    let hands = HANDS.map(|(message, _)| message);
+    SHORT.iter().try_for_each(|message| compare.walk(message))?;
     let real = real::MESSAGES.map(|(message, _)| message);
     let others = [CONTROL_0, CONTROL_MINUS_1, real::SEGMENTS];
-    for message in hands.into_iter().chain(real).chain(others) {
+    for message in SHORT.into_iter().chain(real).chain(others) {
         compare.every_position(message)?;
     }
     Ok(())

@@ -1,5 +1,5 @@
-//! The reader over a message at the C boundary: too few words, null pointers with length 0, and
-//! memory at the edge of what may be touched.
+//! The reader over a message at the C boundary: too few words, and memory at the edge of what may be
+//! touched.
 
 use super::memory::Pages;
 use crate::compare::{Compare, Outcome};
@@ -7,9 +7,8 @@ use crate::compare_fields::FAR;
 use crate::guarded::same;
 use crate::library;
 use crate::make_messages::{self, ANSWER_17};
-use host::ffi::{self, raw};
+use host::ffi;
 use host::field_model::{Fields, NEXT_WORDS};
-use std::ptr::{dangling_mut, null_mut};
 
 /// Too few words are 2 and nothing changes, whatever message and position are; more than needed stay
 /// as they were.
@@ -29,38 +28,6 @@ pub fn field_words(compare: &mut Compare) -> Outcome {
         }
     }
     Ok(())
-}
-
-/// Null pointers, and pointers to nothing, with length 0, from any position on.
-pub fn field_null_pointers(compare: &mut Compare) -> Outcome {
-    let nowhere: [*mut u8; 3] = [null_mut(), dangling_mut(), usize::MAX as *mut u8];
-    for pointer in nowhere {
-        for position in [0, 1, 44].into_iter().chain(FAR) {
-            compare.fields.calls += 3;
-            compare.fields.none += 1;
-            with_pointer(pointer, position)
-                .map_err(|why| format!("{pointer:?}, position {position}: {why}"))?;
-        }
-    }
-    Ok(())
-}
-
-/// No field of nothing; 2 for a message without words, and for nothing without words.
-fn with_pointer(bytes: *mut u8, position: usize) -> Outcome {
-    let no_words: *mut u64 = bytes.cast();
-    let none: *const u8 = bytes;
-    let mut words = [77; NEXT_WORDS];
-    let (text, length) = (ANSWER_17.as_ptr(), ANSWER_17.len());
-    // SAFETY: every pointer has memory of the length passed, which is 0 for the odd ones.
-    let found = unsafe {
-        [
-            raw::gmv_field_next(none, 0, position, words.as_mut_ptr(), NEXT_WORDS),
-            raw::gmv_field_next(text, length, position, no_words, 0),
-            raw::gmv_field_next(none, 0, position, no_words, 0),
-        ]
-    };
-    same("answer", &found, &[0, 2, 2])?;
-    same("words", &words, &[0, 0, 0, 0, position as u64])
 }
 
 /// One set of pages for the message, and one for the words.

@@ -1,59 +1,12 @@
-//! Memory at the C boundary: null pointers with length 0, and memory that ends (or begins) at a
-//! page that can't be touched, so that a byte read or written outside is a fault.
+//! Memory at the C boundary that ends (or begins) at a page that can't be touched, so that a byte read
+//! or written outside is a fault.
 
 use crate::compare::{Compare, Outcome};
 use crate::guarded::same;
 use crate::library;
 use crate::make;
-use host::ffi::raw;
 use host::model::{self, Settings};
-use std::ptr::{dangling_mut, null, null_mut};
-
-/// Null pointers, and pointers to nothing, with length 0.
-pub fn null_pointers(compare: &mut Compare) -> Outcome {
-    let nowhere: [*mut u8; 3] = [null_mut(), dangling_mut(), usize::MAX as *mut u8];
-    for pointer in nowhere {
-        compare.inputs += 9;
-        let found = with_pointer(pointer);
-        let expected = [2, 2, 0, 2, 2, 5, 5, 0, 2];
-        same("answer", &found, &expected).map_err(|why| format!("{pointer:?}: {why}"))?;
-    }
-    for limit in [1, 99_994] {
-        compare.check(&Settings::minimal(limit), &[])?;
-        compare.check(&Settings::hybrid(0x0B, 0x1C, limit), &[])?;
-    }
-    Ok(())
-}
-
-/// Answers to: a fresh state of no words; reading with no state; an empty part; no buffer; no
-/// verdict; two checks of nothing; writing no data; writing with no report.
-fn with_pointer(bytes: *mut u8) -> [u64; 9] {
-    let words: *mut u64 = bytes.cast();
-    let mut state = [0; 4];
-    let mut buffer = [0; 40];
-    let mut verdict = [0; 8];
-    let mut report = [0; 2];
-    let (s, b, v) = (
-        state.as_mut_ptr(),
-        buffer.as_mut_ptr(),
-        verdict.as_mut_ptr(),
-    );
-    let none: *const u8 = bytes;
-    // SAFETY: every pointer has memory of the length passed, which is 0 for the odd ones.
-    unsafe {
-        [
-            raw::gmv_reader_fresh(words, 0),
-            raw::gmv_hybrid_read(11, 28, 9, words, 0, none, 0, b, 40, v, 8),
-            raw::gmv_hybrid_read(11, 28, 9, s, 4, none, 0, b, 40, v, 8),
-            raw::gmv_minimal_read(9, s, 4, null(), 0, bytes, 0, v, 8),
-            raw::gmv_minimal_read(9, s, 4, none, 0, b, 40, words, 0),
-            raw::gmv_hybrid_check(11, 28, 9, none, 0, v, 8),
-            raw::gmv_minimal_check(9, none, 0, v, 8),
-            raw::gmv_hybrid_write(11, 28, 9, 68, none, 0, b, 40, 0, report.as_mut_ptr(), 2),
-            raw::gmv_minimal_write(9, none, 0, b, 40, 0, words, 0),
-        ]
-    }
-}
+use std::ptr::null_mut;
 
 const PAGE: usize = 4096;
 

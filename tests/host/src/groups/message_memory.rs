@@ -1,56 +1,12 @@
-//! Messages at the C boundary: null pointers with length 0, and memory at the edge of what may be
-//! touched.
+//! Messages at the C boundary: memory at the edge of what may be touched.
 
 use super::memory::Pages;
 use crate::compare::{Compare, Outcome};
 use crate::guarded::same;
 use crate::library;
-use crate::make_messages::{self, ANSWER_17};
-use host::ffi::{self, raw};
+use crate::make_messages;
+use host::ffi;
 use host::message_model::{self, Memory, Written, ANSWER_WORDS, HEADER_WORDS, MINUS_ONE};
-use std::ptr::{dangling_mut, null_mut};
-
-/// Null pointers, and pointers to nothing, with length 0.
-pub fn message_null_pointers(compare: &mut Compare) -> Outcome {
-    let nowhere: [*mut u8; 3] = [null_mut(), dangling_mut(), usize::MAX as *mut u8];
-    for pointer in nowhere {
-        compare.messages += 12;
-        let found = with_pointer(pointer);
-        let expected = [9, 2, 2, 9, 2, 2, 9, 2, 2, 1, 1, 2];
-        same("answer", &found, &expected).map_err(|why| format!("{pointer:?}: {why}"))?;
-    }
-    Ok(())
-}
-
-/// Answers to: reading a header of nothing, then without words, then neither; the same for an
-/// answer; writing for no control ID, without a buffer, without a report, and with nothing at all;
-/// a control message of no type, and one without buffer and report.
-fn with_pointer(bytes: *mut u8) -> [u64; 12] {
-    let words: *mut u64 = bytes.cast();
-    let none: *const u8 = bytes;
-    let (mut header, mut answer) = ([0; HEADER_WORDS], [0; ANSWER_WORDS]);
-    let (h, a) = (header.as_mut_ptr(), answer.as_mut_ptr());
-    let (mut buffer, mut report) = ([0; 60], [0; 2]);
-    let (b, r) = (buffer.as_mut_ptr(), report.as_mut_ptr());
-    let (text, length) = (ANSWER_17.as_ptr(), ANSWER_17.len());
-    // SAFETY: every pointer has memory of the length passed, which is 0 for the odd ones.
-    unsafe {
-        [
-            raw::gmv_header_read(none, 0, h, HEADER_WORDS),
-            raw::gmv_header_read(text, length, words, 0),
-            raw::gmv_header_read(none, 0, words, 0),
-            raw::gmv_answer_read(none, 0, a, ANSWER_WORDS),
-            raw::gmv_answer_read(text, length, words, 0),
-            raw::gmv_answer_read(none, 0, words, 0),
-            raw::gmv_answer_write(none, 0, 1, 17, b, 60, 0, r, 2),
-            raw::gmv_answer_write(text, 3, 1, 17, bytes, 0, 0, r, 2),
-            raw::gmv_answer_write(text, 3, 1, 17, b, 60, 0, words, 0),
-            raw::gmv_answer_write(none, 0, 0, 17, bytes, 0, 0, words, 0),
-            raw::gmv_control_write(none, 0, 0, b, 60, 0, r, 2),
-            raw::gmv_control_write(text, 3, 0, bytes, 0, 0, words, 0),
-        ]
-    }
-}
 
 /// One set of pages for each kind of memory.
 struct GuardPages {

@@ -2,15 +2,12 @@
 
 mod blocks;
 mod bytes;
-mod ends_hand;
 mod ends_memory;
 mod fields;
 mod fields_memory;
-mod hand;
 mod headers;
 mod links;
 mod memory;
-mod message_hand;
 mod message_memory;
 mod message_writers;
 mod receiver;
@@ -20,20 +17,35 @@ mod sender_interruptions;
 mod sender_words;
 mod states;
 mod station;
-mod station_hand;
 mod station_memory;
 mod station_words;
 mod streams;
 mod writers;
 
+use crate::cases;
 use crate::compare::{Compare, Outcome};
 
 pub type Group = fn(&mut Compare) -> Outcome;
 
 pub const ALL: &[(&str, Group)] = &[
-    ("cases_by_hand", hand::cases_by_hand),
-    ("writes_by_hand", hand::writes_by_hand),
-    ("checks_by_hand", hand::checks_by_hand),
+    ("every_file_of_cases", cases::every_file),
+    ("cases_of_blocks", |compare| cases::file(compare, "blocks")),
+    ("cases_of_messages", |compare| {
+        cases::file(compare, "messages")
+    }),
+    ("cases_of_fields", |compare| cases::file(compare, "fields")),
+    ("cases_of_the_receiver", |compare| {
+        cases::file(compare, "receiver")
+    }),
+    ("cases_of_the_sender", |compare| {
+        cases::file(compare, "sender")
+    }),
+    ("cases_of_control_blocks", |compare| {
+        cases::file(compare, "control")
+    }),
+    ("cases_of_the_station", |compare| {
+        cases::file(compare, "station")
+    }),
     ("valid_blocks", blocks::valid_blocks),
     ("real_messages", blocks::real_messages),
     ("damaged_fields", blocks::damaged_fields),
@@ -64,11 +76,7 @@ pub const ALL: &[(&str, Group)] = &[
     ("writer", writers::writer),
     ("writer_refusals", writers::writer_refusals),
     ("writer_starts", writers::writer_starts),
-    ("null_pointers", memory::null_pointers),
     ("guard_pages", memory::guard_pages),
-    ("messages_by_hand", message_hand::messages_by_hand),
-    ("numbers_by_hand", message_hand::numbers_by_hand),
-    ("written_by_hand", message_hand::written_by_hand),
     ("real_headers", headers::real_headers),
     ("real_fields", headers::real_fields),
     ("damaged_messages", headers::damaged_messages),
@@ -84,12 +92,7 @@ pub const ALL: &[(&str, Group)] = &[
     ("control_messages", message_writers::control_messages),
     ("control_refusals", message_writers::control_refusals),
     ("message_words", message_writers::message_words),
-    (
-        "message_null_pointers",
-        message_memory::message_null_pointers,
-    ),
     ("message_guard_pages", message_memory::message_guard_pages),
-    ("fields_by_hand", fields::fields_by_hand),
     ("field_positions", fields::field_positions),
     ("real_walks", fields::real_walks),
     ("damaged_walks", fields::damaged_walks),
@@ -99,10 +102,7 @@ pub const ALL: &[(&str, Group)] = &[
     ("random_walks", fields::random_walks),
     ("long_walks", fields::long_walks),
     ("field_words", fields_memory::field_words),
-    ("field_null_pointers", fields_memory::field_null_pointers),
     ("field_guard_pages", fields_memory::field_guard_pages),
-    ("receiver_by_hand", ends_hand::receiver_by_hand),
-    ("sender_by_hand", ends_hand::sender_by_hand),
     ("receiver_fresh", receiver::receiver_fresh),
     ("receiver_table", receiver::receiver_table),
     ("receiver_histories", receiver::receiver_histories),
@@ -141,9 +141,7 @@ pub const ALL: &[(&str, Group)] = &[
     ("links", links::links),
     ("link_deviations", links::link_deviations),
     ("answer_of_earlier_run", links::answer_of_earlier_run),
-    ("ends_null_pointers", ends_memory::ends_null_pointers),
     ("ends_guard_pages", ends_memory::ends_guard_pages),
-    ("station_by_hand", station_hand::station_by_hand),
     ("station_fresh", station_words::station_fresh),
     ("station_numbers", station_words::station_numbers),
     ("station_lengths", station_words::station_lengths),
@@ -159,9 +157,5 @@ pub const ALL: &[(&str, Group)] = &[
     ("station_small_words", station_words::station_small_words),
     ("station_refusals", station_words::station_refusals),
     ("station_short_words", station_words::station_short_words),
-    (
-        "station_null_pointers",
-        station_memory::station_null_pointers,
-    ),
     ("station_guard_pages", station_memory::station_guard_pages),
 ];
