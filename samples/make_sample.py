@@ -15,8 +15,14 @@ The message is the one of source document 004, lines 98 to 116. Nothing here use
 import os
 import sys
 
-SB, EB, CR = b"\x0b", b"\x1c", b"\r"
+HERE = os.path.dirname(os.path.abspath(__file__))
+sys.dont_write_bytecode = True
+sys.path.append(os.path.join(HERE, "..", "tests"))
+
+from blocks import CR, EB, Rules
+
 DATA_LIMIT = 4096
+block = Rules(True, DATA_LIMIT).block
 
 MESSAGE = b"".join(
     segment + CR
@@ -35,19 +41,6 @@ MESSAGE = b"".join(
 )
 
 
-def block(data, kind=b"D", version=b"23", count=None, sum_digits=None, end=EB + CR):
-    """A hybrid block; what is not given is as it should be."""
-    summed = SB + kind + version + CR + data
-    checksum = 0
-    for byte in summed:
-        checksum ^= byte
-    if count is None:
-        count = 5 + len(data)
-    if sum_digits is None:
-        sum_digits = b"%03d" % checksum
-    return summed + b"%05d" % count + sum_digits + end
-
-
 def pieces():
     """What is in the capture: a remark, the bytes, and for a verdict its number and data length.
 
@@ -64,15 +57,15 @@ def pieces():
         ("a block of exactly 4,096 data bytes", block(b"A" * DATA_LIMIT), (0, DATA_LIMIT)),
         ("4: one data byte more", block(b"A" * (DATA_LIMIT + 1)), (4, 0)),
         ("5: version 22, an older site", block(MESSAGE, version=b"22"), (5, 0)),
-        ("5: LF after EB where CR belongs", block(MESSAGE, end=EB + b"\n"), (5, 0)),
+        ("5: LF after EB where CR belongs", block(MESSAGE, ending=EB + b"\n"), (5, 0)),
         ("6: the count is one too high", block(MESSAGE, count=len(MESSAGE) + 6), (6, 0)),
         (
             "7: a digit of the blood pressure changed on the line",
             block(MESSAGE).replace(MESSAGE, damaged),
             (7, 0),
         ),
-        ("8: EB and CR were lost, the next block follows", block(MESSAGE, end=b""), (8, 0)),
-        ("sum not computed", block(MESSAGE, sum_digits=b"999"), (0, len(MESSAGE))),
+        ("8: EB and CR were lost, the next block follows", block(MESSAGE, ending=b""), (8, 0)),
+        ("sum not computed", block(MESSAGE, checksum=b"999"), (0, len(MESSAGE))),
         ("an answer that an operator typed: noise", b"ok?\r\n", None),
         ("a NAK block: the count was wrong", block(b"C", kind=b"N"), (0, 1)),
         ("unfinished at the end: no verdict", block(MESSAGE)[:200], None),
@@ -89,11 +82,10 @@ def capture_and_listing():
 
 
 def main():
-    here = os.path.dirname(os.path.abspath(__file__))
     made = dict(zip(("capture.bin", "capture.expected"), capture_and_listing()))
     wrong = []
     for name, content in made.items():
-        path = os.path.join(here, name)
+        path = os.path.join(HERE, name)
         if "--check" not in sys.argv[1:]:
             with open(path, "wb") as file:
                 file.write(content)

@@ -1,15 +1,14 @@
-//! Before the acts of both ends are timed: the library and plain Rust give the same words and bytes,
+//! Before the acts of both ends are timed: the library and the model give the same words and bytes,
 //! also where they refuse.
 
 use crate::act_inputs::{accepted, answer, data_block, request, LARGEST_SENT};
-use crate::ends_ffi;
-use crate::ends_ffi::names::{ACT_WORDS, RECEIVED_WORDS, SENDER_WORDS};
-use crate::ffi::names::MINUS_ONE;
-use crate::model::Settings;
-use crate::plain_ends;
-use crate::plain_sender;
-use crate::receiver_model::Incoming;
-use crate::sender_model::Act;
+use crate::model_side;
+use host::ends_ffi;
+use host::ends_ffi::names::{ACT_WORDS, RECEIVED_WORDS, SENDER_WORDS};
+use host::ffi::names::MINUS_ONE;
+use host::model::Settings;
+use host::receiver_model::Incoming;
+use host::sender_model::Act;
 
 /// States of every kind, and words that are none.
 const STATES: [[u64; SENDER_WORDS]; 15] = [
@@ -86,17 +85,17 @@ fn messages() -> Vec<Vec<u8>> {
 
 fn compare_act(act: &Act, words: &[u64; SENDER_WORDS]) {
     for (state_words, report_words) in [(7, 8), (6, 8), (7, 7)] {
-        let (mut library, mut plain) = (words.to_vec(), words.to_vec());
+        let (mut library, mut model) = (words.to_vec(), words.to_vec());
         library.truncate(state_words);
-        plain.truncate(state_words);
+        model.truncate(state_words);
         let mut reports = [[7; ACT_WORDS]; 2];
         let [first, second] = &mut reports;
         let numbers = [
             ends_ffi::sender_act(act, &mut library, &mut first[..report_words]),
-            plain_sender::sender_act(act, &mut plain, &mut second[..report_words]),
+            model_side::sender_act(act, &mut model, &mut second[..report_words]),
         ];
         assert!(numbers[0] == numbers[1], "{numbers:?}: {act:?}, {words:?}");
-        assert_eq!(library, plain, "the states differ: {act:?}, {words:?}");
+        assert_eq!(library, model, "the states differ: {act:?}, {words:?}");
         assert_eq!(reports[0], reports[1], "{act:?}, {words:?}");
     }
 }
@@ -140,17 +139,17 @@ fn compare_receive(settings: &Settings, state: u64, block: &Incoming) {
     ] {
         let (mut states, mut reports) = ([[state]; 2], [[7; RECEIVED_WORDS]; 2]);
         let mut buffers = [vec![7; length], vec![7; length]];
-        let [library, plain] = &mut buffers;
+        let [library, model] = &mut buffers;
         let [state, other_state] = &mut states;
         let [report, other_report] = &mut reports;
         let numbers = [
             ends_ffi::receive(settings, application, state, block, library, start, report),
-            plain_ends::receive(
+            model_side::receive(
                 settings,
                 application,
                 other_state,
                 block,
-                plain,
+                model,
                 start,
                 other_report,
             ),
@@ -171,16 +170,16 @@ fn compare_controls() {
             for number in [0, 1, MINUS_ONE] {
                 for length in 30..52 {
                     let mut buffers = [vec![7; length], vec![7; length]];
-                    let [library, plain] = &mut buffers;
+                    let [library, model] = &mut buffers;
                     let mut reports = [[7; 2]; 2];
                     let [first, second] = &mut reports;
                     let numbers = [
                         ends_ffi::control_block(&settings, message_type, number, library, 1, first),
-                        plain_ends::control_block(
+                        model_side::control_block(
                             &settings,
                             message_type,
                             number,
-                            plain,
+                            model,
                             1,
                             second,
                         ),

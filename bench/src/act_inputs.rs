@@ -1,15 +1,15 @@
 //! What the acts of both ends are timed on: requests, answers, and the states that histories lead to.
 
-use crate::ends_ffi::names::{
+use crate::inputs;
+use host::ends_ffi::names::{
     ACT_WORDS, RECEIVED_WORDS, RESENDS_DEFAULT, SENDER_DELIVERED, SENDER_LAST, SENDER_WAITING,
     SENDER_WORDS,
 };
-use crate::ends_ffi::{receive, receiver_fresh, sender_act, sender_fresh};
-use crate::inputs;
-use crate::model::Settings;
-use crate::prng::Random;
-use crate::receiver_model::Incoming;
-use crate::sender_model::Act;
+use host::ends_ffi::{receive, receiver_fresh, sender_act, sender_fresh};
+use host::model::Settings;
+use host::prng::Random;
+use host::receiver_model::Incoming;
+use host::sender_model::Act;
 
 pub const LIMIT: u64 = 99_994;
 pub const LARGEST_SENT: u64 = 999_999_999_999_998;

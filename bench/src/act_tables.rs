@@ -1,16 +1,16 @@
-//! The tables of the acts of both ends: against plain Rust, each act by the same act in a first
+//! The tables of the acts of both ends: against the model, each act by the same act in a first
 //! state, and submitting by the length of the message.
 
 use crate::act_inputs::{
     self, data_block, perform, SenderState, CALLS, FEWEST, LARGEST_SENT, LIMIT, MIDDLE,
 };
 use crate::acts::{ControlWork, ReceiverCall, ReceiverWork, SenderCall, SenderWork, Step};
-use crate::ends_ffi::names::{RESENDS_DEFAULT, SENDER_DELIVERED, SENDER_LAST};
-use crate::ffi::names::MINUS_ONE;
-use crate::model::{Layer, Settings};
-use crate::prng::Random;
-use crate::sender_model::Act;
-use crate::timing::{self, Spread, Work};
+use crate::timing::{self, Work};
+use host::ends_ffi::names::{RESENDS_DEFAULT, SENDER_DELIVERED, SENDER_LAST};
+use host::ffi::names::MINUS_ONE;
+use host::model::{Layer, Settings};
+use host::prng::Random;
+use host::sender_model::Act;
 
 /// How many acts come before the timed one, besides the fewest.
 const HISTORIES: [usize; 3] = [10, 1_000, 100_000];
@@ -281,15 +281,6 @@ fn measure(variants: &mut [Variant], rounds: usize) -> Vec<timing::Rounds> {
     timing::rounds(&mut works, rounds)
 }
 
-fn spread_text(spread: &Spread) -> String {
-    let Spread {
-        median,
-        least,
-        most,
-    } = spread;
-    format!("{median:.3} | {least:.3} to {most:.3}")
-}
-
 /// Medians of the ratio to the first state: of acts that read and write as many bytes as there; and of
 /// the others, divided by the ratio of those bytes.
 #[derive(Default)]
@@ -337,28 +328,30 @@ fn print_variants(act: &str, mut variants: Vec<Variant>, rounds: usize, growth: 
         let bytes = bytes_ratio(variant, &variants[0]);
         let mut text = "1 | -".to_string();
         if index > 0 {
-            text = spread_text(&by_first);
+            text = by_first.text();
             growth.add(by_first.median, bytes);
         }
         println!(
-            "| {act} | {} | {} | {} | {} | {:.1} | {text} | {bytes:.3} |",
+            "| {act} | {} | {} | {} | {} | {:.2} | {:.2} | {text} | {bytes:.3} |",
             variant.label,
             variant.given,
             variant.read,
             variant.written,
             timing::median(&rounds.library),
+            timing::median(&rounds.model),
         );
     }
 }
 
 const GROWTH_TEXT: &str = "\
-Each act by the same act in a first state: the library alone, ns per call; medians. Given: the
-bytes of the message or of the block's data; read: those that the act has to look at (submitting: all,
-and the first segment again); written: those of the reply. First state: the fewest acts before it (4;
-a receiver 1), numbers of 12 digits, r of 3, data limit 99,994. Each other row changes one thing.
+Each act by the same act of the library in a first state: ns per call; medians. Given: the bytes
+of the message or of the block's data; read: those that the act has to look at (submitting: all, and
+the first segment again); written: those of the reply. First state: the fewest acts before it (4; a
+receiver 1), numbers of 12 digits, r of 3, data limit 99,994. Each other row changes one thing.
 
-| act | state | given | read | written | library ns | by the first | spread | bytes by the first |
-|---|---|---|---|---|---|---|---|---|";
+| act | state | given | read | written | library ns | model ns | by the first | spread \
+| bytes by the first |
+|---|---|---|---|---|---|---|---|---|---|";
 
 fn growth_table(rounds: usize) {
     println!("{GROWTH_TEXT}");
@@ -376,18 +369,18 @@ fn growth_table(rounds: usize) {
     growth.print();
 }
 
-/// One row against plain Rust.
+/// One row against the model.
 fn print_ratio(act: &str, variant: Variant, rounds: usize) {
     let mut variants = [variant];
     let times = measure(&mut variants, rounds);
     let variant = &variants[0];
     println!(
-        "| {act} | {} | {} | {:.1} | {:.1} | {} |",
+        "| {act} | {} | {} | {:.2} | {:.2} | {} |",
         variant.given,
         variant.written,
         timing::median(&times[0].library),
-        timing::median(&times[0].plain),
-        spread_text(&timing::ratio(&times[0].library, &times[0].plain)),
+        timing::median(&times[0].model),
+        timing::ratio(&times[0].library, &times[0].model).text(),
     );
 }
 
@@ -406,11 +399,11 @@ fn control_variant(settings: Settings, number: u64) -> Variant {
 }
 
 const RATIO_TEXT: &str = "\
-Acts of both ends: ns per call; medians. Ratio: library by plain Rust. Given: the bytes of the
-message, of the block's data or of the type; written: those of the block that is written. Each call
-begins from words that are copied anew, which is timed on both sides.
+Acts of both ends: ns per call; medians. Ratio: library by the model of tests/host. Given: the bytes
+of the message, of the block's data or of the type; written: those of the block that is written. Each
+call begins from words that are copied anew, which is timed on both sides.
 
-| act | given | written | library ns | plain Rust ns | ratio | spread |
+| act | given | written | library ns | model ns | ratio | spread |
 |---|---|---|---|---|---|---|";
 
 fn ratio_table(rounds: usize) {
@@ -438,7 +431,7 @@ fn ratio_table(rounds: usize) {
 const SUBMIT_TEXT: &str = "\
 Submitting looks at each byte of the message: ns per call and per byte; medians.
 
-| message bytes | library ns | library ns/byte | plain Rust ns/byte | ratio | spread |
+| message bytes | library ns | library ns/byte | model ns/byte | ratio | spread |
 |---|---|---|---|---|---|";
 
 fn submit_table(rounds: usize) {
@@ -451,10 +444,10 @@ fn submit_table(rounds: usize) {
         let times = measure(&mut [variant], rounds);
         let library = timing::median(&times[0].library);
         println!(
-            "| {length} | {library:.1} | {:.3} | {:.3} | {} |",
+            "| {length} | {library:.2} | {:.3} | {:.3} | {} |",
             library / length as f64,
-            timing::median(&times[0].plain) / length as f64,
-            spread_text(&timing::ratio(&times[0].library, &times[0].plain)),
+            timing::median(&times[0].model) / length as f64,
+            timing::ratio(&times[0].library, &times[0].model).text(),
         );
     }
 }

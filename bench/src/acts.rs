@@ -1,16 +1,15 @@
-//! The two sides of the acts of both ends: the library through its C interface, and plain Rust. Each
+//! The two sides of the acts of both ends: the library through its C interface, and the model. Each
 //! call begins from words that were prepared, and leaves its words and bytes for comparison.
 
 use crate::act_inputs::{accepted, data_block, SenderState, LIMIT};
-use crate::ends_ffi;
-use crate::ends_ffi::names::{ACT_WORDS, RECEIVED_WORDS, SENDER_WORDS};
-use crate::ffi::names::{CODE_AA, REPORT_WORDS};
-use crate::model::Settings;
-use crate::plain_ends;
-use crate::plain_sender;
-use crate::receiver_model::Incoming;
-use crate::sender_model::Act;
+use crate::model_side;
 use crate::timing::Work;
+use host::ends_ffi;
+use host::ends_ffi::names::{ACT_WORDS, RECEIVED_WORDS, SENDER_WORDS};
+use host::ffi::names::{CODE_AA, REPORT_WORDS};
+use host::model::Settings;
+use host::receiver_model::Incoming;
+use host::sender_model::Act;
 use std::hint::black_box;
 
 /// One pass makes every call once. So many passes make a turn where a call takes the same time
@@ -77,7 +76,7 @@ pub struct SenderWork {
     calls: Vec<SenderCall>,
     passes: usize,
     library: Vec<SenderResult>,
-    plain: Vec<SenderResult>,
+    model: Vec<SenderResult>,
 }
 
 impl SenderWork {
@@ -95,7 +94,7 @@ impl SenderWork {
                 PASSES
             },
             library: vec![result.clone(); calls.len()],
-            plain: vec![result; calls.len()],
+            model: vec![result; calls.len()],
             calls,
         }
     }
@@ -132,13 +131,13 @@ impl Work for SenderWork {
         act_all(ends_ffi::sender_act, &self.calls, self.passes, results);
     }
 
-    fn plain(&mut self) {
-        let results = &mut self.plain;
-        act_all(plain_sender::sender_act, &self.calls, self.passes, results);
+    fn model(&mut self) {
+        let results = &mut self.model;
+        act_all(model_side::sender_act, &self.calls, self.passes, results);
     }
 
     fn compare(&self) {
-        assert!(self.library == self.plain, "the sender's words differ");
+        assert!(self.library == self.model, "the sender's words differ");
     }
 }
 
@@ -161,7 +160,7 @@ pub struct ReceiverWork {
     settings: Settings,
     calls: Vec<ReceiverCall>,
     library: ReceiverResults,
-    plain: ReceiverResults,
+    model: ReceiverResults,
 }
 
 impl ReceiverWork {
@@ -177,7 +176,7 @@ impl ReceiverWork {
             settings,
             calls,
             library: results.clone(),
-            plain: results,
+            model: results,
         }
     }
 
@@ -228,13 +227,13 @@ impl Work for ReceiverWork {
         receive_all(ends_ffi::receive, &self.settings, &self.calls, results);
     }
 
-    fn plain(&mut self) {
-        let results = &mut self.plain;
-        receive_all(plain_ends::receive, &self.settings, &self.calls, results);
+    fn model(&mut self) {
+        let results = &mut self.model;
+        receive_all(model_side::receive, &self.settings, &self.calls, results);
     }
 
     fn compare(&self) {
-        assert!(self.library == self.plain, "the receiver's results differ");
+        assert!(self.library == self.model, "the receiver's results differ");
         let taken = self.library.reports.iter().all(|report| report[0] != 0);
         assert!(taken, "a transaction that is due is not taken");
     }
@@ -246,7 +245,7 @@ pub struct ControlWork {
     number: u64,
     types: Vec<[u8; 3]>,
     library: Vec<u8>,
-    plain: Vec<u8>,
+    model: Vec<u8>,
     pub length: u64,
 }
 
@@ -257,7 +256,7 @@ impl ControlWork {
             settings,
             number,
             library: buffer.clone(),
-            plain: buffer,
+            model: buffer,
             types,
             length: 0,
         };
@@ -300,13 +299,13 @@ impl Work for ControlWork {
         self.library = buffer;
     }
 
-    fn plain(&mut self) {
-        let mut buffer = std::mem::take(&mut self.plain);
-        self.write_all(plain_ends::control_block, PASSES, &mut buffer);
-        self.plain = buffer;
+    fn model(&mut self) {
+        let mut buffer = std::mem::take(&mut self.model);
+        self.write_all(model_side::control_block, PASSES, &mut buffer);
+        self.model = buffer;
     }
 
     fn compare(&self) {
-        assert!(self.library == self.plain, "the control blocks differ");
+        assert!(self.library == self.model, "the control blocks differ");
     }
 }

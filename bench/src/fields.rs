@@ -1,12 +1,14 @@
 //! The two sides of the field reader: whole messages read field by field, by the library through its
-//! C interface and by plain Rust. Each leaves the words of all fields for comparison.
+//! C interface and by the model, which splits the message first. Each leaves the words of all fields
+//! for comparison.
 
-use crate::ffi::{self, names};
 use crate::messages::{self, HEADERS, MESSAGES};
-use crate::plain_messages;
-use crate::prng::Random;
 use crate::timing::Work;
+use host::ffi::{self, names};
+use host::field_model::Fields;
+use host::prng::Random;
 use std::hint::black_box;
+use std::slice::IterMut;
 
 /// How many bytes the messages have. The shortest is a control message.
 pub const LENGTHS: [usize; 3] = [HEADERS[0], 400, 4_000];
@@ -15,18 +17,6 @@ pub const LENGTHS: [usize; 3] = [HEADERS[0], 400, 4_000];
 const TURN_BYTES: usize = 200_000;
 
 type Words = [u64; names::NEXT_WORDS];
-
-/// The field reader of one side: leaves the words, and gives the number.
-type Next = fn(&[u8], usize, &mut Words) -> u64;
-
-fn library_next(message: &[u8], position: usize, words: &mut Words) -> u64 {
-    ffi::field_next(message, position, words)
-}
-
-fn plain_next(message: &[u8], position: usize, words: &mut Words) -> u64 {
-    *words = plain_messages::next_field(black_box(message), position);
-    names::OK
-}
 
 /// A message of so many bytes: a header of 100 bytes, and segments of empty and of short fields.
 fn message(random: &mut Random, length: usize) -> Vec<u8> {
@@ -50,7 +40,7 @@ pub struct Walking {
     messages: Vec<Vec<u8>>,
     passes: usize,
     library_words: Vec<Words>,
-    plain_words: Vec<Words>,
+    model_words: Vec<Words>,
 }
 
 impl Walking {
@@ -68,7 +58,7 @@ impl Walking {
             messages,
             passes: TURN_BYTES / (MESSAGES * length),
             library_words: vec![[0; names::NEXT_WORDS]; fields],
-            plain_words: vec![[0; names::NEXT_WORDS]; fields],
+            model_words: vec![[0; names::NEXT_WORDS]; fields],
         }
     }
 
@@ -78,17 +68,37 @@ impl Walking {
     }
 }
 
-/// Every message ends with a delimiter, so its last field is known by its position.
-fn walk_all(next: Next, passes: usize, messages: &[Vec<u8>], words: &mut [Words]) {
+/// Leaves the words of a message's fields. Every message ends with a delimiter, so its last field is
+/// known by its position.
+fn walk(length: usize, fields: &mut IterMut<Words>, next: impl Fn(usize, &mut Words)) {
+    let mut position = 0;
+    while position < length {
+        let words = fields.next().expect("as many fields as delimiters");
+        next(position, words);
+        position = words[names::NEXT_POSITION] as usize;
+    }
+}
+
+fn library_walk(message: &[u8], fields: &mut IterMut<Words>) {
+    walk(message.len(), fields, |position, words| {
+        assert_eq!(ffi::field_next(message, position, words), names::OK);
+    });
+}
+
+fn model_walk(message: &[u8], fields: &mut IterMut<Words>) {
+    let split = Fields::new(black_box(message));
+    walk(message.len(), fields, |position, words| {
+        *words = split.next(position);
+    });
+}
+
+type Walk = fn(&[u8], &mut IterMut<Words>);
+
+fn walk_all(walk: Walk, passes: usize, messages: &[Vec<u8>], words: &mut [Words]) {
     for _ in 0..passes {
         let mut fields = words.iter_mut();
         for message in messages {
-            let mut position = 0;
-            while position < message.len() {
-                let words = fields.next().expect("as many fields as delimiters");
-                assert_eq!(next(message, position, words), names::OK);
-                position = words[names::NEXT_POSITION] as usize;
-            }
+            walk(message, &mut fields);
         }
         assert_eq!(fields.len(), 0, "too few fields");
     }
@@ -100,17 +110,17 @@ impl Work for Walking {
     }
 
     fn library(&mut self) {
-        let next = black_box(library_next as Next);
-        walk_all(next, self.passes, &self.messages, &mut self.library_words);
+        let words = &mut self.library_words;
+        walk_all(library_walk, self.passes, &self.messages, words);
     }
 
-    fn plain(&mut self) {
-        let next = black_box(plain_next as Next);
-        walk_all(next, self.passes, &self.messages, &mut self.plain_words);
+    fn model(&mut self) {
+        let words = &mut self.model_words;
+        walk_all(model_walk, self.passes, &self.messages, words);
     }
 
     fn compare(&self) {
-        assert!(self.library_words == self.plain_words, "the words differ");
+        assert!(self.library_words == self.model_words, "the words differ");
     }
 }
 
@@ -121,16 +131,13 @@ pub fn compare_sides() {
         for _ in 0..20 {
             let bytes = (0..length).map(|_| random.pick(b"||\rAAAAA\x00\x7D\x0C\xFC\x8D"));
             let message: Vec<u8> = bytes.collect();
+            let split = Fields::new(&message);
             let behind = [length, length + 1, usize::MAX];
             for position in (0..length).chain(behind) {
-                let (mut library, mut plain) = ([7; names::NEXT_WORDS], [7; names::NEXT_WORDS]);
-                let numbers = [
-                    library_next(&message, position, &mut library),
-                    plain_next(&message, position, &mut plain),
-                ];
-                let text = message.escape_ascii();
-                assert_eq!(numbers, [names::OK; 2], "position {position}, {text}");
-                assert_eq!(library, plain, "position {position}, {text}");
+                let mut words = [7; names::NEXT_WORDS];
+                let number = ffi::field_next(&message, position, &mut words);
+                let (said, text) = ((number, words), message.escape_ascii());
+                assert_eq!(said, (0, split.next(position)), "{position}, {text}");
             }
         }
     }

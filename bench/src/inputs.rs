@@ -1,7 +1,7 @@
 //! The inputs: many blocks with data of one length, made by the plain writer.
 
 use crate::plain;
-use crate::prng::Random;
+use host::prng::Random;
 
 /// About so many bytes of blocks in one pass, and so many passes in one timing.
 const PASS_BYTES: usize = 480_000;

@@ -1,6 +1,7 @@
-//! Times the library against plain Rust on the same inputs, side by side, and prints tables in
-//! Markdown: blocks read, written and checked, messages read and written, and the acts of both ends.
-//! Both sides are release builds; verdicts, words and bytes are compared in every round.
+//! Times the library against other Rust on the same inputs, side by side, and prints tables in
+//! Markdown: blocks read, written and checked, against plain Rust; messages read and written and the
+//! acts of both ends, against the model of tests/host. Both sides are release builds; verdicts, words
+//! and bytes are compared in every round.
 //!
 //! `bench [PART]`: without a part all three, otherwise `blocks`, `messages` or `acts` alone.
 
@@ -8,43 +9,20 @@ mod act_checks;
 mod act_inputs;
 mod act_tables;
 mod acts;
-#[allow(dead_code)]
-#[path = "../../tests/host/src/ends_ffi.rs"]
-mod ends_ffi;
-#[allow(dead_code)]
-#[path = "../../tests/host/src/ffi.rs"]
-mod ffi;
 mod fields;
 mod inputs;
-#[allow(dead_code)]
-#[path = "../../tests/host/src/message_model.rs"]
-mod message_model;
 mod messages;
-#[allow(dead_code)]
-#[path = "../../tests/host/src/model.rs"]
-mod model;
+mod model_side;
 mod plain;
-mod plain_ends;
-mod plain_messages;
-mod plain_sender;
-#[allow(dead_code)]
-#[path = "../../tests/host/src/prng.rs"]
-mod prng;
-#[allow(dead_code)]
-#[path = "../../tests/host/src/receiver_model.rs"]
-mod receiver_model;
-#[allow(dead_code)]
-#[path = "../../tests/host/src/sender_model.rs"]
-mod sender_model;
 mod sides;
 mod timing;
 
-use ffi::names::MINUS_ONE;
 use fields::Walking;
+use host::ffi::names::MINUS_ONE;
 use inputs::Input;
 use messages::{Reader, Writing, BEHIND, HEADERS};
 use std::process::ExitCode;
-use timing::{Row, Spread, Work};
+use timing::{Row, Work};
 
 const SIZES: [usize; 4] = [16, 200, 4_000, 60_000];
 const ROUNDS: usize = 25;
@@ -67,15 +45,13 @@ fn print_row(row: &Row) {
         None => "-".to_string(),
     };
     println!(
-        "| {} | {} | {:.3} | {:.3} | {:.3} | {:.3} | {:.3} to {:.3} | {verdict} |",
+        "| {} | {} | {:.3} | {:.3} | {:.3} | {} | {verdict} |",
         row.act,
         row.size,
         row.library,
         row.plain,
         row.copy,
-        row.ratio.median,
-        row.ratio.least,
-        row.ratio.most
+        row.ratio.text(),
     );
 }
 
@@ -113,13 +89,6 @@ fn block_table() {
     }
 }
 
-fn spread_text(spread: &Spread) -> String {
-    format!(
-        "{:.3} | {:.3} to {:.3}",
-        spread.median, spread.least, spread.most
-    )
-}
-
 /// The rows of one reading function on messages with the same first bytes. Gives the medians of
 /// the time with bytes behind by that with none.
 fn print_reader(reader: &Reader) -> Vec<f64> {
@@ -135,15 +104,15 @@ fn print_reader(reader: &Reader) -> Vec<f64> {
         medians.push(growth.median);
         let growth = match behind {
             0 => "1 | -".to_string(),
-            _ => spread_text(&growth),
+            _ => growth.text(),
         };
         println!(
-            "| {} | {} | {behind} | {:.1} | {:.1} | {} | {growth} |",
+            "| {} | {} | {behind} | {:.2} | {:.2} | {} | {growth} |",
             reader.act,
             reader.length(),
             timing::median(&rounds.library),
-            timing::median(&rounds.plain),
-            spread_text(&timing::ratio(&rounds.library, &rounds.plain)),
+            timing::median(&rounds.model),
+            timing::ratio(&rounds.library, &rounds.model).text(),
         );
     }
     medians.split_off(1)
@@ -153,13 +122,14 @@ fn reader_table() {
     println!(
         "Messages read: ns per call; medians. To read: the bytes of the first segment, or of an"
     );
+    println!("answer's two. Behind: the bytes of further segments. Ratio: library by the model of");
     println!(
-        "answer's two. Behind: the bytes of further segments. Ratio: library by plain Rust. Last:"
+        "tests/host. Last: library by library on the same first bytes with nothing behind, round"
     );
-    println!("library by library on the same first bytes with nothing behind, round by round.");
+    println!("by round.");
     println!();
     println!(
-        "| act | to read | behind | library ns | plain Rust ns | ratio | spread \
+        "| act | to read | behind | library ns | model ns | ratio | spread \
          | by nothing behind | spread |"
     );
     println!("|---|---|---|---|---|---|---|---|---|");
@@ -179,7 +149,7 @@ fn reader_table() {
 fn writer_table() {
     println!("Messages written: ns per call; medians.");
     println!();
-    println!("| act | message bytes | library ns | plain Rust ns | ratio | spread |");
+    println!("| act | message bytes | library ns | model ns | ratio | spread |");
     println!("|---|---|---|---|---|---|");
     let writings = [
         Writing::answers(2, 2),
@@ -190,12 +160,12 @@ fn writer_table() {
     for mut writing in writings {
         let times = timing::rounds(&mut [&mut writing], ROUNDS);
         println!(
-            "| {} | {} | {:.1} | {:.1} | {} |",
+            "| {} | {} | {:.2} | {:.2} | {} |",
             writing.act,
             writing.length,
             timing::median(&times[0].library),
-            timing::median(&times[0].plain),
-            spread_text(&timing::ratio(&times[0].library, &times[0].plain)),
+            timing::median(&times[0].model),
+            timing::ratio(&times[0].library, &times[0].model).text(),
         );
     }
 }
@@ -206,17 +176,17 @@ fn field_table() {
     );
     println!("medians. Fields: of the messages, on average.");
     println!();
-    println!("| act | message bytes | fields | library ns | plain Rust ns | ratio | spread |");
+    println!("| act | message bytes | fields | library ns | model ns | ratio | spread |");
     println!("|---|---|---|---|---|---|---|");
     for length in fields::LENGTHS {
         let mut walking = Walking::new(length);
         let times = timing::rounds(&mut [&mut walking], ROUNDS);
         println!(
-            "| gmv_field_next | {length} | {:.0} | {:.1} | {:.1} | {} |",
+            "| gmv_field_next | {length} | {:.0} | {:.2} | {:.2} | {} |",
             walking.fields(),
             timing::median(&times[0].library),
-            timing::median(&times[0].plain),
-            spread_text(&timing::ratio(&times[0].library, &times[0].plain)),
+            timing::median(&times[0].model),
+            timing::ratio(&times[0].library, &times[0].model).text(),
         );
     }
 }

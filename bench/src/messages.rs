@@ -1,11 +1,11 @@
-//! The two sides of the functions for messages: the library through its C interface, and plain
-//! Rust. Each makes the same calls some passes long and leaves its words or bytes for comparison.
+//! The two sides of the functions for messages: the library through its C interface, and the model.
+//! Each makes the same calls some passes long and leaves its words or bytes for comparison.
 
-use crate::ffi::{self, names};
 use crate::inputs;
-use crate::plain_messages;
-use crate::prng::Random;
+use crate::model_side;
 use crate::timing::Work;
+use host::ffi::{self, names};
+use host::prng::Random;
 use std::hint::black_box;
 
 /// So many messages in one pass, and so many passes in one turn.
@@ -25,7 +25,7 @@ type Read = fn(&[u8], &mut Words) -> u64;
 pub struct Reader {
     pub act: &'static str,
     library: Read,
-    plain: Read,
+    model: Read,
     heads: Vec<Vec<u8>>,
 }
 
@@ -36,13 +36,7 @@ impl Reader {
         Reader {
             act: "gmv_header_read",
             library: |message, words| ffi::header_read(message, &mut words[..names::HEADER_WORDS]),
-            plain: |message, words| match plain_messages::header(black_box(message)) {
-                Ok(header) => {
-                    words[..names::HEADER_WORDS].copy_from_slice(&header);
-                    names::OK
-                }
-                Err(number) => number,
-            },
+            model: |message, words| model_side::header_read(black_box(message), words),
             heads: heads.collect(),
         }
     }
@@ -53,13 +47,7 @@ impl Reader {
         Reader {
             act: "gmv_answer_read",
             library: |message, words| ffi::answer_read(message, words),
-            plain: |message, words| match plain_messages::answer(black_box(message)) {
-                Ok(answer) => {
-                    *words = answer;
-                    names::OK
-                }
-                Err(number) => number,
-            },
+            model: |message, words| model_side::answer_read(black_box(message), words),
             heads: heads.collect(),
         }
     }
@@ -75,19 +63,19 @@ impl Reader {
         let message = |head: &Vec<u8>| [&head[..], &inputs::content(&mut random, behind)].concat();
         Reading {
             library: self.library,
-            plain: self.plain,
+            model: self.model,
             messages: self.heads.iter().map(message).collect(),
             library_words: vec![[0; names::ANSWER_WORDS]; self.heads.len()],
-            plain_words: vec![[0; names::ANSWER_WORDS]; self.heads.len()],
+            model_words: vec![[0; names::ANSWER_WORDS]; self.heads.len()],
         }
     }
 
     /// Both sides say the same of a message, be it readable or not.
     fn compare(&self, message: &[u8]) {
-        let (mut library, mut plain) = ([7; names::ANSWER_WORDS], [7; names::ANSWER_WORDS]);
+        let (mut library, mut model) = ([7; names::ANSWER_WORDS], [7; names::ANSWER_WORDS]);
         let numbers = [
             (self.library)(message, &mut library),
-            (self.plain)(message, &mut plain),
+            (self.model)(message, &mut model),
         ];
         let text = message.escape_ascii();
         assert!(
@@ -95,7 +83,7 @@ impl Reader {
             "{}: {numbers:?}, {text}",
             self.act
         );
-        assert!(library == plain, "{}: other words, {text}", self.act);
+        assert!(library == model, "{}: other words, {text}", self.act);
     }
 }
 
@@ -130,10 +118,10 @@ fn answer(random: &mut Random) -> Vec<u8> {
 /// Messages that both sides read.
 pub struct Reading {
     library: Read,
-    plain: Read,
+    model: Read,
     messages: Vec<Vec<u8>>,
     library_words: Vec<Words>,
-    plain_words: Vec<Words>,
+    model_words: Vec<Words>,
 }
 
 fn read_all(read: Read, messages: &[Vec<u8>], words: &mut [Words]) {
@@ -153,12 +141,12 @@ impl Work for Reading {
         read_all(self.library, &self.messages, &mut self.library_words);
     }
 
-    fn plain(&mut self) {
-        read_all(self.plain, &self.messages, &mut self.plain_words);
+    fn model(&mut self) {
+        read_all(self.model, &self.messages, &mut self.model_words);
     }
 
     fn compare(&self) {
-        assert!(self.library_words == self.plain_words, "the words differ");
+        assert!(self.library_words == self.model_words, "the words differ");
     }
 }
 
@@ -170,34 +158,64 @@ struct Call {
     number: u64,
 }
 
-/// A writing function of one side: writes from an offset of the buffer on, and gives the number
-/// with the two words of a report, which are 0 where none is written.
-type Write = fn(&Call, &mut [u8], usize) -> (u64, u64, u64);
+/// A writing function of one side: writes from an offset of the buffer on, leaves its report, and
+/// gives the number.
+type Write = fn(&Call, &mut [u8], usize, &mut Report) -> u64;
+type Report = [u64; names::REPORT_WORDS];
+
+/// Both sides of a writing function.
+#[derive(Clone, Copy)]
+struct Writer {
+    act: &'static str,
+    library: Write,
+    model: Write,
+}
+
+const ANSWER_WRITER: Writer = Writer {
+    act: "gmv_answer_write",
+    library: |call, buffer, start, report| {
+        ffi::answer_write(&call.text, call.code, call.number, buffer, start, report)
+    },
+    model: |call, buffer, start, report| {
+        let call = black_box(call);
+        model_side::answer_write(&call.text, call.code, call.number, buffer, start, report)
+    },
+};
+
+const CONTROL_WRITER: Writer = Writer {
+    act: "gmv_control_write",
+    library: |call, buffer, start, report| {
+        ffi::control_write(&call.text, call.number, buffer, start, report)
+    },
+    model: |call, buffer, start, report| {
+        let call = black_box(call);
+        model_side::control_write(&call.text, call.number, buffer, start, report)
+    },
+};
 
 /// Calls that both sides make.
 pub struct Writing {
     pub act: &'static str,
     pub length: usize,
-    library: Write,
-    plain: Write,
+    writer: Writer,
     calls: Vec<Call>,
     library_bytes: Vec<u8>,
-    plain_bytes: Vec<u8>,
+    model_bytes: Vec<u8>,
 }
 
 impl Writing {
-    fn new(act: &'static str, library: Write, plain: Write, calls: Vec<Call>) -> Writing {
-        let mut most = [0; 128];
-        let (_, length, _) = plain(&calls[0], &mut most, 0);
-        let bytes = vec![0; calls.len() * length as usize];
+    fn new(writer: Writer, calls: Vec<Call>) -> Writing {
+        let mut report = [0; names::REPORT_WORDS];
+        (writer.model)(&calls[0], &mut [0; 128], 0, &mut report);
+        let length = report[names::MESSAGE_LENGTH] as usize;
+        let bytes = vec![0; calls.len() * length];
         Writing {
-            act,
-            length: length as usize,
-            library,
-            plain,
+            act: writer.act,
+            length,
+            writer,
             calls,
             library_bytes: bytes.clone(),
-            plain_bytes: bytes,
+            model_bytes: bytes,
         }
     }
 
@@ -209,8 +227,7 @@ impl Writing {
             code: random.between(1, 3) as u64,
             number: with_digits(&mut random, number_digits),
         });
-        let calls = calls.collect();
-        Writing::new("gmv_answer_write", library_answer, plain_answer, calls)
+        Writing::new(ANSWER_WRITER, calls.collect())
     }
 
     /// Control messages for 0 or -1, of random types.
@@ -222,8 +239,7 @@ impl Writing {
             code: 0,
             number,
         });
-        let calls = calls.collect();
-        Writing::new("gmv_control_write", library_control, plain_control, calls)
+        Writing::new(CONTROL_WRITER, calls.collect())
     }
 }
 
@@ -239,43 +255,14 @@ fn with_digits(random: &mut Random, count: u32) -> u64 {
     random.between(least, 10 * least - 1) as u64
 }
 
-fn library_answer(call: &Call, buffer: &mut [u8], start: usize) -> (u64, u64, u64) {
-    let mut report = [0; names::REPORT_WORDS];
-    let (code, number) = (call.code, call.number);
-    let answer = ffi::answer_write(&call.text, code, number, buffer, start, &mut report);
-    (answer, report[0], report[1])
-}
-
-fn plain_answer(call: &Call, buffer: &mut [u8], start: usize) -> (u64, u64, u64) {
-    let call = black_box(call);
-    match plain_messages::write_answer(&call.text, call.code, call.number, buffer, start) {
-        Ok(length) => (names::OK, length as u64, 0),
-        Err((number, forbidden_offset)) => (number, 0, forbidden_offset),
-    }
-}
-
-fn library_control(call: &Call, buffer: &mut [u8], start: usize) -> (u64, u64, u64) {
-    let mut report = [0; names::REPORT_WORDS];
-    let answer = ffi::control_write(&call.text, call.number, buffer, start, &mut report);
-    (answer, report[0], report[1])
-}
-
-fn plain_control(call: &Call, buffer: &mut [u8], start: usize) -> (u64, u64, u64) {
-    let call = black_box(call);
-    match plain_messages::write_control(&call.text, call.number, buffer, start) {
-        Ok(length) => (names::OK, length as u64, 0),
-        Err(number) => (number, 0, 0),
-    }
-}
-
 /// Writes all messages one behind the other.
 fn write_all(write: Write, calls: &[Call], buffer: &mut [u8]) {
+    let mut report = [0; names::REPORT_WORDS];
     for _ in 0..PASSES {
         let mut start = 0;
         for call in calls {
-            let (number, length, _) = write(call, buffer, start);
-            assert_eq!(number, names::OK);
-            start += length as usize;
+            assert_eq!(write(call, buffer, start, &mut report), names::OK);
+            start += report[names::MESSAGE_LENGTH] as usize;
         }
         assert_eq!(start, buffer.len());
     }
@@ -287,15 +274,15 @@ impl Work for Writing {
     }
 
     fn library(&mut self) {
-        write_all(self.library, &self.calls, &mut self.library_bytes);
+        write_all(self.writer.library, &self.calls, &mut self.library_bytes);
     }
 
-    fn plain(&mut self) {
-        write_all(self.plain, &self.calls, &mut self.plain_bytes);
+    fn model(&mut self) {
+        write_all(self.writer.model, &self.calls, &mut self.model_bytes);
     }
 
     fn compare(&self) {
-        assert!(self.library_bytes == self.plain_bytes, "the bytes differ");
+        assert!(self.library_bytes == self.model_bytes, "the bytes differ");
     }
 }
 
@@ -339,18 +326,15 @@ pub fn compare_sides() {
 
 /// Buffers of every length up to 100, with a start of 0 and of 3.
 fn compare_writers(call: &Call) {
-    let sides: [[Write; 2]; 2] = [
-        [library_answer, plain_answer],
-        [library_control, plain_control],
-    ];
-    for [library, plain] in sides {
+    for writer in [ANSWER_WRITER, CONTROL_WRITER] {
         for length in 0..100 {
             for start in [0, 3] {
-                let (mut library_bytes, mut plain_bytes) = (vec![7; length], vec![7; length]);
-                let library_answer = library(call, &mut library_bytes, start);
-                let plain_answer = plain(call, &mut plain_bytes, start);
-                assert_eq!(library_answer, plain_answer, "the writers differ");
-                assert!(library_bytes == plain_bytes, "the bytes differ");
+                let sides = [writer.library, writer.model].map(|write| {
+                    let (mut bytes, mut report) = (vec![7; length], [7; names::REPORT_WORDS]);
+                    let number = write(call, &mut bytes, start, &mut report);
+                    (number, report, bytes)
+                });
+                assert!(sides[0] == sides[1], "{}: {sides:?}", writer.act);
             }
         }
     }

@@ -111,7 +111,7 @@ fn refused(number: u64, forbidden_offset: usize, offset: u64) -> Verdict {
     }
 }
 
-pub fn allowed(byte: u8) -> bool {
+fn allowed(byte: u8) -> bool {
     byte == CARRIAGE_RETURN || (0x20..=0x7E).contains(&byte)
 }
 

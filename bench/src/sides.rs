@@ -1,9 +1,9 @@
 //! The two sides of each act: the library through its C interface, and plain Rust. Each works
 //! through the whole input some passes long and leaves its verdicts or bytes for comparison.
 
-use crate::ffi::{self, names, HybridNumbers};
 use crate::inputs::{Input, NUMBERS, PASSES};
 use crate::plain::{self, Verdict};
+use host::ffi::{self, names, HybridNumbers};
 use std::hint::black_box;
 
 pub const ACTS: [&str; 4] = ["read", "read, parts of 1,024", "write", "check"];

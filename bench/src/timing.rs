@@ -12,7 +12,19 @@ pub struct Spread {
     pub most: f64,
 }
 
-/// One row of the table: medians in ns per byte, and the ratio of library and plain Rust.
+impl Spread {
+    /// The median and the spread, as two cells of a table.
+    pub fn text(&self) -> String {
+        let Spread {
+            median,
+            least,
+            most,
+        } = self;
+        format!("{median:.3} | {least:.3} to {most:.3}")
+    }
+}
+
+/// One row of the table of blocks: medians in ns per byte, and the ratio of library and plain Rust.
 pub struct Row {
     pub act: &'static str,
     pub size: usize,
@@ -100,7 +112,7 @@ pub fn measure(act: &'static str, input: &Input, rounds: usize) -> Row {
 pub trait Work {
     fn calls(&self) -> usize;
     fn library(&mut self);
-    fn plain(&mut self);
+    fn model(&mut self);
     fn compare(&self);
 }
 
@@ -108,7 +120,7 @@ pub trait Work {
 #[derive(Clone, Default)]
 pub struct Rounds {
     pub library: Vec<f64>,
-    pub plain: Vec<f64>,
+    pub model: Vec<f64>,
 }
 
 /// So many turns of each work make a round: the machine's speed changes, and works are compared.
@@ -123,15 +135,15 @@ pub fn rounds(works: &mut [&mut dyn Work], rounds: usize) -> Vec<Rounds> {
         for turn in 0..TURNS {
             for index in 0..works.len() {
                 let index = (index + turn) % works.len();
-                let [library, plain] = one_turn(works[index], turn % 2 == 0);
+                let [library, model] = one_turn(works[index], turn % 2 == 0);
                 sums[index][0] += library / TURNS as f64;
-                sums[index][1] += plain / TURNS as f64;
+                sums[index][1] += model / TURNS as f64;
             }
         }
         if round >= WARM_UP {
-            for (times, [library, plain]) in times.iter_mut().zip(sums) {
+            for (times, [library, model]) in times.iter_mut().zip(sums) {
                 times.library.push(library);
-                times.plain.push(plain);
+                times.model.push(model);
             }
         }
     }
@@ -144,12 +156,12 @@ fn one_turn(work: &mut dyn Work, library_first: bool) -> [f64; 2] {
     if library_first {
         library = nanoseconds(|| work.library());
     }
-    let plain = nanoseconds(|| work.plain());
+    let model = nanoseconds(|| work.model());
     if !library_first {
         library = nanoseconds(|| work.library());
     }
     work.compare();
-    [library / calls, plain / calls]
+    [library / calls, model / calls]
 }
 
 pub fn median(values: &[f64]) -> f64 {

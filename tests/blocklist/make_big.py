@@ -6,30 +6,27 @@
 Lengths go up to just over blocklist's data limit of 4,096.
 """
 
-import functools
-import operator
+import pathlib
 import random
 import sys
 
-SB, EB, CR = b"\x0b", b"\x1c", b"\r"
-DATA_BYTES = CR + bytes(range(0x20, 0x7F))
+sys.dont_write_bytecode = True
+sys.path.append(str(pathlib.Path(__file__).resolve().parents[1]))
+
+from blocks import CR, DATA_BYTES, EB, REASONS, SB, Rules
+
+RULES = Rules(True, 4096)
 SPECIAL = [SB, EB, CR, b"\n", b"\x00", b"\x7f", b"\xff", b"D", b"N", b"9", b"0"]
-
-
-def block(kind, data, not_computed=False):
-    summed = SB + kind + b"23" + CR + data
-    total = 999 if not_computed else functools.reduce(operator.xor, summed)
-    return summed + b"%05d%03d" % (5 + len(data), total) + EB + CR
 
 
 def random_block(random_source):
     if random_source.random() < 0.1:
-        return block(b"N", random_source.choice([b"C", b"X", b"B", b"G"]))
+        return RULES.block(random_source.choice(REASONS), kind=b"N")
     length = random_source.choice(
         [0, 1, random_source.randrange(64), random_source.randrange(600), 4090 + random_source.randrange(10)]
     )
     data = bytes(random_source.choices(DATA_BYTES, k=length))
-    return block(b"D", data, random_source.random() < 0.05)
+    return RULES.block(data, checksum=b"999" if random_source.random() < 0.05 else None)
 
 
 def damaged(random_source, whole):
@@ -58,7 +55,7 @@ def main():
             piece = noise(random_source) + piece
         sys.stdout.buffer.write(piece)
         written += len(piece)
-    sys.stdout.buffer.write(block(b"D", b"the last block" + CR))
+    sys.stdout.buffer.write(RULES.block(b"the last block" + CR))
 
 
 if __name__ == "__main__":

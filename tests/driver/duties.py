@@ -9,9 +9,9 @@ import subprocess
 import tempfile
 import time
 
-from blocks import Rules, Splitter
+from blocks import Rules
 from ends import Books, End, read, read_words, state_text
-from lines import open_terminal
+from lines import Splitter, open_terminal
 from readout import said
 
 RULES = Rules(False, 4096)

@@ -12,9 +12,26 @@ import threading
 import time
 import tty
 
-from blocks import Splitter
+from blocks import CR
+from damage import damaged, is_refused
 
 TO_RECEIVER, TO_SENDER = 0, 1
+
+
+class Splitter:
+    """Takes a stream apart into the blocks that a driver wrote."""
+
+    def __init__(self, rules):
+        self.rules, self.rest = rules, b''
+
+    def take(self, part):
+        blocks, end = [], bytes([self.rules.end]) + CR
+        self.rest += part
+        while end in self.rest:
+            at = self.rest.index(end) + 2
+            blocks.append(self.rest[:at])
+            self.rest = self.rest[at:]
+        return blocks
 
 
 class Direction:
@@ -33,7 +50,7 @@ class Direction:
     def put(self, data, at):
         self.last = max(self.last, at)  # the order is kept
         self.queue.append((self.last, data))
-        self.tail = self.rules.tail_of(self.tail + data)
+        self.tail = self.rules.unfinished(self.tail + data)
 
 
 class Line(threading.Thread):
@@ -169,12 +186,12 @@ class Line(threading.Thread):
         elif draw < 0.06:
             self.counts['losses'] += 1
         elif draw < 0.13:
-            bad = self.rules.damaged(block, random, self.ways[way].tail)
+            bad = damaged(self.rules, block, random, self.ways[way].tail)
             self.counts['damages' if bad is not None else 'losses'] += 1
             self.sends(way, bad or b'')
         elif draw < 0.15:
             noise = bytes(random.choice([0, 0x0D, 0x41, 0xFF, self.rules.end]) for _ in range(5))
-            if self.rules.is_refused(self.ways[way].tail, noise, b''):
+            if is_refused(self.rules, self.ways[way].tail, noise, b''):
                 self.counts['noises'] += 1
                 self.sends(way, noise)
             self.sends(way, block)

@@ -7,7 +7,7 @@ import signal
 import subprocess
 import time
 
-from blocks import Rules, message
+from blocks import Rules
 from ends import Books, End, Violation, hold
 from lines import NoLine, TcpLine, TerminalLine
 
@@ -30,6 +30,31 @@ SCENARIOS = [
     Scenario('minimal, no line between, earlier senders', DIRECT, [1, 1, 2, 40], 4096, 1, 'AA', 0x0B, 0x1C, 10 ** 6),
     Scenario('hybrid, no resends, AE, other SB and EB', TERMINAL, [1], 2048, 0, 'AE', 0x01, 0x04, 10 ** 6),
 ]
+
+NAMES = ['ALVAREZ^MARIA', 'OKAFOR^CHIDI', 'NGUYEN^THI', "O'BRIEN^SEAN", 'LINDQVIST^ASTRID', 'HADDAD^OMAR']
+TESTS = ['718-7^HEMOGLOBIN^LN', '2345-7^GLUCOSE^LN', '2951-2^SODIUM^LN', '6690-2^WBC^LN', '777-3^PLATELETS^LN']
+
+
+def message(number, limit, random):
+    """A message with this number, of several segments, at most `limit` bytes long."""
+    zeros = random.choice(['', '', '0' * (15 - len(str(number)))])
+    head = 'MSH|^~\\&|ADM|NORTH|LAB|SOUTH|202611%02d0830||ORU^R01|%d|P|2.3.1|%s%d||AL\r' % (
+        random.randrange(1, 29), number, zeros, number)
+    if len(head) > limit:
+        head = 'MSH|^~\\&|||||||ORU|%d|P|2.3.1|%d\r' % (number, number)
+    segments = ['EVN|R01|20261116\r', 'PID|1||%07d^^^HIS||%s||19%02d0101|%s\r' % (
+        random.randrange(10 ** 7), random.choice(NAMES), random.randrange(100), random.choice('FMU'))]
+    for row in range(random.choice([0, 1, 3, 10, 60])):
+        segments.append('OBX|%d|NM|%s||%d.%d|g/dL|11-17|N|||F\r' % (
+            row + 1, random.choice(TESTS), random.randrange(200), random.randrange(10)))
+    text = head
+    for segment in segments:
+        if len(text) + len(segment) <= limit:
+            text += segment
+    rest = limit - len(text)
+    if rest > 8 and random.random() < 0.1:  # just as long as a block may be
+        text += 'NTE|1||' + ''.join(chr(random.randrange(0x20, 0x7F)) for _ in range(rest - 8)) + '\r'
+    return text.encode()
 
 
 class Link:

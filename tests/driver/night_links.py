@@ -12,9 +12,10 @@ import socket
 import subprocess
 import time
 
-from blocks import Rules, Splitter
+from blocks import Rules
+from damage import is_refused
 from ends import CHECKED, read, read_words, state_text
-from lines import TO_RECEIVER, TO_SENDER, TcpLine, TerminalLine
+from lines import TO_RECEIVER, TO_SENDER, Splitter, TcpLine, TerminalLine
 
 MINIMAL, HYBRID = Rules(False, 4096), Rules(True, 4096)
 BEFORE, AFTER = 3, 12  # messages that are delivered before a fault, and after the handover of slot 7
@@ -66,7 +67,7 @@ class NoisyTerminal(TerminalLine):
         while True:
             bad = bytes(byte ^ (1 << self.random.randrange(8)) if self.random.random() < self.noise else byte
                         for byte in block)
-            if bad == block or self.rules.is_refused(self.ways[way].tail, bad, block):
+            if bad == block or is_refused(self.rules, self.ways[way].tail, bad, block):
                 return bad
 
     def end_circuit(self):

@@ -7,9 +7,9 @@ import subprocess
 import xml.etree.ElementTree
 
 import samples
+from blocks import CR, EB, SB
 
 PORT = 24575  # stands in the capture; nothing listens
-SB, EB, CR = b"\x0b", b"\x1c", b"\r"
 
 
 def tshark(words, home):

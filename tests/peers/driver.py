@@ -63,7 +63,9 @@ class Driver:
         return records(self.folder / "state")
 
     def live(self):
-        return records(self.folder / "live")
+        """What it shows of itself; nothing where it has not written that yet."""
+        path = self.folder / "live"
+        return records(path) if path.exists() else {}
 
     def transactions(self):
         """What the receiver has stored, in order."""

@@ -9,14 +9,12 @@ import hl7.client
 
 import pythonhl7
 import samples
-from library import BYTE, CUT, LONG, OK, SHAPE
+from blocks import BYTE, CR, EB, INTERRUPTED, LONG, OK, SB, SHAPE, Rules
 from pythonhl7 import UNFINISHED
 
-SB, EB, CR, LF = b"\x0b", b"\x1c", b"\r", b"\n"
-
-
-def framed(data):
-    return SB + data + EB + CR
+LF = b"\n"
+MINIMAL = Rules(False, 4096)
+framed = MINIMAL.block
 
 
 def written_here_read_there(counting, library):
@@ -196,14 +194,14 @@ BAD = {
     },
     "EB CR lost, then a good block: they take two for one": {
         "stream": SB + A + framed(B),
-        "ours": [(0, CUT, 0, b""), (len(A) + 1, OK, 0, B)],
+        "ours": [(0, INTERRUPTED, 0, b""), (len(A) + 1, OK, 0, B)],
         "readblock": [A + SB + B],
         "readmessage": [A + SB + B],
         "read_stream": [A + SB + b],
     },
     "EB lost, then a good block: they take two for one": {
         "stream": SB + A + CR + framed(B),
-        "ours": [(0, CUT, 0, b""), (len(A) + 2, OK, 0, B)],
+        "ours": [(0, INTERRUPTED, 0, b""), (len(A) + 2, OK, 0, B)],
         "readblock": [A + CR + SB + B],
         "readmessage": [A + CR + SB + B],
         "read_stream": [A + CR + SB + b],
@@ -238,14 +236,14 @@ BAD = {
     },
     "SB inside": {
         "stream": framed(A[:12] + SB + A[12:]) + framed(B),
-        "ours": [(0, CUT, 0, b""), (13, OK, 0, A[12:]), (BLOCK + 1, OK, 0, B)],
+        "ours": [(0, INTERRUPTED, 0, b""), (13, OK, 0, A[12:]), (BLOCK + 1, OK, 0, B)],
         "readblock": [A[:12] + SB + A[12:], B],
         "readmessage": [A[:12] + SB + A[12:], B],
         "read_stream": [A[:12] + SB + a[12:], b],
     },
     "SB twice": {
         "stream": SB + framed(A) + framed(B),
-        "ours": [(0, CUT, 0, b""), (1, OK, 0, A), (BLOCK + 1, OK, 0, B)],
+        "ours": [(0, INTERRUPTED, 0, b""), (1, OK, 0, A), (BLOCK + 1, OK, 0, B)],
         "readblock": [SB + A, B],
         "readmessage": [A, B],
         "read_stream": [a, b],
@@ -308,7 +306,7 @@ BAD = {
     },
     "too long and EB CR lost: 8 comes before 4": {
         "stream": SB + LONG_TEXT + framed(B),
-        "ours": [(0, CUT, 0, b""), (len(LONG_TEXT) + 1, OK, 0, B)],
+        "ours": [(0, INTERRUPTED, 0, b""), (len(LONG_TEXT) + 1, OK, 0, B)],
         "readblock": {1: ["ValueError", "InvalidBlockError"], 4096: ["ValueError"]},
         "readmessage": {1: ["ValueError", "InvalidBlockError"], 4096: ["ValueError"]},
         "read_stream": [LONG_TEXT + SB + b],
@@ -362,36 +360,8 @@ def bad_blocks(counting, library):
 
 
 def damaged_streams(counting, library):
-    """One byte damaged at random: our verdicts against document 01's rule, told in a few lines here."""
+    """One byte damaged at random: our verdicts against document 01's rule, as tests/blocks.py has it."""
     rng = random.Random(704)
-
-    def by_the_rule(stream, limit):
-        found, start, at = [], None, 0
-        while at < len(stream):
-            byte = stream[at]
-            if start is None:
-                start = at if byte == 0x0B else None
-            elif byte == 0x0B:
-                found.append((start, CUT, 0, b""))
-                start = at
-            elif byte == 0x1C:
-                if at + 1 == len(stream):
-                    break
-                body, after = stream[start + 1 : at], stream[at + 1]
-                wrong = [i for i, x in enumerate(body) if not (0x20 <= x <= 0x7E or x == 0x0D)]
-                if len(body) > limit:
-                    found.append((start, LONG, 0, b""))
-                elif after != 0x0D:
-                    found.append((start, SHAPE, 0, b""))
-                elif wrong:
-                    found.append((start, BYTE, wrong[0], b""))
-                else:
-                    found.append((start, OK, 0, body))
-                start = None
-                at += 1 if after != 0x0B else 0
-            at += 1
-        return found
-
     taken = lost = same = 0
     with counting.case("damaged streams: 600 with one damaged byte, against document 01's rule in Python") as case:
         for _ in range(600):
@@ -408,7 +378,7 @@ def damaged_streams(counting, library):
             else:
                 stream.insert(at, rng.choice([0x0B, 0x1C, 0x0D, 0x0A, 0x7F, 0xE9, 0x41]))
             stream = bytes(stream)
-            wanted = by_the_rule(stream, 4096)
+            wanted = [(*verdict[:3], verdict.data) for verdict in MINIMAL.verdicts(stream)]
             places = sorted(rng.randint(0, len(stream)) for _ in range(3))
             parts = [stream[x:y] for x, y in zip([0] + places, places + [len(stream)])]
             case.equal(library.read(4096, parts), wanted, "verdicts of %r" % stream)

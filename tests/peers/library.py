@@ -3,7 +3,7 @@
 import subprocess
 
 # The numbers of document 01's table that are met here.
-OK, BYTE, LONG, SHAPE, CUT, HEAD = 0, 3, 4, 5, 8, 9
+OK, HEAD = 0, 9
 
 # What a field holds, and the codes, as include/giamuvich.h numbers them.
 MISSING, NOT_NUMBER, NUMBER = 0, 1, 2

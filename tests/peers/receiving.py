@@ -13,14 +13,11 @@ import hl7.client
 from hl7.mllp import open_hl7_connection
 
 import samples
+from blocks import CR, EB, SB, Rules
 from driver import Driver, wait_until
 from pythonhl7 import field
 
-SB, EB, CR = b"\x0b", b"\x1c", b"\r"
-
-
-def framed(data):
-    return SB + data + EB + CR
+framed = Rules(False, 4096).block
 
 
 def request(sequence, control_id, more=""):
@@ -321,10 +318,12 @@ def command_line_tool(counting, program, scratch):
         with receiver(scratch, program, "mllp_send one segment") as driver:
             port = driver.start_listening("receive")
             with mllp_send(port, framed(b"MSH|^~\\&|||||||ORU|1|P|2.3.1|1\r")) as tool:
-                case.true(wait_until(lambda: driver.live().get("last_refused") == "9"), "refused by 9")
-                time.sleep(0.2)
-                case.equal(tool.poll(), None, "mllp_send has not ended")
-                tool.kill()
+                try:
+                    case.true(wait_until(lambda: driver.live().get("last_refused") == "9"), "refused by 9")
+                    time.sleep(0.2)
+                    case.equal(tool.poll(), None, "mllp_send has not ended")
+                finally:
+                    tool.kill()  # else it would be waited for without end
             case.equal(driver.transactions(), [], "nothing stored")
 
 

@@ -8,17 +8,14 @@ import hl7
 from hl7.mllp import start_hl7_server
 
 import samples
+from blocks import CR, SB, Rules
 from driver import WAIT, Driver
 from pythonhl7 import field
 
-SB, EB, CR = b"\x0b", b"\x1c", b"\r"
+framed = Rules(False, 4096).block
 NO_TIMER = ["--timer", 60000]  # nothing here waits so long
 EVENTS = {"1": "delivered", "2": "given up", "3": "froze", "4": "dropped"}
 CODES = {"0": "unknown", "1": "AA", "2": "AE"}
-
-
-def framed(data):
-    return SB + data + EB + CR
 
 
 def answer(code, control_id, number, header_id="s1"):
