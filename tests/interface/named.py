@@ -99,7 +99,7 @@ RUNS = (
     (r"peers (\w+)", lambda name: (ROOT / f"tests/peers/{name}.py").exists()),
     (r"driver (\w+)", lambda name: (ROOT / f"tests/driver/{name}.py").exists() or f"def {name}(" in text_of("tests/driver/*.py")),
     (r"(edits): FUNCTIONS.md", lambda name: "## Must-fail edits" in document("FUNCTIONS")),
-    (r"(\w+)", lambda name: f"fn {name}(" in text_of("tests/host/src/groups/*.rs")),
+    (r"(\w+)", lambda name: f'("{name}", ' in text_of("tests/host/src/groups/mod.rs")),
 )
 
 
