@@ -90,5 +90,6 @@ void test_station(void);
 void test_lent(void);
 void test_duties(void);
 void test_stack(void);
+void test_version(void);
 
 #endif

@@ -36,5 +36,6 @@ int main(void)
     run_all(FENCED_PAGES);
     run_all(EXACT_MALLOC);
     test_stack();
+    test_version();
     return finish_tests();
 }

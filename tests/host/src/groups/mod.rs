@@ -24,6 +24,7 @@ mod station_hand;
 mod station_memory;
 mod station_words;
 mod streams;
+mod version;
 mod writers;
 
 use crate::compare::{Compare, Outcome};
@@ -31,6 +32,7 @@ use crate::compare::{Compare, Outcome};
 pub type Group = fn(&mut Compare) -> Outcome;
 
 pub const ALL: &[(&str, Group)] = &[
+    ("version", version::version),
     ("cases_by_hand", hand::cases_by_hand),
     ("writes_by_hand", hand::writes_by_hand),
     ("checks_by_hand", hand::checks_by_hand),
