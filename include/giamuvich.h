@@ -44,11 +44,11 @@
  *   resends                 how often a sender sends a message again, 0 to 99; GMV_RESENDS_DEFAULT
  *                           where nothing else is agreed.
  *
- * Every function returns a number of the table below; 0 says that the call was done. A check returns
- * the number of the block that it was given, 0 or 3 to 8. A read returns 0 also where the block that
- * it found is refused: that block's number is verdict[GMV_VERDICT_NUMBER]. So do a receiver and a
- * sender that are told of a refused block, or find data without a header (9): its number is in their
- * report.
+ * Every function but gmv_version returns a number of the table below; 0 says that the call was done.
+ * A check returns the number of the block that it was given, 0 or 3 to 8. A read returns 0 also where
+ * the block that it found is refused: that block's number is verdict[GMV_VERDICT_NUMBER]. So do a
+ * receiver and a sender that are told of a refused block, or find data without a header (9): its
+ * number is in their report.
  *
  * Look at every number (HOST-6 says what to do by each). 1 and 2 say that the driver called wrongly,
  * and 11 that words encode no state, so that a stored word is bad: stop the link. But a sender also
@@ -79,6 +79,20 @@ extern "C" {
 
 /* A length, an offset and a word are all 64 bits wide. */
 typedef char gmv_size_is_64_bits[sizeof(size_t) == 8 ? 1 : -1];
+
+/* The version of this header, MAJOR.MINOR.PATCH: its parts, as text, and as one number that grows
+ * with it. A change of what a function takes or answers raises the first part. */
+#define GMV_VERSION_MAJOR 1
+#define GMV_VERSION_MINOR 1
+#define GMV_VERSION_PATCH 0
+#define GMV_VERSION "1.1.0"
+#define GMV_VERSION_NUMBER \
+    (GMV_VERSION_MAJOR * UINT64_C(1000000) + GMV_VERSION_MINOR * UINT64_C(1000) + GMV_VERSION_PATCH)
+
+/* The version of the archive that is linked, in the form of GMV_VERSION_NUMBER. Compare the two when
+ * the program starts (HOST-50): where they differ, this header is not the archive's. What it returns
+ * is no number of the table below. */
+uint64_t gmv_version(void);
 
 /* The numbers. */
 enum {

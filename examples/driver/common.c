@@ -47,6 +47,28 @@ void fail(const char *format, ...)
     exit(failure);
 }
 
+#define OTHER_VERSION "the archive that is linked is version %d.%d.%d, its header is version %s"
+#define PARTS_OF(version) (int)((version) / 1000000), (int)((version) / 1000 % 1000), (int)((version) % 1000)
+
+int say_version(void)
+{
+    const uint64_t linked = gmv_version();
+
+    printf("%s %s\n", program, GMV_VERSION);
+    if (linked == GMV_VERSION_NUMBER)
+        return 0;
+    printf(OTHER_VERSION "\n", PARTS_OF(linked), GMV_VERSION);
+    return 1;
+}
+
+void require_version(void)
+{
+    const uint64_t linked = gmv_version();
+
+    if (linked != GMV_VERSION_NUMBER)
+        fail(OTHER_VERSION, PARTS_OF(linked), GMV_VERSION);
+}
+
 void require_done(uint64_t number, const char *function)
 {
     if (number != GMV_OK)

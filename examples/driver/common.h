@@ -12,6 +12,13 @@ void fail(const char *format, ...) __attribute__((noreturn, format(printf, 1, 2)
 /* Another program's name in that message, and the status that it ends with. */
 void name_program(const char *name, int status);
 
+/* Prints the program's name and the version of the library's header. Returns 0, or 1 where the archive that is linked
+ * is of another version, which it then says too. */
+int say_version(void);
+
+/* A program whose header is not the archive's does not run. */
+void require_version(void);
+
 /* A number of the library that says that the driver called wrongly ends the program too. */
 void require_done(uint64_t number, const char *function);
 

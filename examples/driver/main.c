@@ -13,6 +13,7 @@ static int usage(void)
             "gmv_driver send DIR LINE [OPTIONS]\n"
             "gmv_driver receive DIR LINE [OPTIONS]\n"
             "gmv_driver reset DIR\n"
+            "gmv_driver --version\n"
             "LINE: --minimal-connect HOST:PORT | --minimal-listen PORT | --hybrid-tty PATH\n"
             "OPTIONS: --data-limit D, --timer MILLISECONDS, --resends R, --type ADT,\n"
             "  --application AA|AE, --start-block BYTE, --end-block BYTE, --keepalive SECONDS\n");
@@ -36,6 +37,9 @@ static int run_end(int sends, const char *folder, int count, char **words)
 
 int main(int count, char **words)
 {
+    if (count == 2 && strcmp(words[1], "--version") == 0)
+        return say_version();
+    require_version();
     if (count < 3)
         return usage();
     if (strcmp(words[1], "sender-init") == 0 && count == 4)

@@ -94,5 +94,6 @@ void test_link(void);
 void test_lent(void);
 void test_duties(void);
 void test_stack(void);
+void test_version(void);
 
 #endif

@@ -46,5 +46,6 @@ int main(int count, char **arguments)
     run_all(FENCED_PAGES);
     run_all(EXACT_MALLOC);
     test_stack();
+    test_version();
     return finish_tests();
 }

@@ -28,6 +28,11 @@ static size_t field_position;
 /* The calls that are measured; each on a whole block, which is good or damaged. */
 static void no_call(void) {}
 
+static void version(void)
+{
+    gmv_version();
+}
+
 static void fresh(void)
 {
     gmv_reader_fresh(state, GMV_READER_WORDS);
@@ -245,6 +250,7 @@ static void takes_little_stack(void (*call)(void))
 
 static void blocks_take_little_stack(void)
 {
+    takes_little_stack(version);
     takes_little_stack(fresh);
     takes_little_stack(hybrid_read);
     takes_little_stack(minimal_read);

@@ -36,7 +36,7 @@ def functions_of(crate):
 
 
 def constants_of(crate):
-    """The public constants of a crate's types, as TYPE::NAME."""
+    """The public constants of a crate, as NAME, and those of its types, as TYPE::NAME."""
     folder = ROOT / "target" / "rlib" / f"{crate}.rlib" / "interface" / "lang" / "src"
     found = {}
     for file in sorted(folder.rglob("*.rt")):
@@ -46,5 +46,5 @@ def constants_of(crate):
             owner = opened.group(1) if opened else owner
             declared = re.match(r"pub const (\w+) : \w+ = (\d+) ;", line)
             if declared:
-                found[f"{owner}::{declared.group(1)}"] = int(declared.group(2))
+                found[f"{owner}::{declared.group(1)}" if owner else declared.group(1)] = int(declared.group(2))
     return found

@@ -2,11 +2,11 @@
 use crate::digits::is_five_digits;
 use crate::digits::is_three;
 use crate::digits::is_three_digits;
+use settings::Kind;
+use settings::Settings;
 use settings::are_allowed;
 use settings::checksum;
 use settings::first_forbidden;
-use settings::Kind;
-use settings::Settings;
 use verdict::Verdict;
 ghost use mathlib.Core.Path.{_≡_};
 ghost use lib.ListN.{length};

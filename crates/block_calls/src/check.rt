@@ -1,7 +1,7 @@
 // Checking one whole block.
+use crate::reader_words::write_verdict;
 use settings::Made;
 use whole_block::Checked;
-use crate::reader_words::write_verdict;
 ghost use mathlib.Core.Path.{_≡_};
 ghost use Rattle.block_calls.specs.CheckCalls.{checkCalled, checkCall};
 

@@ -1,6 +1,6 @@
 // A fresh reader.
-use stream::Reader;
 use crate::reader_words::write_reader;
+use stream::Reader;
 ghost use mathlib.Core.Path.{_≡_};
 ghost use Rattle.block_calls.specs.ReadCalls.{Fresh, freshCall};
 

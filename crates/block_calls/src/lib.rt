@@ -6,10 +6,10 @@ mod read;
 mod reader_words;
 mod write;
 
-use stream::Reader;
 pub use check::check_words;
 pub use fresh::fresh_words;
 pub use read::read_words;
+use stream::Reader;
 pub use write::report_written;
 pub use write::write_words;
 

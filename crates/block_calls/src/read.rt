@@ -1,13 +1,13 @@
 // Reading a part of a stream.
-use settings::Made;
-use settings::Settings;
-use stream::Answer;
-use stream::Reading;
 use crate::Decoded;
 use crate::reader_words::read_reader;
 use crate::reader_words::write_pending;
 use crate::reader_words::write_reader;
 use crate::reader_words::write_verdict;
+use settings::Made;
+use settings::Settings;
+use stream::Answer;
+use stream::Reading;
 ghost use mathlib.Core.Path.{_≡_};
 ghost use mathlib.Core.List.{[]};
 ghost use Prim.Native.Nat.{_≤_};

@@ -103,7 +103,13 @@ fn data_start(offset: usize, verdict: Verdict) -> usize
 }
 
 // Writes a verdict over the first eight words; nothing where there are fewer.
-pub(crate) fn write_verdict(words: &mut [u64], start: usize, verdict: Verdict, offset: usize, used: usize)
+pub(crate) fn write_verdict(
+    words: &mut [u64],
+    start: usize,
+    verdict: Verdict,
+    offset: usize,
+    used: usize,
+)
     ensures { λ r. ⌜ now (words .exit) ≡ over (now (words .entry)) (verdictWords start verdict offset used) ⌝ }
 {
     if words.len() < 8 {

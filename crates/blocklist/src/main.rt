@@ -1,5 +1,5 @@
 // Lists the blocks of a capture on standard input: for each verdict SB's offset, the number (0 if accepted) and the data
-// length (0 if refused). Hybrid bytes, default settings, at most 4,096 data bytes.
+// length (0 if refused). Hybrid bytes, default settings, at most 4,096 data bytes. With --version it says its version instead.
 use libc::STDIN_FILENO;
 use libc::STDOUT_FILENO;
 use settings::Made;
@@ -89,7 +89,42 @@ fn list_all(settings: Settings, buffer: &mut [u8]) {
     }
 }
 
+fn are_equal(word: &[u8], other: &[u8]) -> bool {
+    if word.len() != other.len() {
+        return false;
+    }
+    let mut i = 0;
+    while i < word.len() {
+        if word[i] != other[i] {
+            return false;
+        }
+        i += 1;
+    }
+    true
+}
+
+// Any other argument counts for nothing.
+fn version_is_asked() -> bool {
+    let mut word = [0u8; 16];
+    let length = os::arg(1, &mut word);
+    are_equal(&word[..length], b"--version")
+}
+
+fn print_version() {
+    io::write_all(STDOUT_FILENO, b"blocklist ");
+    io::print_decimal(STDOUT_FILENO, giamuvich::VERSION_MAJOR);
+    io::write_all(STDOUT_FILENO, b".");
+    io::print_decimal(STDOUT_FILENO, giamuvich::VERSION_MINOR);
+    io::write_all(STDOUT_FILENO, b".");
+    io::print_decimal(STDOUT_FILENO, giamuvich::VERSION_PATCH);
+    io::write_all(STDOUT_FILENO, b"\n");
+}
+
 fn main() {
+    if version_is_asked() {
+        print_version();
+        return;
+    }
     let made = Settings::hybrid(
         Settings::START_BLOCK as u64,
         Settings::END_BLOCK as u64,

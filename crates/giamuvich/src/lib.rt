@@ -7,6 +7,7 @@ mod messages;
 mod receiver;
 mod sender;
 mod station;
+mod version;
 
 pub use blocks::gmv_hybrid_check;
 pub use blocks::gmv_hybrid_read;
@@ -38,3 +39,7 @@ pub use station::gmv_station_end;
 pub use station::gmv_station_enquiry;
 pub use station::gmv_station_fresh;
 pub use station::gmv_station_open;
+pub use version::VERSION_MAJOR;
+pub use version::VERSION_MINOR;
+pub use version::VERSION_PATCH;
+pub use version::gmv_version;

@@ -6,10 +6,10 @@ mod read;
 mod report;
 mod write;
 
-use header::Code;
-use messages::Control;
 pub use control::control_block_words;
 pub use field::next_field_words;
+use header::Code;
+use messages::Control;
 pub use read::read_answer_words;
 pub use read::read_header_words;
 pub use write::write_answer_words;

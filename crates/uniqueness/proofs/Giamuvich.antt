@@ -1,5 +1,5 @@
 -- The public functions of the crate giamuvich. Written by tests/interface/uniqueness --write.
-use mathlib.Core.Path.{refl}
+use mathlib.Core.Path.{refl, sym, _∙_}
 use Rattle.uniqueness.specs.Unique.{Unique}
 use Rattle.uniqueness.proofs.Once.{once}
 use Rattle.giamuvich.proofs.gmv_reader_fresh as gmv-reader-fresh-contract
@@ -62,6 +62,8 @@ use Rattle.giamuvich.proofs.gmv_station_enquiry as gmv-station-enquiry-contract
 use Rattle.giamuvich.proofs.gmv_station_enquiry.Reads as gmv-station-enquiry-reads
 use Rattle.giamuvich.proofs.gmv_station_end as gmv-station-end-contract
 use Rattle.giamuvich.proofs.gmv_station_end.Reads as gmv-station-end-reads
+use Rattle.giamuvich.proofs.gmv_version as gmv-version-contract
+use Rattle.giamuvich.proofs.gmv_version.Reads as gmv-version-reads
 
 pub gmv-reader-fresh : Unique gmv-reader-fresh-contract.ended (λ M. gmv-reader-fresh-contract.clauses {M = M})
 gmv-reader-fresh = record {
@@ -271,4 +273,11 @@ gmv-station-end = record {
   told = gmv-station-end-reads.Learnt;
   says = λ M 𝓤 H A mem run. refl;
   one = λ κs a z z′ ws ws′ h h′. once h h′ (λ y. y .number) (λ y. (y .state, (y .report, tt)));
+}
+
+pub gmv-version : Unique gmv-version-contract.ended (λ M. gmv-version-contract.clauses {M = M})
+gmv-version = record {
+  told = gmv-version-reads.Learnt;
+  says = λ M 𝓤 H A mem run. refl;
+  one = λ κs a z z′ ws ws′ h h′. (h ∙ sym h′, refl);
 }

@@ -1,7 +1,7 @@
 // Writing a hybrid block: SB t v v CR data ccccc xxx EB CR.
 use crate::content::write_content;
-use settings::digit_of;
 use settings::Settings;
+use settings::digit_of;
 ghost use mathlib.Core.Path.{_≡_};
 ghost use mathlib.Core.List.{_++_};
 ghost use Prim.Native.Nat.{_+_, _≤_};

@@ -281,8 +281,11 @@ int main(int count, char **words)
     FILE *out;
 
     name_program("linkstatus", UNKNOWN);
+    if (count == 2 && strcmp(words[1], "--version") == 0)
+        return say_version();
+    require_version();
     if (count != 2 && count != 3) {
-        fprintf(stderr, "linkstatus DIR\nlinkstatus SENDER RECEIVER\n");
+        fprintf(stderr, "linkstatus DIR\nlinkstatus SENDER RECEIVER\nlinkstatus --version\n");
         return UNKNOWN;
     }
     out = open_memstream(&facts, &length);

@@ -84,6 +84,8 @@ pub mod names {
 /// The functions as C sees them.
 pub mod raw {
     extern "C" {
+        pub fn gmv_version() -> u64;
+
         pub fn gmv_reader_fresh(state: *mut u64, state_words: usize) -> u64;
 
         pub fn gmv_hybrid_read(
@@ -200,6 +202,11 @@ pub mod raw {
             report_words: usize,
         ) -> u64;
     }
+}
+
+pub fn version() -> u64 {
+    // SAFETY: it takes nothing.
+    unsafe { raw::gmv_version() }
 }
 
 /// SB, EB and the data limit of a hybrid link, as plain numbers.

@@ -20,6 +20,7 @@ mod station;
 mod station_memory;
 mod station_words;
 mod streams;
+mod version;
 mod writers;
 
 use crate::cases;
@@ -28,6 +29,7 @@ use crate::compare::{Compare, Outcome};
 pub type Group = fn(&mut Compare) -> Outcome;
 
 pub const ALL: &[(&str, Group)] = &[
+    ("version", version::version),
     ("every_file_of_cases", cases::every_file),
     ("cases_of_blocks", |compare| cases::file(compare, "blocks")),
     ("cases_of_messages", |compare| {
