@@ -22,5 +22,5 @@ void test_version(void)
              version / 1000 % 1000, version % 1000);
     CHECK(strcmp(text, GMV_VERSION) == 0);
     begin_test("the parts of the version leave each other alone");
-    CHECK(GMV_VERSION_MINOR < 1000 && GMV_VERSION_PATCH < 1000);
+    CHECK(version / 1000000 == GMV_VERSION_MAJOR && GMV_VERSION_MINOR < 1000 && GMV_VERSION_PATCH < 1000);
 }
