@@ -50,16 +50,25 @@ def cited_in(formula, text):
     return cited or [name for name in names if name in kit]
 
 
-def functions_in(crate, text):
+def heads_of(text):
+    """(type or '', name, text from the parameters to the contract) of each public function of a source file."""
     owner, found = "", []
-    pattern = r'^(?:impl (\w+)|(\}))|^ *pub (extern "C" )?fn (\w+)(.*?)\n *\{\n'
-    for opened, closed, exported, name, head in re.findall(pattern, text, re.M | re.S):
+    pattern = r'^(?:impl (\w+)|(\}))|^ *pub (?:extern "C" )?fn (\w+)(.*?)\n *\{\n'
+    for opened, closed, name, head in re.findall(pattern, text, re.M | re.S):
         owner = opened or ("" if closed else owner)
         if name:
-            formula = re.search(r"ensures \{ λ r\. ⌜ (.*) ⌝ \}", head)
-            assert formula and "requires" not in head, f"crates/{crate}: {name} has no contract of the form that is read here"
-            memory = list(dict.fromkeys(re.findall(r"«?(\w+)»? \.exit", formula.group(1))))
-            found.append(Function(crate, owner, name, bool(exported), cited_in(formula.group(1), text), memory))
+            found.append((owner, name, head))
+    return found
+
+
+def functions_in(crate, text):
+    found = []
+    for owner, name, head in heads_of(text):
+        formula = re.search(r"ensures \{ λ r\. ⌜ (.*) ⌝ \}", head)
+        assert formula and "requires" not in head, f"crates/{crate}: {name} has no contract of the form that is read here"
+        memory = list(dict.fromkeys(re.findall(r"«?(\w+)»? \.exit", formula.group(1))))
+        exported = f'pub extern "C" fn {name}(' in text
+        found.append(Function(crate, owner, name, exported, cited_in(formula.group(1), text), memory))
     return found
 
 

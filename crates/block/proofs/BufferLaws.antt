@@ -9,8 +9,8 @@ use lib.Dec.{leb, ltb}
 use borrow.Author.Tests.{lt-ltb, le-ltb, le-leb, lt-leb}
 use Rattle.settings.specs.Settings.{dataOffsetOf}
 use Rattle.settings.specs.declared.Settings.{Settings}
-use Rattle.verdict.specs.Verdict.{lengthOf}
-use Rattle.verdict.specs.declared.Verdict.{Verdict}
+use Rattle.refusal.specs.Refusal.{lengthOf}
+use Rattle.refusal.specs.declared.Verdict.{Verdict}
 use Rattle.block.specs.Content.{contentOf}
 
 -- the part of the buffer that holds a block's data

@@ -3,6 +3,7 @@ use mathlib.Core.Path.{_≡_, refl}
 use mathlib.Core.List.{List, [], _∷_}
 use mathlib.Core.Bool.{true, false, _&&_, _||_, and-assoc, and-true}
 use Prim.Native.Nat.{ℕ, _≤_, _-_}
+use Prim.Native.Char.{code}
 use native.Mathlib.Omega.{arith}
 use lib.ListN.{length, take, drop, getD, length-drop}
 use lib.Seq.{take-all}
@@ -12,7 +13,7 @@ use Rattle.settings.specs.DataBytes.{allAllowed, firstForbidden}
 use Rattle.block.specs.Format.{countField, version}
 use Rattle.lists.specs.Bytes.{same}
 use Rattle.block.specs.Judge.{isReason, typeMatches, checksumMatches, judgeParts, judgeHybrid, headerOk, dataOf}
-use Rattle.verdict.specs.declared.Verdict.the-variants.{Accepted, Byte, Shape, Count, Check}
+use Rattle.refusal.specs.declared.Verdict.the-variants.{Accepted, Refused}
 
 -- fields of three and of five bytes, compared byte by byte
 pub three-same : (s : List ℕ) (a b c : ℕ) → length s ≡ 3
@@ -37,7 +38,7 @@ five-same (x ∷ y ∷ z ∷ w ∷ v ∷ []) a b c d e h = simp (and-assoc, and-
 five-same (x ∷ y ∷ z ∷ w ∷ v ∷ u ∷ r) a b c d e h = absurd (omega arith)
 
 pub reason-one : (s : List ℕ) → length s ≡ 1
-    → (eqb (getD s 0 0) 67 || eqb (getD s 0 0) 88 || eqb (getD s 0 0) 66 || eqb (getD s 0 0) 71) ≡ isReason s
+    → (eqb (getD s 0 0) (code "C") || eqb (getD s 0 0) (code "X") || eqb (getD s 0 0) (code "B") || eqb (getD s 0 0) (code "G")) ≡ isReason s
 reason-one [] e = absurd (omega arith)
 reason-one (x ∷ []) e = refl
 reason-one (x ∷ y ∷ r) e = absurd (omega arith)
@@ -49,20 +50,20 @@ reason-other (x ∷ y ∷ r) h = refl
 
 -- the verdict on the fields, by the first test that fails
 module _ (sb t : ℕ) (d ccccc xxx : List ℕ) where
-  pub parts-shape : typeMatches t d ≡ false → Shape ≡ judgeParts sb t d ccccc xxx
+  pub parts-shape : typeMatches t d ≡ false → (Refused 5 0) ≡ judgeParts sb t d ccccc xxx
   unfolding judgeParts
   parts-shape e = rw e
 
-  pub parts-byte : typeMatches t d ≡ true → allAllowed d ≡ false → Byte (firstForbidden d) ≡ judgeParts sb t d ccccc xxx
+  pub parts-byte : typeMatches t d ≡ true → allAllowed d ≡ false → Refused 3 (firstForbidden d) ≡ judgeParts sb t d ccccc xxx
   unfolding judgeParts
   parts-byte e f = rw (e, f)
 
-  pub parts-count : typeMatches t d ≡ true → allAllowed d ≡ true → same ccccc (countField d) ≡ false → Count ≡ judgeParts sb t d ccccc xxx
+  pub parts-count : typeMatches t d ≡ true → allAllowed d ≡ true → same ccccc (countField d) ≡ false → (Refused 6 0) ≡ judgeParts sb t d ccccc xxx
   unfolding judgeParts
   parts-count e f g = rw (e, f, g)
 
   pub parts-check : typeMatches t d ≡ true → allAllowed d ≡ true → same ccccc (countField d) ≡ true
-      → checksumMatches sb t d xxx ≡ false → Check ≡ judgeParts sb t d ccccc xxx
+      → checksumMatches sb t d xxx ≡ false → (Refused 7 0) ≡ judgeParts sb t d ccccc xxx
   unfolding judgeParts
   parts-check e f g h = rw (e, f, g, h)
 

@@ -3,9 +3,9 @@ use mathlib.Core.List.{List}
 use Prim.Native.Nat.{ℕ}
 use lib.ListN.{take, drop}
 use Rattle.settings.specs.Settings.{dataOffsetOf}
-use Rattle.verdict.specs.Verdict.{lengthOf}
+use Rattle.refusal.specs.Refusal.{lengthOf}
 use Rattle.settings.specs.declared.Settings.{Settings}
-use Rattle.verdict.specs.declared.Verdict.{Verdict}
+use Rattle.refusal.specs.declared.Verdict.{Verdict}
 
 -- the data of an accepted block, among the bytes between SB and EB
 unfoldable pub contentOf : Settings → Verdict → List ℕ → List ℕ

@@ -2,6 +2,7 @@
 use mathlib.Core.List.{List, [], _∷_, _++_}
 use Prim.Native.Nat.{ℕ, _+_, _/_}
 use lib.ListN.{length}
+use Rattle.lists.specs.Bytes.{bytes}
 use Rattle.settings.specs.DataBytes.{xorFrom, digit}
 use Rattle.settings.specs.Settings.{byKind}
 use Rattle.settings.specs.declared.Settings.{Settings}
@@ -14,9 +15,9 @@ fiveDigits n = digit (n / 10000) ∷ digit (n / 1000) ∷ digit (n / 100) ∷ di
 unfoldable pub threeDigits : ℕ → List ℕ
 threeDigits n = digit (n / 100) ∷ digit (n / 10) ∷ digit n ∷ []
 
--- vv and the CR after it
+-- vv, "23", and the CR after it
 abbrev pub version : List ℕ
-version = 50 ∷ 51 ∷ 13 ∷ []
+version = bytes "23\r"
 
 -- "5 plus the data length"
 unfoldable pub countField : List ℕ → List ℕ
@@ -33,11 +34,11 @@ hybridBody t d xxx = t ∷ version ++ d ++ countField d ++ xxx
 -- SB t v v CR data ccccc xxx EB CR
 unfoldable pub hybridBlock : Settings → ℕ → List ℕ → List ℕ
 hybridBlock s t d =
-    s .«start_block» ∷ (hybridBody t d (threeDigits (checksumOf (s .«start_block») t d)) ++ s .«end_block» ∷ 13 ∷ [])
+    s .«start_block» ∷ (hybridBody t d (threeDigits (checksumOf (s .«start_block») t d)) ++ s .«end_block» ∷ 0x0D ∷ [])
 
 -- SB data EB CR
 unfoldable pub minimalBlock : Settings → List ℕ → List ℕ
-minimalBlock s d = s .«start_block» ∷ (d ++ s .«end_block» ∷ 13 ∷ [])
+minimalBlock s d = s .«start_block» ∷ (d ++ s .«end_block» ∷ 0x0D ∷ [])
 
 -- the bytes of a block of either kind; a minimal block has no type
 unfoldable pub blockOf : Settings → ℕ → List ℕ → List ℕ

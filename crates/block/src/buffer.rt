@@ -1,6 +1,6 @@
 // The buffer that a reader is lent: how long it must be, and where in it an accepted block's data stands.
+use refusal::Verdict;
 use settings::Settings;
-use verdict::Verdict;
 ghost use mathlib.Core.Path.{_≡_};
 ghost use lib.Dec.{leb, ltb};
 ghost use lib.ListN.{length};

@@ -2,12 +2,12 @@
 use crate::digits::is_five_digits;
 use crate::digits::is_three;
 use crate::digits::is_three_digits;
+use refusal::Verdict;
 use settings::Kind;
 use settings::Settings;
 use settings::are_allowed;
 use settings::checksum;
 use settings::first_forbidden;
-use verdict::Verdict;
 ghost use mathlib.Core.Path.{_≡_};
 ghost use lib.ListN.{length};
 ghost use Rattle.block.specs.Format.{checksumOf};
@@ -21,24 +21,24 @@ pub(crate) fn is_reason(s: &[u8]) -> bool
         return false;
     }
     let x = s[0];
-    (x == 67) | (x == 88) | (x == 66) | (x == 71)
+    (x == b'C') | (x == b'X') | (x == b'B') | (x == b'G')
 }
 
 // Whether t is D, or N with a reason for its data.
 pub fn type_matches(t: u8, s: &[u8]) -> bool
     ensures { λ r. ⌜ r ≡ typeMatches t (now (s .entry)) ⌝ }
 {
-    if t == 68 {
+    if t == b'D' {
         return true;
     }
-    if t == 78 { is_reason(s) } else { false }
+    if t == b'N' { is_reason(s) } else { false }
 }
 
 // The checksum of a hybrid block, from SB to its last data byte.
 pub fn block_checksum(start_block: u8, t: u8, s: &[u8]) -> u8
     ensures { λ r. ⌜ r ≡ checksumOf «start_block» t (now (s .entry)) ⌝ }
 {
-    checksum(start_block ^ t ^ 50 ^ 51 ^ 13, s)
+    checksum(start_block ^ t ^ b'2' ^ b'3' ^ b'\r', s)
 }
 
 // Whether the field xxx is 999 or the checksum.
@@ -47,7 +47,7 @@ fn checksum_matches(start_block: u8, t: u8, s: &[u8], field: &[u8]) -> bool
     ensures { λ r. ⌜ r ≡ checksumMatches «start_block» t (now (s .entry)) (now (field .entry)) ⌝ }
 {
     let sum = block_checksum(start_block, t, s);
-    is_three(field, 57, 57, 57) | is_three_digits(field, sum as usize)
+    is_three(field, b'9', b'9', b'9') | is_three_digits(field, sum as usize)
 }
 
 // The fields t, data, ccccc and xxx, in the order 5, 3, 6, 7.
@@ -57,16 +57,16 @@ fn judge_parts(start_block: u8, t: u8, s: &[u8], count: &[u8], sum: &[u8]) -> Ve
     ensures { λ r. ⌜ r ≡ judgeParts «start_block» t (now (s .entry)) (now (count .entry)) (now (sum .entry)) ⌝ }
 {
     if !type_matches(t, s) {
-        return Verdict::Shape;
+        return Verdict::Refused(refusal::SHAPE, 0);
     }
     if !are_allowed(s) {
-        return Verdict::Byte(first_forbidden(s));
+        return Verdict::Refused(refusal::BYTE, first_forbidden(s));
     }
     if !is_five_digits(count, 5 + s.len()) {
-        return Verdict::Count;
+        return Verdict::Refused(refusal::COUNT, 0);
     }
     if !checksum_matches(start_block, t, s, sum) {
-        return Verdict::Check;
+        return Verdict::Refused(refusal::CHECKSUM, 0);
     }
     Verdict::Accepted(t, s.len())
 }
@@ -75,10 +75,10 @@ fn judge_hybrid(start_block: u8, body: &[u8]) -> Verdict
     ensures { λ r. ⌜ r ≡ judgeHybrid «start_block» (now (body .entry)) ⌝ }
 {
     if body.len() < 12 {
-        return Verdict::Shape;
+        return Verdict::Refused(refusal::SHAPE, 0);
     }
-    if !is_three(&body[1..4], 50, 51, 13) {
-        return Verdict::Shape;
+    if !is_three(&body[1..4], b'2', b'3', b'\r') {
+        return Verdict::Refused(refusal::SHAPE, 0);
     }
     let count = body.len() - 8;
     let sum = body.len() - 3;
@@ -95,9 +95,9 @@ fn judge_minimal(body: &[u8]) -> Verdict
     ensures { λ r. ⌜ r ≡ judgeMinimal (now (body .entry)) ⌝ }
 {
     if are_allowed(body) {
-        Verdict::Accepted(68, body.len())
+        Verdict::Accepted(b'D', body.len())
     } else {
-        Verdict::Byte(first_forbidden(body))
+        Verdict::Refused(refusal::BYTE, first_forbidden(body))
     }
 }
 

@@ -1,30 +1,31 @@
 -- The ways in which a check returns.
 use mathlib.Core.Path.{_≡_, refl, sym, ap, _∙_}
-use mathlib.Core.List.{List}
+use mathlib.Core.List.{List, []}
 use Prim.Native.Nat.{ℕ, _≤_, _<_}
 use native.Mathlib.Omega.{arith}
 use lib.ListN.{length}
-use borrow.Author.Tests.{lt-ltb, le-ltb}
+use borrow.Author.Tests.{lt-leb, le-leb}
 use Rattle.settings.specs.Settings.{dataOffsetOf, byKind}
 use Rattle.settings.specs.declared.Kind.{Kind}
 use Rattle.settings.specs.declared.Kind.the-variants.{Hybrid, Minimal}
 use Rattle.settings.specs.declared.Settings.{Settings}
 use Rattle.settings.specs.declared.Made.the-variants.{Valid, Refused}
-use Rattle.whole_block.specs.declared.Checked.{Checked}
-use Rattle.whole_block.specs.Whole.{checkOf}
-use Rattle.block_calls.specs.CheckCalls.{checkCalled, checkFinished, checkCall}
+use Rattle.lists.specs.Outcome.{called}
+use Rattle.refusal.specs.declared.Verdict.{Verdict}
+use Rattle.whole_block.specs.Whole.{wholeOf}
+use Rattle.block_calls.specs.CheckCalls.{checkFinished, checkCall}
 
-pub check-refused : (xs v : List ℕ) → checkCalled 1 v ≡ checkCall Refused xs v
+pub check-refused : (xs v : List ℕ) → called 1 [] [] v ≡ checkCall Refused xs v
 unfolding checkCall
 check-refused xs v = refl
 
-pub check-few : (g : Settings) (xs v : List ℕ) → length v < 8 → checkCalled 2 v ≡ checkCall (Valid g) xs v
+pub check-few : (g : Settings) (xs v : List ℕ) → length v < 8 → called 2 [] [] v ≡ checkCall (Valid g) xs v
 unfolding checkCall
-check-few g xs v h = rw (lt-ltb (length v) 8 h)
+check-few g xs v h = rw (lt-leb 8 (length v) h)
 
-pub check-done : (g : Settings) (xs v : List ℕ) → 8 ≤ length v → checkFinished g xs v (checkOf g xs) ≡ checkCall (Valid g) xs v
+pub check-done : (g : Settings) (xs v : List ℕ) → 8 ≤ length v → checkFinished g xs v (wholeOf g xs) ≡ checkCall (Valid g) xs v
 unfolding checkCall
-check-done g xs v h = rw (le-ltb (length v) 8 h)
+check-done g xs v h = rw (le-leb 8 (length v) h)
 
 pub offset-small : (g : Settings) → dataOffsetOf g ≤ 4
 offset-small g = go (g .kind)
@@ -33,5 +34,5 @@ offset-small g = go (g .kind)
     go Hybrid = omega arith
     go Minimal = omega arith
 
-pub check-as : (g : Settings) (xs v : List ℕ) (w : Checked) → checkOf g xs ≡ w → 8 ≤ length v → checkFinished g xs v w ≡ checkCall (Valid g) xs v
-check-as g xs v w e h = ap (λ (z : Checked). checkFinished g xs v z) (sym e) ∙ check-done g xs v h
+pub check-as : (g : Settings) (xs v : List ℕ) (w : Verdict) → wholeOf g xs ≡ w → 8 ≤ length v → checkFinished g xs v w ≡ checkCall (Valid g) xs v
+check-as g xs v w e h = ap (λ (z : Verdict). checkFinished g xs v z) (sym e) ∙ check-done g xs v h

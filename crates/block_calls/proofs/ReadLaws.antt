@@ -5,54 +5,52 @@ use mathlib.Core.Bool.{true, false}
 use Prim.Native.Nat.{ℕ, _≤_, _<_}
 use lib.ListN.{length}
 use lib.Dec.{leb}
-use borrow.Author.Tests.{lt-ltb, le-ltb}
-use Rattle.stream.specs.Scan.{Read, given}
+use borrow.Author.Tests.{lt-leb, le-leb}
+use Rattle.lists.specs.Outcome.{Outcome, outcome, Called, called}
 use Rattle.stream.specs.declared.Reading.{Reading}
 use Rattle.stream.specs.declared.Answer.{Answer}
-use Rattle.stream.specs.declared.Answer.the-variants.{Setting, TooShort, State, Pending, Found}
+use Rattle.stream.specs.declared.Answer.the-variants.{Refused, Pending, Found}
 use Rattle.stream.specs.declared.Reader.{Reader}
 use Rattle.settings.specs.Settings.{capacityOf}
 use Rattle.settings.specs.declared.Settings.{Settings}
-use Rattle.settings.specs.declared.Made.the-variants.{Valid, Refused}
+use Rattle.settings.specs.declared.Made.the-variants.{Valid, Refused as BadSetting}
 use Rattle.block_calls.specs.ReaderWords.{decoded}
-use Rattle.block_calls.specs.ReadCalls.{ReadCall, readCalled, readAnswered, readFinished, readDecoded, readCall}
+use Rattle.block_calls.specs.ReadCalls.{readAnswered, readFinished, readDecoded, readCall}
 
-abbrev pub withBuffer : List ℕ → ReadCall → ReadCall
-withBuffer c t = readCalled (t .number) (t .state) c (t .verdict)
+abbrev pub withBuffer : List ℕ → Called → Called
+withBuffer c t = called (t .number) (t .state) c (t .report)
 
 pub answered : (g : Settings) (st v : List ℕ) (r : Reader) (c : List ℕ) (used : ℕ) (a : Answer)
     → withBuffer c (readAnswered g st v r [] used a) ≡ readAnswered g st v r c used a
 answered g st v r c used Pending = refl
 answered g st v r c used (Found s w) = refl
-answered g st v r c used Setting = refl
-answered g st v r c used TooShort = refl
-answered g st v r c used State = refl
+answered g st v r c used (Refused n) = refl
 
 module _ (g : Settings) (st xs b v : List ℕ) where
-  pub read-few-state : length st < 4 → readCalled 2 st b v ≡ readCall (Valid g) st xs b v
+  pub read-few-state : length st < 4 → called 2 st b v ≡ readCall (Valid g) st xs b v
   unfolding readCall
-  read-few-state h = rw (lt-ltb (length st) 4 h)
+  read-few-state h = rw (lt-leb 4 (length st) h)
 
-  pub read-few-verdict : 4 ≤ length st → length v < 8 → readCalled 2 st b v ≡ readCall (Valid g) st xs b v
+  pub read-few-verdict : 4 ≤ length st → length v < 8 → called 2 st b v ≡ readCall (Valid g) st xs b v
   unfolding readCall
-  read-few-verdict h l = rw (le-ltb (length st) 4 h, lt-ltb (length v) 8 l)
+  read-few-verdict h l = rw (le-leb 4 (length st) h, lt-leb 8 (length v) l)
 
-  pub read-few-buffer : 4 ≤ length st → 8 ≤ length v → leb (capacityOf g) (length b) ≡ false → readCalled 2 st b v ≡ readCall (Valid g) st xs b v
+  pub read-few-buffer : 4 ≤ length st → 8 ≤ length v → leb (capacityOf g) (length b) ≡ false → called 2 st b v ≡ readCall (Valid g) st xs b v
   unfolding readCall
-  read-few-buffer h l e = rw (le-ltb (length st) 4 h, le-ltb (length v) 8 l, e)
+  read-few-buffer h l e = rw (le-leb 4 (length st) h, le-leb 8 (length v) l, e)
 
   pub read-done : 4 ≤ length st → 8 ≤ length v → leb (capacityOf g) (length b) ≡ true
       → readDecoded g st xs b v (decoded st) ≡ readCall (Valid g) st xs b v
   unfolding readCall
-  read-done h l e = rw (le-ltb (length st) 4 h, le-ltb (length v) 8 l, e)
+  read-done h l e = rw (le-leb 4 (length st) h, le-leb 8 (length v) l, e)
 
-pub read-refused : (st xs b v : List ℕ) → readCalled 1 st b v ≡ readCall Refused st xs b v
+pub read-refused : (st xs b v : List ℕ) → called 1 st b v ≡ readCall BadSetting st xs b v
 unfolding readCall
 read-refused st xs b v = refl
 
 -- the buffer is that of the reading
-pub read-known : (g : Settings) (st v c : List ℕ) (d : Reading) (t : Read) (n : ℕ) (s w : List ℕ)
-    → readCalled n s [] w ≡ readAnswered g st v (d .reader) [] (d .used) (d .answer) → given d c ≡ t
-    → readCalled n s c w ≡ readFinished g st v t
+pub read-known : (g : Settings) (st v c : List ℕ) (d : Reading) (t : Outcome Reading) (n : ℕ) (s w : List ℕ)
+    → called n s [] w ≡ readAnswered g st v (d .reader) [] (d .used) (d .answer) → outcome d c ≡ t
+    → called n s c w ≡ readFinished g st v t
 read-known g st v c d t n s w e f =
-    ap (withBuffer c) e ∙ answered g st v (d .reader) c (d .used) (d .answer) ∙ ap (λ (z : Read). readFinished g st v z) f
+    ap (withBuffer c) e ∙ answered g st v (d .reader) c (d .used) (d .answer) ∙ ap (λ (z : Outcome Reading). readFinished g st v z) f

@@ -4,9 +4,9 @@ use mathlib.Core.Bool.{cond}
 use Prim.Native.Nat.{ℕ}
 use lib.ListN.{length, getD}
 use lib.Dec.{ltb, eqb}
-use Rattle.verdict.specs.Verdict.{numberOf, forbiddenOffsetOf, typeOf, lengthOf}
-use Rattle.verdict.specs.declared.Verdict.{Verdict}
-use Rattle.verdict.specs.declared.Verdict.the-variants.{Accepted, Byte, Long, Shape, Count, Check, Interrupted}
+use Rattle.refusal.specs.Refusal.{numberOf, offsetOf, typeOf, lengthOf}
+use Rattle.refusal.specs.declared.Verdict.{Verdict}
+use Rattle.refusal.specs.declared.Verdict.the-variants.{Accepted, Refused}
 use Rattle.stream.specs.declared.Phase.{Phase}
 use Rattle.stream.specs.declared.Phase.the-variants.{Between, Inside, Ended}
 use Rattle.stream.specs.declared.Reader.{Reader}
@@ -35,17 +35,12 @@ decoded ws =
 -- where an accepted block's data begins; 0 for a refused block
 abbrev pub dataStart : ℕ → Verdict → ℕ
 dataStart o (Accepted t n) = o
-dataStart o (Byte p) = 0
-dataStart o Long = 0
-dataStart o Shape = 0
-dataStart o Count = 0
-dataStart o Check = 0
-dataStart o Interrupted = 0
+dataStart o (Refused k i) = 0
 
 -- GMV_VERDICT_FOUND, GMV_VERDICT_OFFSET, GMV_VERDICT_NUMBER, GMV_VERDICT_FORBIDDEN_OFFSET, GMV_VERDICT_TYPE, GMV_VERDICT_DATA_OFFSET, GMV_VERDICT_DATA_LENGTH, GMV_VERDICT_USED
 unfoldable pub verdictWords : ℕ → Verdict → ℕ → ℕ → List ℕ
 verdictWords s v o used =
-    1 ∷ s ∷ numberOf v ∷ forbiddenOffsetOf v ∷ typeOf v ∷ dataStart o v ∷ lengthOf v ∷ used ∷ []
+    1 ∷ s ∷ numberOf v ∷ offsetOf v ∷ typeOf v ∷ dataStart o v ∷ lengthOf v ∷ used ∷ []
 
 -- no block ended yet
 unfoldable pub pendingWords : ℕ → List ℕ

@@ -10,7 +10,6 @@ pub use check::check_words;
 pub use fresh::fresh_words;
 pub use read::read_words;
 use stream::Reader;
-pub use write::report_written;
 pub use write::write_words;
 
 // What a reader's words encode.

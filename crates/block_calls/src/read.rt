@@ -12,21 +12,20 @@ ghost use mathlib.Core.Path.{_≡_};
 ghost use mathlib.Core.List.{[]};
 ghost use Prim.Native.Nat.{_≤_};
 ghost use lib.ListN.{length};
+ghost use Rattle.lists.specs.Outcome.{called};
 ghost use Rattle.block_calls.specs.ReaderWords.{decoded};
-ghost use Rattle.block_calls.specs.ReadCalls.{readCalled, readAnswered, readDecoded, readCall};
+ghost use Rattle.block_calls.specs.ReadCalls.{readAnswered, readDecoded, readCall};
 
 // Writes what a reading gave into the state and the verdict, unless it was refused.
 fn finish(settings: Settings, reading: Reading, state: &mut [u64], verdict: &mut [u64]) -> u64
     requires { ⌜ 4 ≤ length (now state) ⌝ }
     requires { ⌜ 8 ≤ length (now verdict) ⌝ }
-    ensures { λ r. ⌜ readCalled r (now (state .exit)) [] (now (verdict .exit)) ≡ readAnswered settings (now (state .entry)) (now (verdict .entry)) (reading .reader) [] (reading .used) (reading .answer) ⌝ }
+    ensures { λ r. ⌜ called r (now (state .exit)) [] (now (verdict .exit)) ≡ readAnswered settings (now (state .entry)) (now (verdict .entry)) (reading .reader) [] (reading .used) (reading .answer) ⌝ }
 {
     let answer = reading.answer;
     let reader = reading.reader;
     match answer {
-        Answer::Setting => 1,
-        Answer::TooShort => 2,
-        Answer::State => 11,
+        Answer::Refused(number) => number,
         Answer::Pending => {
             write_reader(state, reader);
             write_pending(verdict, reading.used);
@@ -56,10 +55,10 @@ fn read_with(
 ) -> u64
     requires { ⌜ 4 ≤ length (now state) ⌝ }
     requires { ⌜ 8 ≤ length (now verdict) ⌝ }
-    ensures { λ r. ⌜ readCalled r (now (state .exit)) (now (buffer .exit)) (now (verdict .exit)) ≡ readDecoded settings (now (state .entry)) (now (part .entry)) (now (buffer .entry)) (now (verdict .entry)) (decoded (now (state .entry))) ⌝ }
+    ensures { λ r. ⌜ called r (now (state .exit)) (now (buffer .exit)) (now (verdict .exit)) ≡ readDecoded settings (now (state .entry)) (now (part .entry)) (now (buffer .entry)) (now (verdict .entry)) (decoded (now (state .entry))) ⌝ }
 {
     let Decoded::Known(reader) = read_reader(state) else {
-        return 11;
+        return refusal::STATE;
     };
     let reading = stream::read(settings, reader, part, buffer);
     finish(settings, reading, state, verdict)
@@ -72,19 +71,19 @@ pub fn read_words(
     buffer: &mut [u8],
     verdict: &mut [u64],
 ) -> u64
-    ensures { λ r. ⌜ readCalled r (now (state .exit)) (now (buffer .exit)) (now (verdict .exit)) ≡ readCall made (now (state .entry)) (now (part .entry)) (now (buffer .entry)) (now (verdict .entry)) ⌝ }
+    ensures { λ r. ⌜ called r (now (state .exit)) (now (buffer .exit)) (now (verdict .exit)) ≡ readCall made (now (state .entry)) (now (part .entry)) (now (buffer .entry)) (now (verdict .entry)) ⌝ }
 {
     let Made::Valid(settings) = made else {
-        return 1;
+        return refusal::SETTING;
     };
     if state.len() < 4 {
-        return 2;
+        return refusal::TOO_SHORT;
     }
     if verdict.len() < 8 {
-        return 2;
+        return refusal::TOO_SHORT;
     }
     if !block::buffer_fits(settings, buffer) {
-        return 2;
+        return refusal::TOO_SHORT;
     }
     read_with(settings, state, part, buffer, verdict)
 }

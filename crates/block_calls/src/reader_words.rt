@@ -1,8 +1,8 @@
 // A reader's state and a verdict as the 64-bit words of a C driver.
 use crate::Decoded;
+use refusal::Verdict;
 use stream::Phase;
 use stream::Reader;
-use verdict::Verdict;
 ghost use mathlib.Core.Path.{_≡_};
 ghost use Rattle.lists.specs.Bytes.{over};
 ghost use Rattle.block_calls.specs.ReaderWords.{phaseNumber, readerWords, decoded, dataStart, verdictWords, pendingWords};
@@ -93,12 +93,7 @@ fn data_start(offset: usize, verdict: Verdict) -> usize
 {
     match verdict {
         Verdict::Accepted(_, _) => offset,
-        Verdict::Byte(_) => 0,
-        Verdict::Long => 0,
-        Verdict::Shape => 0,
-        Verdict::Count => 0,
-        Verdict::Check => 0,
-        Verdict::Interrupted => 0,
+        Verdict::Refused(_, _) => 0,
     }
 }
 
@@ -118,7 +113,7 @@ pub(crate) fn write_verdict(
     words[0] = 1;
     words[1] = word(start);
     words[2] = verdict.number();
-    words[3] = word(verdict.forbidden_offset());
+    words[3] = word(verdict.offset());
     words[4] = byte_word(verdict.block_type());
     words[5] = word(data_start(offset, verdict));
     words[6] = word(verdict.data_length());

@@ -1,37 +1,11 @@
 // Writing one block.
 use settings::Made;
+use words::report_written;
 use words::type_byte;
-use words::write_report;
-use writer::Written;
 ghost use mathlib.Core.Path.{_≡_};
 ghost use mathlib.Core.List.{[]};
-ghost use Rattle.block_calls.specs.WriteCalls.{writeCalled, writeFinished, writeCall};
-
-// The number of what the writer answered, with the report written unless it was 1 or 2.
-pub fn report_written(written: Written, report: &mut [u64]) -> u64
-    ensures { λ r. ⌜ writeCalled r [] (now (report .exit)) ≡ writeFinished [] (now (report .entry)) written ⌝ }
-{
-    match written {
-        Written::Setting => 1,
-        Written::TooShort => 2,
-        Written::Long => {
-            write_report(report, 0, 0);
-            4
-        }
-        Written::Shape => {
-            write_report(report, 0, 0);
-            5
-        }
-        Written::Byte(offset) => {
-            write_report(report, 0, offset);
-            3
-        }
-        Written::Block(block_length) => {
-            write_report(report, block_length, 0);
-            0
-        }
-    }
-}
+ghost use Rattle.lists.specs.Outcome.{called};
+ghost use Rattle.block_calls.specs.WriteCalls.{writeCall};
 
 pub fn write_words(
     made: Made,
@@ -41,14 +15,14 @@ pub fn write_words(
     start: usize,
     report: &mut [u64],
 ) -> u64
-    ensures { λ r. ⌜ writeCalled r (now (buffer .exit)) (now (report .exit)) ≡ writeCall made t (now (content .entry)) (now (buffer .entry)) start (now (report .entry)) ⌝ }
+    ensures { λ r. ⌜ called r [] (now (buffer .exit)) (now (report .exit)) ≡ writeCall made t (now (content .entry)) (now (buffer .entry)) start (now (report .entry)) ⌝ }
 {
     let Made::Valid(settings) = made else {
-        return 1;
+        return refusal::SETTING;
     };
     if report.len() < 2 {
-        return 2;
+        return refusal::TOO_SHORT;
     }
-    let written = writer::write(settings, type_byte(t), content, buffer, start);
+    let written = writer::frame(settings, type_byte(t), content, buffer, start);
     report_written(written, report)
 }

@@ -13,14 +13,14 @@ use Rattle.lists.proofs.Tests.{and-left, and-right}
 use Rattle.settings.specs.DataBytes.{allAllowed, firstForbidden}
 use Rattle.block.specs.Format.{version, threeDigits, countField, checksumOf, hybridBody}
 use Rattle.settings.specs.Settings.{byKind, valid, capacityOf}
-use Rattle.lists.specs.Bytes.{same}
+use Rattle.lists.specs.Bytes.{bytes, same}
 use Rattle.block.specs.Judge.{typeMatches, headerOk, checksumMatches, judgeParts, dataOf, judgeHybrid, judgeMinimal, judge}
-use Rattle.verdict.specs.Verdict.{numberOf, typeOf, lengthOf}
+use Rattle.refusal.specs.Refusal.{numberOf, typeOf, lengthOf}
 use Rattle.settings.specs.declared.Kind.{Kind}
 use Rattle.settings.specs.declared.Kind.the-variants.{Hybrid, Minimal}
 use Rattle.settings.specs.declared.Settings.{Settings}
-use Rattle.verdict.specs.declared.Verdict.the-variants.{Accepted, Byte, Shape, Count, Check, Long}
-use Rattle.stream.specs.Stream.{outcome}
+use Rattle.refusal.specs.declared.Verdict.the-variants.{Accepted, Refused}
+use Rattle.stream.specs.Stream.{endVerdict}
 use Rattle.block_theorems.proofs.Bytes.{three-allowed}
 use Rattle.block_theorems.proofs.RoundTrip.{Good, hybrid-good, minimal-good, outcome-fits}
 use Rattle.block_theorems.proofs.Judging.{length-three, length-body, judge-body, sum-computed, sum-passes}
@@ -39,19 +39,19 @@ same-equal (x ∷ l) (y ∷ m) e =
 -- what the tests of the judge have shown where it accepts
 record Passed (sb t : ℕ) (d c x : List ℕ) (u n : ℕ) : Type 0 where
   type : typeMatches t d ≡ true
-  bytes : allAllowed d ≡ true
+  allowed : allAllowed d ≡ true
   count : c ≡ countField d
-  sum : (x ≡ threeDigits 999) ⊎ (x ≡ threeDigits (checksumOf sb t d))
+  sum : (x ≡ bytes "999") ⊎ (x ≡ threeDigits (checksumOf sb t d))
   kind : t ≡ u
   size : n ≡ length d
 
-either-sum : (sb t : ℕ) (d x : List ℕ) → checksumMatches sb t d x ≡ true → (x ≡ threeDigits 999) ⊎ (x ≡ threeDigits (checksumOf sb t d))
+either-sum : (sb t : ℕ) (d x : List ℕ) → checksumMatches sb t d x ≡ true → (x ≡ bytes "999") ⊎ (x ≡ threeDigits (checksumOf sb t d))
 unfolding checksumMatches
-either-sum sb t d x = go (same x (threeDigits 999)) (same x (threeDigits (checksumOf sb t d))) refl refl
+either-sum sb t d x = go (same x (bytes "999")) (same x (threeDigits (checksumOf sb t d))) refl refl
   where
-    go : (p q : Bool) → same x (threeDigits 999) ≡ p → same x (threeDigits (checksumOf sb t d)) ≡ q → (p || q) ≡ true
-        → (x ≡ threeDigits 999) ⊎ (x ≡ threeDigits (checksumOf sb t d))
-    go true q e f h = inl (same-equal x (threeDigits 999) e)
+    go : (p q : Bool) → same x (bytes "999") ≡ p → same x (threeDigits (checksumOf sb t d)) ≡ q → (p || q) ≡ true
+        → (x ≡ bytes "999") ⊎ (x ≡ threeDigits (checksumOf sb t d))
+    go true q e f h = inl (same-equal x (bytes "999") e)
     go false true e f h = inr (same-equal x (threeDigits (checksumOf sb t d)) f)
     go false false e f h = absurd (false≢true h)
 
@@ -60,7 +60,7 @@ unfolding judgeParts
 passed sb t d c x u n = go (typeMatches t d) (allAllowed d) (same c (countField d)) (checksumMatches sb t d x) refl refl refl refl
   where
     go : (p q r s : Bool) → typeMatches t d ≡ p → allAllowed d ≡ q → same c (countField d) ≡ r → checksumMatches sb t d x ≡ s
-        → cond p (cond q (cond r (cond s (Accepted t (length d)) Check) Count) (Byte (firstForbidden d))) Shape ≡ Accepted u n
+        → cond p (cond q (cond r (cond s (Accepted t (length d)) (Refused 7 0)) (Refused 6 0)) (Refused 3 (firstForbidden d))) (Refused 5 0) ≡ Accepted u n
         → Passed sb t d c x u n
     go false q r s e₁ e₂ e₃ e₄ h = absurd (omega (arith, ap numberOf h))
     go true false r s e₁ e₂ e₃ e₄ h = absurd (omega (arith, ap numberOf h))
@@ -69,7 +69,7 @@ passed sb t d c x u n = go (typeMatches t d) (allAllowed d) (same c (countField 
     go true true true true e₁ e₂ e₃ e₄ h =
         record {
           type = e₁;
-          bytes = e₂;
+          allowed = e₂;
           count = same-equal c (countField d) e₃;
           sum = either-sum sb t d x e₄;
           kind = ap typeOf h;
@@ -116,7 +116,7 @@ rebuilt sb t body d c x u n e h =
         is = e ∙ ap (λ (l : List ℕ). (t ∷ version) ++ d ++ l ++ x) (h .count);
         either = h .sum;
         type = h .type;
-        bytes = h .bytes;
+        bytes = h .allowed;
       });
       size = h .size;
     }
@@ -127,7 +127,7 @@ unfolding judgeHybrid headerOk
 judged-sound sb body t n = go (leb 12 (length body)) (same (take 3 (drop 1 body)) version) refl refl
   where
     go : (p q : Bool) → leb 12 (length body) ≡ p → same (take 3 (drop 1 body)) version ≡ q
-        → cond (cond p q false) (judgeParts sb (getD body 0 0) (dataOf body) (take 5 (drop (length body - 8) body)) (drop (length body - 3) body)) Shape ≡ Accepted t n
+        → cond (cond p q false) (judgeParts sb (getD body 0 0) (dataOf body) (take 5 (drop (length body - 8) body)) (drop (length body - 3) body)) (Refused 5 0) ≡ Accepted t n
         → Found sb body t n
     go false q e f h = absurd (omega (arith, ap numberOf h))
     go true false e f h = absurd (omega (arith, ap numberOf h))
@@ -136,11 +136,11 @@ judged-sound sb body t n = go (leb 12 (length body)) (same (take 3 (drop 1 body)
         (fields body (leb-true 12 (length body) e) f)
         (passed sb (getD body 0 0) (dataOf body) (take 5 (drop (length body - 8) body)) (drop (length body - 3) body) t n h)
 
-sum-length : (sb t : ℕ) (d x : List ℕ) → (x ≡ threeDigits 999) ⊎ (x ≡ threeDigits (checksumOf sb t d)) → length x ≡ 3
-sum-length sb t d x (inl e) = ap length e ∙ length-three 999
+sum-length : (sb t : ℕ) (d x : List ℕ) → (x ≡ bytes "999") ⊎ (x ≡ threeDigits (checksumOf sb t d)) → length x ≡ 3
+sum-length sb t d x (inl e) = ap length e
 sum-length sb t d x (inr e) = ap length e ∙ length-three (checksumOf sb t d)
 
-sum-right : (sb t : ℕ) (d x : List ℕ) → (x ≡ threeDigits 999) ⊎ (x ≡ threeDigits (checksumOf sb t d)) → checksumMatches sb t d x ≡ true
+sum-right : (sb t : ℕ) (d x : List ℕ) → (x ≡ bytes "999") ⊎ (x ≡ threeDigits (checksumOf sb t d)) → checksumMatches sb t d x ≡ true
 sum-right sb t d x (inl e) = rw e (sum-passes sb t d)
 sum-right sb t d x (inr e) = ap (checksumMatches sb t d) e ∙ sum-computed sb t d
 
@@ -158,7 +158,7 @@ minimal-sound : (g : Settings) (body : List ℕ) (t n : ℕ) → g .kind ≡ Min
 unfolding judgeMinimal
 minimal-sound g body t n k l = go (allAllowed body) refl
   where
-    go : (p : Bool) → allAllowed body ≡ p → cond p (Accepted 68 (length body)) (Byte (firstForbidden body)) ≡ Accepted t n → Accepts g body t n
+    go : (p : Bool) → allAllowed body ≡ p → cond p (Accepted 68 (length body)) (Refused 3 (firstForbidden body)) ≡ Accepted t n → Accepts g body t n
     go true e h = record { content = body; form = minimal k (sym (ap typeOf h)) refl e; fits = l; size = sym (ap lengthOf h) }
     go false e h = absurd (omega (arith, ap numberOf h))
 
@@ -177,18 +177,18 @@ judge-sound g body t n = go (g .kind) refl
     go Minimal e l h = minimal-sound g body t n e l h
 
 -- "A block ends at the first EB; its verdict comes with the byte after.": what an accepted block was
-pub outcome-sound : (g : Settings) (body : List ℕ) (x t n : ℕ) → outcome g body x ≡ Accepted t n → Closed g body x t n
-unfolding outcome
+pub outcome-sound : (g : Settings) (body : List ℕ) (x t n : ℕ) → endVerdict g body x ≡ Accepted t n → Closed g body x t n
+unfolding endVerdict
 outcome-sound g body x t n = go (ltb (capacityOf g) (length body)) (eqb x 13) refl refl
   where
-    go : (p q : Bool) → ltb (capacityOf g) (length body) ≡ p → eqb x 13 ≡ q → cond p Long (cond q (judge g body) Shape) ≡ Accepted t n → Closed g body x t n
+    go : (p q : Bool) → ltb (capacityOf g) (length body) ≡ p → eqb x 13 ≡ q → cond p (Refused 4 0) (cond q (judge g body) (Refused 5 0)) ≡ Accepted t n → Closed g body x t n
     go true q e f h = absurd (omega (arith, ap numberOf h))
     go false false e f h = absurd (omega (arith, ap numberOf h))
     go false true e f h =
         record { return = eqb-true x 13 f; accepts = judge-sound g body t n (ltb-false (capacityOf g) (length body) e) h }
 
-sum-allowed : (sb t : ℕ) (d x : List ℕ) → (x ≡ threeDigits 999) ⊎ (x ≡ threeDigits (checksumOf sb t d)) → allAllowed x ≡ true
-sum-allowed sb t d x (inl e) = ap allAllowed e ∙ three-allowed 999
+sum-allowed : (sb t : ℕ) (d x : List ℕ) → (x ≡ bytes "999") ⊎ (x ≡ threeDigits (checksumOf sb t d)) → allAllowed x ≡ true
+sum-allowed sb t d x (inl e) = ap allAllowed e
 sum-allowed sb t d x (inr e) = ap allAllowed e ∙ three-allowed (checksumOf sb t d)
 
 -- a formatted body is one that the reader accepts wherever it stands between SB and EB CR
@@ -199,8 +199,8 @@ body-good g t d body v l (hybrid k h) =
 body-good g t d body v l (minimal k e f a) = rw (e, f) (minimal-good g d k v a l)
 
 -- and each such block is accepted
-pub outcome-complete : (g : Settings) (body : List ℕ) (x t n : ℕ) → valid g ≡ true → Closed g body x t n → outcome g body x ≡ Accepted t n
+pub outcome-complete : (g : Settings) (body : List ℕ) (x t n : ℕ) → valid g ≡ true → Closed g body x t n → endVerdict g body x ≡ Accepted t n
 outcome-complete g body x t n v h =
     let a = h .accepts in
     let p = body-good g t (a .content) body v (a .fits) (a .form) in
-    ap (outcome g body) (h .return) ∙ outcome-fits g body (Accepted t (length (a .content))) (p .fits) (p .judged) ∙ ap (Accepted t) (sym (a .size))
+    ap (endVerdict g body) (h .return) ∙ outcome-fits g body (Accepted t (length (a .content))) (p .fits) (p .judged) ∙ ap (Accepted t) (sym (a .size))

@@ -1,21 +1,23 @@
 -- One call of the reader from any state whatever: it uses at most the part, and a verdict takes at least one byte. So a caller may go on with the rest of the part, and its loop ends.
 use mathlib.Core.Path.{_≡_, refl}
 use mathlib.Core.List.{List, [], _∷_}
-use mathlib.Core.Bool.{not}
 use Prim.Native.Nat.{ℕ, _+_, _≤_, _<_, _-_}
 use native.Mathlib.Omega.{arith}
 use lib.ListN.{length}
-use lib.Dec.{eqb, ltb}
+use lib.Dec.{eqb, leb, ltb}
+use Rattle.lists.specs.Bytes.{greatestWord}
+use Rattle.lists.specs.Outcome.{Outcome}
+use Rattle.stream.specs.declared.Reading.{Reading}
 use Rattle.lists.proofs.Tests.{cond-ind}
 use Rattle.settings.specs.Settings.{valid, capacityOf}
 use Rattle.settings.specs.declared.Settings.{Settings}
-use Rattle.verdict.specs.declared.Verdict.{Verdict}
-use Rattle.stream.specs.Scan.{Scan, Read, phaseStep, step, fold, readOf}
+use Rattle.refusal.specs.declared.Verdict.{Verdict}
+use Rattle.stream.specs.Scan.{Scan, phaseStep, step, fold, readOf}
 use Rattle.stream.specs.declared.Phase.{Phase}
 use Rattle.stream.specs.declared.Phase.the-variants.{Between, Inside, Ended}
 use Rattle.stream.specs.declared.Reader.{Reader}
 use Rattle.stream.specs.declared.Answer.{Answer}
-use Rattle.stream.specs.declared.Answer.the-variants.{Setting, TooShort, State, Pending, Found}
+use Rattle.stream.specs.declared.Answer.the-variants.{Refused, Pending, Found}
 
 -- from position k the scan is now at most n bytes further, and not before j
 record Moves (j k n : ℕ) (t : Scan) : Type 0 where
@@ -39,9 +41,7 @@ module _ (g : Settings) where
   unfolding step
   step-moves Pending r b x = let e = step-pending r b x in record { least = omega arith; most = omega arith }
   step-moves (Found s v) r b x = record { least = omega arith; most = omega arith }
-  step-moves Setting r b x = record { least = omega arith; most = omega arith }
-  step-moves TooShort r b x = record { least = omega arith; most = omega arith }
-  step-moves State r b x = record { least = omega arith; most = omega arith }
+  step-moves (Refused n) r b x = record { least = omega arith; most = omega arith }
 
   fold-moves : (xs : List ℕ) (t : Scan) → Moves (t .reader .position) (t .reader .position) (length xs) (fold g t xs)
   unfolding fold
@@ -59,20 +59,24 @@ module _ (g : Settings) where
   fold-goes [] r b s v e = let z : _≡_ {A = ℕ} 0 1 = cc in omega arith
   fold-goes (x ∷ xs) r b s v e = omega (arith, step-pending r b x, fold-moves xs (step g Pending r b x) .least)
 
-  pub call-most : (r : Reader) (xs b : List ℕ) → readOf g r xs b .reading .used ≤ length xs
+  pub call-most : (r : Reader) (xs b : List ℕ) → readOf g r xs b .answer .used ≤ length xs
   unfolding readOf
   call-most r xs b =
-      let P : Read → Type 0 = λ c. c .reading .used ≤ length xs in
+      let P : Outcome Reading → Type 0 = λ c. c .answer .used ≤ length xs in
       let f = fold-moves xs (record { answer = Pending; reader = r; buffer = b }) in
-      cond-ind P (not (valid g)) _ _ (λ e. omega arith)
-      (λ e. cond-ind P (ltb (length b) (capacityOf g)) _ _ (λ i. omega arith)
-      (λ i. cond-ind P (ltb (18446744073709551615 - r .position) (length xs)) _ _ (λ j. omega arith) (λ j. omega (arith, f .most))))
+      cond-ind P (valid g) _ _
+      (λ e. cond-ind P (leb (capacityOf g) (length b)) _ _
+      (λ i. cond-ind P (leb (length xs) (greatestWord - r .position)) _ _ (λ j. omega (arith, f .most)) (λ j. omega arith))
+      (λ i. omega arith))
+      (λ e. omega arith)
 
-  pub call-goes : (r : Reader) (xs b : List ℕ) (s : ℕ) (v : Verdict) → readOf g r xs b .reading .answer ≡ Found s v → 1 ≤ readOf g r xs b .reading .used
+  pub call-goes : (r : Reader) (xs b : List ℕ) (s : ℕ) (v : Verdict) → readOf g r xs b .answer .answer ≡ Found s v → 1 ≤ readOf g r xs b .answer .used
   unfolding readOf
   call-goes r xs b s v =
-      let P : Read → Type 0 = λ c. c .reading .answer ≡ Found s v → 1 ≤ c .reading .used in
-      cond-ind P (not (valid g)) _ _ (λ e w. let z : _≡_ {A = ℕ} 0 1 = cc in omega arith)
-      (λ e. cond-ind P (ltb (length b) (capacityOf g)) _ _ (λ i w. let z : _≡_ {A = ℕ} 0 1 = cc in omega arith)
-      (λ i. cond-ind P (ltb (18446744073709551615 - r .position) (length xs)) _ _ (λ j w. let z : _≡_ {A = ℕ} 0 1 = cc in omega arith)
-      (λ j w. omega (arith, fold-goes xs r b s v w))))
+      let P : Outcome Reading → Type 0 = λ c. c .answer .answer ≡ Found s v → 1 ≤ c .answer .used in
+      cond-ind P (valid g) _ _
+      (λ e. cond-ind P (leb (capacityOf g) (length b)) _ _
+      (λ i. cond-ind P (leb (length xs) (greatestWord - r .position)) _ _ (λ j w. omega (arith, fold-goes xs r b s v w))
+      (λ j w. let z : _≡_ {A = ℕ} 0 1 = cc in omega arith))
+      (λ i w. let z : _≡_ {A = ℕ} 0 1 = cc in omega arith))
+      (λ e w. let z : _≡_ {A = ℕ} 0 1 = cc in omega arith)

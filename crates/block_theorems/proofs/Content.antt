@@ -12,13 +12,13 @@ use Rattle.lists.proofs.Tests.{cond-ind}
 use Rattle.settings.specs.DataBytes.{allAllowed}
 use Rattle.block.specs.Format.{countField}
 use Rattle.settings.specs.Settings.{byKind, dataOffsetOf}
-use Rattle.verdict.specs.Verdict.{lengthOf}
+use Rattle.refusal.specs.Refusal.{lengthOf}
 use Rattle.block.specs.Judge.{judge, judgeHybrid, judgeMinimal, judgeParts, headerOk, typeMatches, checksumMatches, dataOf}
 use Rattle.lists.specs.Bytes.{same}
 use Rattle.settings.specs.declared.Kind.{Kind}
 use Rattle.settings.specs.declared.Kind.the-variants.{Hybrid, Minimal}
 use Rattle.settings.specs.declared.Settings.{Settings}
-use Rattle.verdict.specs.declared.Verdict.{Verdict}
+use Rattle.refusal.specs.declared.Verdict.{Verdict}
 use Rattle.block.specs.Content.{contentOf}
 
 -- the verdict has no data, or it lies among the first m bytes, from the place o on

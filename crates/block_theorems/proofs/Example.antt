@@ -7,9 +7,9 @@ use Rattle.block.specs.Judge.{judge, judgeHybrid, judgeParts, headerOk, typeMat
 use Rattle.lists.specs.Bytes.{same}
 use Rattle.settings.specs.declared.Kind.the-variants.{Hybrid}
 use Rattle.settings.specs.declared.Settings.{Settings}
-use Rattle.verdict.specs.declared.Verdict.the-variants.{Accepted}
+use Rattle.refusal.specs.declared.Verdict.the-variants.{Accepted, Refused}
 use Rattle.block.specs.Content.{contentOf}
-use Rattle.stream.specs.Scan.{verdictOf, step, fold, readOf, fresh}
+use Rattle.stream.specs.Scan.{storedVerdict, step, fold, readOf, fresh}
 use Rattle.stream.specs.declared.Phase.the-variants.{Inside}
 use Rattle.block_theorems.specs.Session.{serve, session}
 
@@ -24,5 +24,5 @@ pub three-parts :
       reader = record { phase = Inside; «body_length» = 1; «block_offset» = 17; position = 19 };
       buffer = 68 ∷ 50 ∷ 51 ∷ 13 ∷ 88 ∷ 48 ∷ 48 ∷ 48 ∷ 48 ∷ 54 ∷ 48 ∷ 49 ∷ 55 ∷ 7 ∷ [];
     }
-unfolding session serve readOf fold step verdictOf contentOf valid judge judgeHybrid judgeParts headerOk typeMatches checksumMatches dataOf same fiveDigits threeDigits countField checksumOf
+unfolding session serve readOf fold step storedVerdict contentOf valid judge judgeHybrid judgeParts headerOk typeMatches checksumMatches dataOf same fiveDigits threeDigits countField checksumOf
 three-parts = refl

@@ -5,7 +5,7 @@ use Prim.Native.Nat.{ℕ, _+_, _≤_}
 use lib.ListN.{length}
 use Rattle.block.specs.Format.{blockOf}
 use Rattle.settings.specs.declared.Settings.{Settings}
-use Rattle.stream.specs.Stream.{Said, Mode, between, run, after}
+use Rattle.stream.specs.Stream.{Judged, Mode, between, run, after}
 use Rattle.whole_block.specs.Whole.{initial}
 use Rattle.stream.specs.declared.Reader.{Reader}
 use Rattle.block_theorems.specs.Session.{Served, session, joined}
@@ -32,7 +32,7 @@ reads-back-in-parts g t d k r b parts w h e l =
     let z = reads-back g t d w in
     record {
       says = p .says ∙ ap (λ (x : List ℕ). run g k between x) (sym (append-nil (blockOf g t d))) ∙ z .verdict k []
-          ∙ ap (λ (x : List Said). accepted k (typeRead g t) d ∷ x) (run-none g (k + length (blockOf g t d)) between);
+          ∙ ap (λ (x : List Judged). accepted k (typeRead g t) d ∷ x) (run-none g (k + length (blockOf g t d)) between);
       stands = rw (z .rest k) at (p .stands);
     }
 

@@ -10,9 +10,9 @@ use borrow.Author.Tests.{eq-eqb, le-leb}
 use Rattle.block.proofs.Laws.{parts-accepted}
 use Rattle.settings.specs.DataBytes.{allAllowed}
 use Rattle.block.specs.Format.{version, fiveDigits, threeDigits, countField, checksumOf, hybridBody}
-use Rattle.lists.specs.Bytes.{same}
+use Rattle.lists.specs.Bytes.{bytes, same}
 use Rattle.block.specs.Judge.{typeMatches, headerOk, checksumMatches, judgeParts, dataOf, judgeHybrid}
-use Rattle.verdict.specs.declared.Verdict.the-variants.{Accepted, Shape}
+use Rattle.refusal.specs.declared.Verdict.the-variants.{Accepted, Refused}
 
 pub same-self : (l : List ℕ) → same l l ≡ true
 unfolding same
@@ -27,7 +27,7 @@ pub length-three : (n : ℕ) → length (threeDigits n) ≡ 3
 unfolding threeDigits
 length-three n = refl
 
-put-in : (sb t : ℕ) (b : Bool) (e d f c y x : List ℕ) → b ≡ true → e ≡ d → f ≡ c → y ≡ x → cond b (judgeParts sb t e f y) Shape ≡ judgeParts sb t d c x
+put-in : (sb t : ℕ) (b : Bool) (e d f c y x : List ℕ) → b ≡ true → e ≡ d → f ≡ c → y ≡ x → cond b (judgeParts sb t e f y) (Refused 5 0) ≡ judgeParts sb t d c x
 put-in sb t b e d f c y x p q r s = rw (p, q, r, s)
 
 -- the body of the fields t, d, c and x
@@ -69,12 +69,12 @@ module _ (sb t : ℕ) (d c x : List ℕ) (lc : length c ≡ 5) (lx : length x �
 -- "xxx neither 999 nor the right sum in three digits"
 pub sum-computed : (sb t : ℕ) (d : List ℕ) → checksumMatches sb t d (threeDigits (checksumOf sb t d)) ≡ true
 unfolding checksumMatches
-sum-computed sb t d = rw (same-self (threeDigits (checksumOf sb t d))) (or-true (same (threeDigits (checksumOf sb t d)) (threeDigits 999)))
+sum-computed sb t d = rw (same-self (threeDigits (checksumOf sb t d))) (or-true (same (threeDigits (checksumOf sb t d)) (bytes "999")))
 
 -- "999 means "not computed" and passes"
-pub sum-passes : (sb t : ℕ) (d : List ℕ) → checksumMatches sb t d (threeDigits 999) ≡ true
+pub sum-passes : (sb t : ℕ) (d : List ℕ) → checksumMatches sb t d (bytes "999") ≡ true
 unfolding checksumMatches
-sum-passes sb t d = rw (same-self (threeDigits 999))
+sum-passes sb t d = rw (same-self (bytes "999"))
 
 pub length-body : (t : ℕ) (d xxx : List ℕ) → length xxx ≡ 3 → length (hybridBody t d xxx) ≡ 12 + length d
 unfolding hybridBody

@@ -10,15 +10,14 @@ use lib.Dec.{eqb}
 use borrow.Author.Tests.{eq-eqb, eqb-true}
 use Rattle.lists.proofs.Tests.{cond-ind}
 use Rattle.settings.specs.Settings.{valid}
-use Rattle.verdict.specs.Verdict.{numberOf, typeOf, lengthOf}
+use Rattle.refusal.specs.Refusal.{numberOf, typeOf, lengthOf}
 use Rattle.settings.specs.declared.Settings.{Settings}
-use Rattle.verdict.specs.declared.Verdict.{Verdict}
-use Rattle.verdict.specs.declared.Verdict.the-variants.{Accepted, Shape}
+use Rattle.refusal.specs.declared.Verdict.{Verdict}
+use Rattle.refusal.specs.declared.Verdict.the-variants.{Accepted, Refused}
 use Rattle.stream.proofs.Run.{run-append}
-use Rattle.stream.specs.Stream.{Said, Mode, between, inside, ended, Moved, moved, move, run, after, verdicts}
+use Rattle.stream.specs.Stream.{Judged, Mode, between, inside, ended, Moved, moved, move, run, after, verdicts}
 use Rattle.whole_block.proofs.Checks.{check-setting, check-judged}
 use Rattle.whole_block.specs.Whole.{beginsWith, only, initial, wholeOf, checkOf}
-use Rattle.whole_block.specs.declared.Checked.the-variants.{Setting, Judged}
 use Rattle.block_theorems.proofs.Accepted.{body-good}
 use Rattle.block_theorems.proofs.RoundTrip.{good-reads}
 use Rattle.block_theorems.proofs.Standing.{run-any, standing-accepted, accepted-stands}
@@ -82,19 +81,19 @@ module _ (g : Settings) where
       let e : run g k between (g .«start_block» ∷ (b ++ g .«start_block» ∷ zs))
       ≡ run g (k + 1) (inside k []) b ++ (move g j m (g .«start_block») .says ++ run g j between (g .«start_block» ∷ zs)) =
       opened k (b ++ g .«start_block» ∷ zs) ∙ run-append g b (g .«start_block» ∷ zs) (k + 1) (inside k [])
-      ∙ ap (λ (l : List Said). run g (k + 1) (inside k []) b ++ l) (run-any g j m zs) in
+      ∙ ap (λ (l : List Judged). run g (k + 1) (inside k []) b ++ l) (run-any g j m zs) in
       let s = spoken b (k + 1) j (inside k []) in-block in
       rw (e, length-append, length-append) (omega arith)
 
 -- ---- the bytes that the check accepts
 -- there was no verdict before the last byte, and one at it
-record Single (l m : List Said) (t n : ℕ) : Type 0 where
-  said : Said
+record Single (l m : List Judged) (t n : ℕ) : Type 0 where
+  said : Judged
   none : l ≡ []
   one : m ≡ said ∷ []
   is : said .verdict ≡ Accepted t n
 
-single : (l m : List Said) (t n : ℕ) → only l m ≡ Accepted t n → Single l m t n
+single : (l m : List Judged) (t n : ℕ) → only l m ≡ Accepted t n → Single l m t n
 single [] [] t n h = absurd (omega (arith, ap numberOf h))
 single [] (w ∷ []) t n h = record { said = w; none = refl; one = refl; is = h }
 single [] (w ∷ v ∷ m) t n h = absurd (omega (arith, ap numberOf h))
@@ -105,7 +104,7 @@ initial-append [] y ys = refl
 initial-append (z ∷ []) y ys = refl
 initial-append (z ∷ v ∷ l) y ys = ap (λ (m : List ℕ). z ∷ m) (initial-append (v ∷ l) y ys)
 
-module _ (g : Settings) (v : valid g ≡ true) (xs : List ℕ) (w : Said) (b : beginsWith (g .«start_block») xs ≡ true)
+module _ (g : Settings) (v : valid g ≡ true) (xs : List ℕ) (w : Judged) (b : beginsWith (g .«start_block») xs ≡ true)
     (early : verdicts g (initial xs) ≡ []) (one : verdicts g xs ≡ w ∷ []) where
   -- nothing stands after the block
   none-after : (h : Stands g 0 xs w) (y : ℕ) (ys : List ℕ) → h .rest ≡ y ∷ ys → ⊥
@@ -145,7 +144,7 @@ module _ (g : Settings) (v : valid g ≡ true) (xs : List ℕ) (w : Said) (b : b
       go (x ∷ c) q e₁ e₂ = absurd (none-before h x c e₁)
       go [] (y ∷ ys) e₁ e₂ = absurd (none-after h y ys e₂)
       go [] [] e₁ e₂ =
-          let a : Accepted (h .type) (length (h .content)) ≡ Accepted t n = sym (ap (λ (z : Said). z .verdict) (h .says)) ∙ e in
+          let a : Accepted (h .type) (length (h .content)) ≡ Accepted t n = sym (ap (λ (z : Judged). z .verdict) (h .says)) ∙ e in
           let p : h .type ≡ t = ap typeOf a in
           record {
             body = h .body;
@@ -153,14 +152,14 @@ module _ (g : Settings) (v : valid g ≡ true) (xs : List ℕ) (w : Said) (b : b
             accepts = record { content = h .content; form = rw p at (h .form); fits = h .fits; size = sym (ap lengthOf a) };
           }
 
-only-in : (w : Said) (l : List Said) → l ≡ w ∷ [] → List·Memᴰ w l
+only-in : (w : Judged) (l : List Judged) → l ≡ w ∷ [] → List·Memᴰ w l
 only-in w l e = rw e (List·Memᴰ·head refl)
 
 whole-sound : (g : Settings) (xs : List ℕ) (t n : ℕ) → valid g ≡ true → wholeOf g xs ≡ Accepted t n → OneBlock g xs t n
 unfolding wholeOf
 whole-sound g xs t n v = go (beginsWith (g .«start_block») xs) refl
   where
-    go : (p : Bool) → beginsWith (g .«start_block») xs ≡ p → cond p (only (verdicts g (initial xs)) (verdicts g xs)) Shape ≡ Accepted t n → OneBlock g xs t n
+    go : (p : Bool) → beginsWith (g .«start_block») xs ≡ p → cond p (only (verdicts g (initial xs)) (verdicts g xs)) (Refused 5 0) ≡ Accepted t n → OneBlock g xs t n
     go false e h = absurd (omega (arith, ap numberOf h))
     go true e h =
         let s = single (verdicts g (initial xs)) (verdicts g xs) t n h in
@@ -176,16 +175,13 @@ whole-complete g xs t n v h =
 pub whole-exactly : (g : Settings) (xs : List ℕ) (t n : ℕ) → valid g ≡ true → (wholeOf g xs ≡ Accepted t n) ↔ OneBlock g xs t n
 whole-exactly g xs t n v = (whole-sound g xs t n v, whole-complete g xs t n v)
 
-judged-is : (u v : Verdict) → Judged u ≡ Judged v → u ≡ v
-judged-is u v e = cc
-
-refused-not : (v : Verdict) → Setting ≡ Judged v → ⊥
-refused-not v e = let z : _≡_ {A = ℕ} 0 1 = cc in omega arith
+refused-not : (t n : ℕ) → Refused 1 0 ≡ Accepted t n → ⊥
+refused-not t n e = omega (arith, ap numberOf e)
 
 -- the check as the line driver calls it: also the settings have to be valid (1)
-pub check-exactly : (g : Settings) (xs : List ℕ) (t n : ℕ) → (checkOf g xs ≡ Judged (Accepted t n)) ↔ ((valid g ≡ true) × OneBlock g xs t n)
-check-exactly g xs t n = (go (valid g) refl, λ (h : (valid g ≡ true) × OneBlock g xs t n). sym (check-judged g xs (h .0)) ∙ ap Judged (whole-complete g xs t n (h .0) (h .1)))
+pub check-exactly : (g : Settings) (xs : List ℕ) (t n : ℕ) → (checkOf g xs ≡ Accepted t n) ↔ ((valid g ≡ true) × OneBlock g xs t n)
+check-exactly g xs t n = (go (valid g) refl, λ (h : (valid g ≡ true) × OneBlock g xs t n). sym (check-judged g xs (h .0)) ∙ whole-complete g xs t n (h .0) (h .1))
   where
-    go : (p : Bool) → valid g ≡ p → checkOf g xs ≡ Judged (Accepted t n) → (valid g ≡ true) × OneBlock g xs t n
-    go false e h = absurd (refused-not (Accepted t n) (check-setting g xs e ∙ h))
-    go true e h = (e, whole-sound g xs t n e (judged-is (wholeOf g xs) (Accepted t n) (check-judged g xs e ∙ h)))
+    go : (p : Bool) → valid g ≡ p → checkOf g xs ≡ Accepted t n → (valid g ≡ true) × OneBlock g xs t n
+    go false e h = absurd (refused-not t n (check-setting g xs e ∙ h))
+    go true e h = (e, whole-sound g xs t n e (check-judged g xs e ∙ h))

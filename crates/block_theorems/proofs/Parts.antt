@@ -9,7 +9,7 @@ use lib.ListN.{length, take, drop, length-append, length-drop, take-append-drop}
 use lib.Seq.{take-all, length-take-le}
 use Rattle.settings.specs.Settings.{valid, capacityOf}
 use Rattle.settings.specs.declared.Settings.{Settings}
-use Rattle.stream.specs.Stream.{Said, Mode, between, move, run, after, hold, held, verdicts}
+use Rattle.stream.specs.Stream.{Judged, Mode, between, move, run, after, hold, held, verdicts}
 use Rattle.stream.specs.Scan.{fresh, readOf}
 use Rattle.stream.specs.declared.Phase.{Phase}
 use Rattle.stream.specs.declared.Reader.{Reader}
@@ -45,8 +45,8 @@ serves-append : (g : Settings) (k : ℕ) (m : Mode) (b xs ys : List ℕ) (t u : 
 serves-append g k m b xs ys t u p q =
     record {
       says =
-          ap (λ (l : List Said). l ++ u .says) (p .says)
-          ∙ ap (λ (l : List Said). run g k m xs ++ l) (q .says)
+          ap (λ (l : List Judged). l ++ u .says) (p .says)
+          ∙ ap (λ (l : List Judged). run g k m xs ++ l) (q .says)
           ∙ sym (run-append g xs ys k m);
       buffer =
           q .buffer
@@ -65,7 +65,7 @@ call-rest g k n m b xs a r c h ys =
     ∙ ap (run g k m) (append-assoc (take n xs) (drop n xs) ys)
     ∙ run-append g (take n xs) (drop n xs ++ ys) k m
     ∙ ap (λ (i : ℕ). run g k m (take n xs) ++ run g (k + i) (after g k m (take n xs)) (drop n xs ++ ys)) l
-    ∙ ap (λ (z : List Said). z ++ run g (k + n) (after g k m (take n xs)) (drop n xs ++ ys)) (sym (h .says))
+    ∙ ap (λ (z : List Judged). z ++ run g (k + n) (after g k m (take n xs)) (drop n xs ++ ys)) (sym (h .says))
 
 -- a call that found no verdict has read the whole part; after a verdict the rest is read
 next-call : (g : Settings) (k n : ℕ) (m : Mode) (b xs : List ℕ) (a : Answer) (r : Reader) (c : List ℕ) (later : Served)
@@ -92,11 +92,11 @@ unfolding serve
 serve-is g v zero xs k m r b f l h = absurd (omega arith)
 serve-is g v (suc n) xs k m r b f l h =
     let c = readOf g r xs b in
-    let u = c .reading .used in
+    let u = c .answer .used in
     let w = read-reaches g k m r xs b v l h in
     let most : u ≤ length xs = w .most in
-    next-call g k u m b xs (c .reading .answer) (c .reading .reader) (c .buffer) _ w
-    (λ o. serve-is g v n (drop u xs) (k + u) (after g k m (take u xs)) (c .reading .reader) (c .buffer) (simp length-drop (omega arith)) (simp length-drop (omega arith)) (w .stands))
+    next-call g k u m b xs (c .answer .answer) (c .answer .reader) (c .buffer) _ w
+    (λ o. serve-is g v n (drop u xs) (k + u) (after g k m (take u xs)) (c .answer .reader) (c .buffer) (simp length-drop (omega arith)) (simp length-drop (omega arith)) (w .stands))
 
 -- ---- the place in the input and the buffer's content leave one state
 one-count : (cap n i : ℕ) (b c body : List ℕ) → Holds cap n b body → Holds cap i c body → n ≡ i
@@ -121,7 +121,7 @@ one-served g k m b xs t u p q =
     let a : t .says ≡ u .says = p .says ∙ sym (q .says) in
     let c : t .buffer ≡ u .buffer = p .buffer ∙ sym (q .buffer) in
     let d : t .reader ≡ u .reader = one-reader g (k + length xs) (after g k m xs) (t .reader) (u .reader) (t .buffer) (u .buffer) (p .stands) (q .stands) in
-    ap (λ (l : List Said). served l (t .reader) (t .buffer)) a
+    ap (λ (l : List Judged). served l (t .reader) (t .buffer)) a
     ∙ ap (λ (r : Reader). served (u .says) r (t .buffer)) d
     ∙ ap (λ (l : List ℕ). served (u .says) (u .reader) l) c
 

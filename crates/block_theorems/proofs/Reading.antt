@@ -11,7 +11,7 @@ use Rattle.lists.specs.Bytes.{hasAny}
 use Rattle.settings.specs.Settings.{allowed}
 use Rattle.settings.specs.declared.Settings.{Settings}
 use Rattle.stream.proofs.Run.{run-append, after-append, free-run, free-after}
-use Rattle.stream.specs.Stream.{Said, Mode, between, inside, ended, said, move, run, after, outcome}
+use Rattle.stream.specs.Stream.{Judged, Mode, between, inside, ended, judged, move, run, after, endVerdict}
 use Rattle.whole_block.specs.Whole.{initial}
 use Rattle.block_theorems.proofs.Bytes.{Apart}
 use Rattle.block_theorems.specs.Shapes.{framed}
@@ -38,7 +38,7 @@ module _ (g : Settings) where
     return-other : eqb 13 (g .«start_block») ≡ false
     return-other = ne-eqb 13 (g .«start_block») (λ (e : 13 ≡ g .«start_block»). true≢false (ap (λ (z : ℕ). allowed z) e ∙ h .start))
 
-    move-closes : (k s : ℕ) (body : List ℕ) → move g k (ended s body) 13 ≡ record { says = said g s (outcome g body 13) body ∷ []; mode = between }
+    move-closes : (k s : ℕ) (body : List ℕ) → move g k (ended s body) 13 ≡ record { says = judged g s (endVerdict g body 13) body ∷ []; mode = between }
     unfolding move
     move-closes k s body = rw return-other
 
@@ -46,11 +46,11 @@ module _ (g : Settings) where
   unfolding run
   run-silent k x m n ys e = rw e
 
-  run-says : (k x : ℕ) (m n : Mode) (w : Said) (ys : List ℕ) → move g k m x ≡ record { says = w ∷ []; mode = n } → run g k m (x ∷ ys) ≡ w ∷ run g (k + 1) n ys
+  run-says : (k x : ℕ) (m n : Mode) (w : Judged) (ys : List ℕ) → move g k m x ≡ record { says = w ∷ []; mode = n } → run g k m (x ∷ ys) ≡ w ∷ run g (k + 1) n ys
   unfolding run
   run-says k x m n w ys e = rw e
 
-  after-move : (k x : ℕ) (m n : Mode) (l : List Said) (ys : List ℕ) → move g k m x ≡ record { says = l; mode = n } → after g k m (x ∷ ys) ≡ after g (k + 1) n ys
+  after-move : (k x : ℕ) (m n : Mode) (l : List Judged) (ys : List ℕ) → move g k m x ≡ record { says = l; mode = n } → after g k m (x ∷ ys) ≡ after g (k + 1) n ys
   unfolding after
   after-move k x m n l ys e = rw e
 
@@ -79,18 +79,18 @@ module _ (g : Settings) where
         ∙ ap (λ (i : ℕ). after g i (ended k body) ys) e)
 
     -- "A block ends at the first EB; its verdict comes with the byte after."
-    pub run-framed : (ys : List ℕ) → run g k between (framed g body ++ ys) ≡ said g k (outcome g body 13) body ∷ run g (k + (3 + length body)) between ys
+    pub run-framed : (ys : List ℕ) → run g k between (framed g body ++ ys) ≡ judged g k (endVerdict g body 13) body ∷ run g (k + (3 + length body)) between ys
     run-framed ys =
         let e : k + (2 + length body) + 1 ≡ k + (3 + length body) = omega arith in
         ap (λ (l : List ℕ). run g k between (g .«start_block» ∷ l)) (append-assoc body (g .«end_block» ∷ 13 ∷ []) ys)
         ∙ run-body (13 ∷ ys)
-        ∙ run-says (k + (2 + length body)) 13 (ended k body) between (said g k (outcome g body 13) body) ys (move-closes h (k + (2 + length body)) k body)
-        ∙ ap (λ (i : ℕ). said g k (outcome g body 13) body ∷ run g i between ys) e
+        ∙ run-says (k + (2 + length body)) 13 (ended k body) between (judged g k (endVerdict g body 13) body) ys (move-closes h (k + (2 + length body)) k body)
+        ∙ ap (λ (i : ℕ). judged g k (endVerdict g body 13) body ∷ run g i between ys) e
 
     pub after-framed : after g k between (framed g body) ≡ between
     after-framed =
         after-body (13 ∷ [])
-        ∙ after-move (k + (2 + length body)) 13 (ended k body) between (said g k (outcome g body 13) body ∷ []) [] (move-closes h (k + (2 + length body)) k body)
+        ∙ after-move (k + (2 + length body)) 13 (ended k body) between (judged g k (endVerdict g body 13) body ∷ []) [] (move-closes h (k + (2 + length body)) k body)
         ∙ after-none (k + (2 + length body) + 1) between
 
     pub initial-framed : run g k between (initial (framed g body)) ≡ []

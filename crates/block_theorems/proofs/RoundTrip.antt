@@ -7,7 +7,7 @@ use native.Mathlib.Omega.{arith}
 use lib.ListN.{length, take, drop, length-append}
 use lib.Seq.{take-length}
 use borrow.Author.Tests.{eq-eqb, le-ltb}
-use Rattle.lists.specs.Bytes.{hasAny}
+use Rattle.lists.specs.Bytes.{bytes, hasAny}
 use Rattle.settings.specs.DataBytes.{allAllowed}
 use Rattle.block.specs.Format.{threeDigits, checksumOf, hybridBody, hybridBlock, minimalBlock, blockOf}
 use Rattle.settings.specs.Settings.{byKind, valid, capacityOf, dataOffsetOf}
@@ -15,12 +15,11 @@ use Rattle.block.specs.Judge.{typeMatches, checksumMatches, judgeMinimal, judge
 use Rattle.settings.specs.declared.Kind.{Kind}
 use Rattle.settings.specs.declared.Kind.the-variants.{Hybrid, Minimal}
 use Rattle.settings.specs.declared.Settings.{Settings}
-use Rattle.verdict.specs.declared.Verdict.{Verdict}
-use Rattle.verdict.specs.declared.Verdict.the-variants.{Accepted}
-use Rattle.stream.specs.Stream.{Said, between, said, run, outcome, verdicts}
+use Rattle.refusal.specs.declared.Verdict.{Verdict}
+use Rattle.refusal.specs.declared.Verdict.the-variants.{Accepted, Refused}
+use Rattle.stream.specs.Stream.{Judged, between, judged, run, endVerdict, verdicts}
 use Rattle.block.specs.Content.{contentOf}
 use Rattle.whole_block.specs.Whole.{initial, wholeOf, checkOf}
-use Rattle.whole_block.specs.declared.Checked.the-variants.{Judged}
 use Rattle.whole_block.proofs.Checks.{check-judged}
 use Rattle.writer.proofs.Laws.{length-hybrid, length-minimal}
 use Rattle.writer.specs.Write.{typeValid}
@@ -37,17 +36,17 @@ pub record Good (g : Settings) (body : List ℕ) (t : ℕ) (d : List ℕ) : Type
   pub judged : judge g body ≡ Accepted t (length d)
   pub holds : take (length d) (drop (dataOffsetOf g) body) ≡ d
 
-pub outcome-fits : (g : Settings) (body : List ℕ) (v : Verdict) → length body ≤ capacityOf g → judge g body ≡ v → outcome g body 13 ≡ v
-unfolding outcome
+pub outcome-fits : (g : Settings) (body : List ℕ) (v : Verdict) → length body ≤ capacityOf g → judge g body ≡ v → endVerdict g body 13 ≡ v
+unfolding endVerdict
 outcome-fits g body v h e = rw (le-ltb (capacityOf g) (length body) h) e
 
 pub content-is : (g : Settings) (body : List ℕ) (t : ℕ) (d : List ℕ) → take (length d) (drop (dataOffsetOf g) body) ≡ d → contentOf g (Accepted t (length d)) body ≡ d
 unfolding contentOf
 content-is g body t d e = e
 
-said-good : (g : Settings) (body : List ℕ) (t : ℕ) (d : List ℕ) (k : ℕ) → Good g body t d → said g k (outcome g body 13) body ≡ accepted k t d
+said-good : (g : Settings) (body : List ℕ) (t : ℕ) (d : List ℕ) (k : ℕ) → Good g body t d → judged g k (endVerdict g body 13) body ≡ accepted k t d
 said-good g body t d k h =
-    ap (λ (v : Verdict). said g k v body) (outcome-fits g body (Accepted t (length d)) (h .fits) (h .judged))
+    ap (λ (v : Verdict). judged g k v body) (outcome-fits g body (Accepted t (length d)) (h .fits) (h .judged))
     ∙ ap (λ (l : List ℕ). record { offset = k; verdict = Accepted t (length d); content = l }) (content-is g body t d (h .holds))
 
 length-framed : (g : Settings) (body : List ℕ) → length (framed g body) ≡ 3 + length body
@@ -57,7 +56,7 @@ run-none : (g : Settings) (k : ℕ) → run g k between [] ≡ []
 unfolding run
 run-none g k = refl
 
-whole-framed : (g : Settings) (body : List ℕ) (w : Said) → verdicts g (initial (framed g body)) ≡ [] → verdicts g (framed g body) ≡ w ∷ [] → wholeOf g (framed g body) ≡ w .verdict
+whole-framed : (g : Settings) (body : List ℕ) (w : Judged) → verdicts g (initial (framed g body)) ≡ [] → verdicts g (framed g body) ≡ w ∷ [] → wholeOf g (framed g body) ≡ w .verdict
 unfolding wholeOf
 whole-framed g body w e f = rw (eq-eqb (g .«start_block») (g .«start_block») refl, e, f)
 
@@ -65,11 +64,11 @@ pub good-reads : (g : Settings) (body : List ℕ) (t : ℕ) (d : List ℕ) → G
 good-reads g body t d h =
     let v : (k : ℕ) (ys : List ℕ) → run g k between (framed g body ++ ys) ≡ accepted k t d ∷ run g (k + length (framed g body)) between ys =
     λ (k : ℕ) (ys : List ℕ). run-framed g (h .apart) body (h .free) k ys
-    ∙ ap (λ (w : Said). w ∷ run g (k + (3 + length body)) between ys) (said-good g body t d k h)
+    ∙ ap (λ (w : Judged). w ∷ run g (k + (3 + length body)) between ys) (said-good g body t d k h)
     ∙ ap (λ (n : ℕ). accepted k t d ∷ run g (k + n) between ys) (sym (length-framed g body)) in
     let o : verdicts g (framed g body) ≡ accepted 0 t d ∷ [] =
     ap (λ (l : List ℕ). verdicts g l) (sym (append-nil (framed g body))) ∙ v 0 []
-    ∙ ap (λ (l : List Said). accepted 0 t d ∷ l) (run-none g (0 + length (framed g body))) in
+    ∙ ap (λ (l : List Judged). accepted 0 t d ∷ l) (run-none g (0 + length (framed g body))) in
     record {
       verdict = v;
       rest = after-framed g (h .apart) body (h .free);
@@ -110,10 +109,10 @@ hybrid-reads g t d e v m a l k ys =
 
 -- "999 means "not computed" and passes": the block with 999 for its sum reads as the one with the computed sum
 pub uncomputed-reads-back : (g : Settings) (t : ℕ) (d : List ℕ) → g .kind ≡ Hybrid → valid g ≡ true → typeMatches t d ≡ true → allAllowed d ≡ true → length d ≤ g .«data_limit»
-    → ReadsBack g (framed g (hybridBody t d (threeDigits 999))) t d
+    → ReadsBack g (framed g (hybridBody t d (bytes "999"))) t d
 uncomputed-reads-back g t d k v m a l =
-    good-reads g (hybridBody t d (threeDigits 999)) t d
-    (hybrid-good g t d (threeDigits 999) k v l (three-allowed 999) (length-three 999) m a (sum-passes (g .«start_block») t d))
+    good-reads g (hybridBody t d (bytes "999")) t d
+    (hybrid-good g t d (bytes "999") k v l refl refl m a (sum-passes (g .«start_block») t d))
 
 -- ---- minimal blocks
 minimal-judged : (d : List ℕ) → allAllowed d ≡ true → judgeMinimal d ≡ Accepted 68 (length d)
@@ -153,6 +152,6 @@ reads-back g t d w = go (g .kind) refl (w .type)
     go Minimal e m = minimal-reads-back g d e (w .settings) (w .bytes) (w .fits)
 
 -- "The check answers as the stream does": the check of a written block
-pub checks-back : (g : Settings) (t : ℕ) (d : List ℕ) → Writable g t d → checkOf g (blockOf g t d) ≡ Judged (Accepted (typeRead g t) (length d))
+pub checks-back : (g : Settings) (t : ℕ) (d : List ℕ) → Writable g t d → checkOf g (blockOf g t d) ≡ Accepted (typeRead g t) (length d)
 checks-back g t d w =
-    sym (check-judged g (blockOf g t d) (w .settings)) ∙ ap (λ (v : Verdict). Judged v) (reads-back g t d w .whole)
+    sym (check-judged g (blockOf g t d) (w .settings)) ∙ reads-back g t d w .whole

@@ -12,13 +12,13 @@ use lib.Dec.{eqb, ltb}
 use borrow.Author.Tests.{lt-ltb, le-ltb, ltb-true, ltb-false}
 use Rattle.lists.proofs.Tests.{cond-ind}
 use Rattle.settings.specs.Settings.{valid, capacityOf, dataOffsetOf}
-use Rattle.verdict.specs.Verdict.{lengthOf}
+use Rattle.refusal.specs.Refusal.{lengthOf}
 use Rattle.settings.specs.declared.Settings.{Settings}
-use Rattle.verdict.specs.declared.Verdict.{Verdict}
-use Rattle.verdict.specs.declared.Verdict.the-variants.{Interrupted}
-use Rattle.stream.specs.Stream.{Said, Mode, between, inside, ended, Moved, said, outcome, move, run, after, hold, held}
+use Rattle.refusal.specs.declared.Verdict.{Verdict}
+use Rattle.refusal.specs.declared.Verdict.the-variants.{Refused}
+use Rattle.stream.specs.Stream.{Judged, Mode, between, inside, ended, Moved, judged, endVerdict, move, run, after, hold, held}
 use Rattle.block.specs.Content.{contentOf}
-use Rattle.stream.specs.Scan.{Scan, verdictOf, phaseStep, step, fold, readOf}
+use Rattle.stream.specs.Scan.{Scan, storedVerdict, phaseStep, step, fold, readOf}
 use Rattle.stream.specs.declared.Phase.{Phase}
 use Rattle.stream.specs.declared.Phase.the-variants.{Between, Inside, Ended}
 use Rattle.stream.specs.declared.Reader.{Reader}
@@ -92,32 +92,32 @@ passes cap n x b body h (over l m t) =
     over (max-eq-right (omega arith)) (omega (arith, length-more body x)) (t ∙ sym (take-append-le cap body (x ∷ []) (omega arith)))
 
 -- ---- the verdict
-same-verdict : (g : Settings) (n x : ℕ) (b body : List ℕ) → Holds (capacityOf g) n b body → verdictOf g n b x ≡ outcome g body x
-unfolding verdictOf outcome
+same-verdict : (g : Settings) (n x : ℕ) (b body : List ℕ) → Holds (capacityOf g) n b body → storedVerdict g n b x ≡ endVerdict g body x
+unfolding storedVerdict endVerdict
 same-verdict g n x b body (fits e l t) = rw (t, e)
 same-verdict g n x b body (over l m t) = rw (lt-ltb (capacityOf g) n (omega arith), lt-ltb (capacityOf g) (length body) m)
 
-outcome-lies : (g : Settings) (x : ℕ) (body : List ℕ) → Lies (dataOffsetOf g) (length body) (outcome g body x)
-unfolding outcome
+outcome-lies : (g : Settings) (x : ℕ) (body : List ℕ) → Lies (dataOffsetOf g) (length body) (endVerdict g body x)
+unfolding endVerdict
 outcome-lies g x body =
     cond-ind (Lies (dataOffsetOf g) (length body)) (ltb (capacityOf g) (length body)) _ _ (λ e. none refl)
     (λ e. cond-ind (Lies (dataOffsetOf g) (length body)) (eqb x 13) _ _ (λ f. judge-lies g body) (λ f. none refl))
 
-long-none : (g : Settings) (x : ℕ) (body : List ℕ) → capacityOf g < length body → lengthOf (outcome g body x) ≡ 0
-unfolding outcome
+long-none : (g : Settings) (x : ℕ) (body : List ℕ) → capacityOf g < length body → lengthOf (endVerdict g body x) ≡ 0
+unfolding endVerdict
 long-none g x body m = rw (lt-ltb (capacityOf g) (length body) m)
 
-same-content : (g : Settings) (n x : ℕ) (b body : List ℕ) → Holds (capacityOf g) n b body → contentOf g (outcome g body x) b ≡ contentOf g (outcome g body x) body
+same-content : (g : Settings) (n x : ℕ) (b body : List ℕ) → Holds (capacityOf g) n b body → contentOf g (endVerdict g body x) b ≡ contentOf g (endVerdict g body x) body
 same-content g n x b body (fits e l t) =
-    content-same g (outcome g body x) (length body) b (outcome-lies g x body) ∙ ap (contentOf g (outcome g body x)) (ap (λ (i : ℕ). take i b) (sym e) ∙ t)
-same-content g n x b body (over l m t) = content-none g (outcome g body x) b body (long-none g x body m)
+    content-same g (endVerdict g body x) (length body) b (outcome-lies g x body) ∙ ap (contentOf g (endVerdict g body x)) (ap (λ (i : ℕ). take i b) (sym e) ∙ t)
+same-content g n x b body (over l m t) = content-none g (endVerdict g body x) b body (long-none g x body m)
 
 -- the verdict after EB, as it is noted
 same-said : (g : Settings) (n s x : ℕ) (b body : List ℕ) → Holds (capacityOf g) n b body
-    → said g s (verdictOf g n b x) b ≡ said g s (outcome g body x) body
+    → judged g s (storedVerdict g n b x) b ≡ judged g s (endVerdict g body x) body
 same-said g n s x b body h =
-    ap (λ (v : Verdict). said g s v b) (same-verdict g n x b body h)
-    ∙ ap (λ (c : List ℕ). record { offset = s; verdict = outcome g body x; content = c }) (same-content g n x b body h)
+    ap (λ (v : Verdict). judged g s v b) (same-verdict g n x b body h)
+    ∙ ap (λ (c : List ℕ). record { offset = s; verdict = endVerdict g body x; content = c }) (same-content g n x b body h)
 
 -- ---- one byte
 module _ (g : Settings) (n s k x : ℕ) (b : List ℕ) (enough : capacityOf g ≤ length b) where
@@ -138,7 +138,7 @@ module _ (g : Settings) (n s k x : ℕ) (b : List ℕ) (enough : capacityOf g �
       → Follows g k (move g k (ended s body) x) (hold g (ended s body) b x) (phaseStep g Ended n s k b x)
   unfolding move hold
   step-ended body h =
-      let w = ap (λ (z : Said). z ∷ []) (same-said g n s x b body h) in
+      let w = ap (λ (z : Judged). z ∷ []) (same-said g n s x b body h) in
       by-test (eqb x (g .«start_block»))
       (λ e. rw e (record { live = found; says = w; stands = at-start; buffer = refl }))
       (λ e. rw e (record { live = found; says = w; stands = at-between; buffer = refl }))
@@ -148,7 +148,7 @@ module _ (g : Settings) (n s k x : ℕ) (b : List ℕ) (enough : capacityOf g �
   unfolding move hold
   step-inside body h =
       by-test (eqb x (g .«start_block»))
-      (λ e. rw e (record { live = found; says = ap (λ (c : List ℕ). record { offset = s; verdict = Interrupted; content = c } ∷ []) (content-none g Interrupted b body refl); stands = at-start; buffer = refl }))
+      (λ e. rw e (record { live = found; says = ap (λ (c : List ℕ). record { offset = s; verdict = (Refused 8 0); content = c } ∷ []) (content-none g (Refused 8 0) b body refl); stands = at-start; buffer = refl }))
       (λ e. by-test (eqb x (g .«end_block»))
       (λ f. rw (e, f) (record { live = pending; says = refl; stands = record { position = refl; enough = enough; related = is-ended h }; buffer = refl }))
       (λ f. rw (e, f, same-space (capacityOf g) n b body h)
@@ -217,7 +217,7 @@ reads-more g k x n m a q r b xs c d f h =
     record {
       most = omega (arith, h .most);
       ends = ends-more n (length xs) a (h .ends);
-      says = h .says ∙ ap (λ (l : List Said). l ++ run g (k + 1) (move g k m x .mode) (take n xs)) (f .says);
+      says = h .says ∙ ap (λ (l : List Judged). l ++ run g (k + 1) (move g k m x .mode) (take n xs)) (f .says);
       stands = stands-at (omega arith) (h .stands);
       buffer = h .buffer ∙ ap (λ (z : List ℕ). held g (k + 1) (move g k m x .mode) z (take n xs)) (f .buffer);
     }
@@ -242,7 +242,7 @@ fold-reaches g (x ∷ xs) k m r b h =
 
 -- what a caller gets: as many bytes used as were read
 pub read-reaches : (g : Settings) (k : ℕ) (m : Mode) (r : Reader) (xs b : List ℕ) → valid g ≡ true → k + length xs ≤ 18446744073709551615 → Stands g k m r b
-    → Reaches g k m b xs (readOf g r xs b .reading .used) (readOf g r xs b .reading .answer) (readOf g r xs b .reading .reader) (readOf g r xs b .buffer)
+    → Reaches g k m b xs (readOf g r xs b .answer .used) (readOf g r xs b .answer .answer) (readOf g r xs b .answer .reader) (readOf g r xs b .buffer)
 read-reaches g k m r xs b e l h =
     let t = fold g (record { answer = Pending; reader = r; buffer = b }) xs in
     let d = fold-reaches g xs k m r b h in

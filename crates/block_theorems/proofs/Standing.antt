@@ -1,5 +1,5 @@
 -- In a stream a block is accepted exactly where its bytes stand: SB, a formatted body, EB and CR.
-use mathlib.Core.Path.{_≡_, refl, sym, ap, _∙_}
+use mathlib.Core.Path.{_≡_, refl, sym, ap, _∙_, subst}
 use mathlib.Core.List.{List, [], _∷_, _++_, append-assoc, append-nil, List·Memᴰ, List·Memᴰ·head, Memᴰ·append-right, List·Memᴰ·append-cases, List·Memᴰ·not-nil, List·Memᴰ·eq-of-singleton}
 use mathlib.Core.Bool.{true, cond}
 use mathlib.Core.Logic.{_⊎_, inl, inr, _↔_}
@@ -8,16 +8,22 @@ use native.Mathlib.Nat.{add-zero}
 use native.Mathlib.Omega.{arith}
 use lib.ListN.{length, length-append}
 use lib.Seq.{append-snoc, take-length}
-use lib.Dec.{eqb}
+use lib.Dec.{eqb, ltb}
 use borrow.Author.Tests.{eq-eqb, eqb-true}
 use Rattle.lists.proofs.Tests.{cond-ind}
-use Rattle.settings.specs.Settings.{valid}
-use Rattle.verdict.specs.Verdict.{numberOf}
+use Rattle.settings.specs.Settings.{byKind, valid, capacityOf}
+use Rattle.settings.specs.DataBytes.{allAllowed}
+use Rattle.settings.specs.declared.Kind.{Kind}
+use Rattle.settings.specs.declared.Kind.the-variants.{Hybrid, Minimal}
+use Rattle.lists.specs.Bytes.{same}
+use Rattle.block.specs.Format.{countField}
+use Rattle.block.specs.Judge.{typeMatches, checksumMatches, headerOk, judgeParts, judgeHybrid, judgeMinimal, judge}
+use Rattle.refusal.specs.Refusal.{numberOf}
 use Rattle.settings.specs.declared.Settings.{Settings}
-use Rattle.verdict.specs.declared.Verdict.{Verdict}
-use Rattle.verdict.specs.declared.Verdict.the-variants.{Accepted, Byte, Long, Shape, Count, Check, Interrupted}
+use Rattle.refusal.specs.declared.Verdict.{Verdict}
+use Rattle.refusal.specs.declared.Verdict.the-variants.{Accepted, Refused}
 use Rattle.stream.proofs.Run.{run-append}
-use Rattle.stream.specs.Stream.{Said, verdicts, Mode, between, inside, ended, Moved, moved, said, outcome, move, run, after}
+use Rattle.stream.specs.Stream.{Judged, verdicts, Mode, between, inside, ended, Moved, moved, judged, endVerdict, move, run, after}
 use Rattle.block.specs.Content.{contentOf}
 use Rattle.block_theorems.proofs.Accepted.{outcome-sound, body-good}
 use Rattle.block_theorems.proofs.Judging.{data-body}
@@ -46,7 +52,7 @@ module _ (g : Settings) where
       → run g k m (g .«start_block» ∷ ys) ≡ move g k m (g .«start_block») .says ++ run g k between (g .«start_block» ∷ ys)
   run-any k m ys =
       let e : run g k between (g .«start_block» ∷ ys) ≡ run g (k + 1) (inside k []) ys = run-opens k between ys ∙ rw (silent k (g .«start_block»)) in
-      run-opens k m ys ∙ ap (λ (l : List Said). move g k m (g .«start_block») .says ++ l) (sym e)
+      run-opens k m ys ∙ ap (λ (l : List Judged). move g k m (g .«start_block») .says ++ l) (sym e)
 
   pub framed-accepted : (t : ℕ) (d body : List ℕ) → valid g ≡ true → length d ≤ g .«data_limit» → Body g t d body → (k : ℕ) (m : Mode) (ys : List ℕ)
       → List·Memᴰ (accepted k t d) (run g k m (framed g body ++ ys))
@@ -57,7 +63,7 @@ module _ (g : Settings) where
       rw (run-any k m ((body ++ g .«end_block» ∷ 13 ∷ []) ++ ys), r .verdict k ys) h
 
   -- complete: from every mode, at every offset
-  pub standing-accepted : valid g ≡ true → (k : ℕ) (m : Mode) (xs : List ℕ) (w : Said) → Stands g k xs w → List·Memᴰ w (run g k m xs)
+  pub standing-accepted : valid g ≡ true → (k : ℕ) (m : Mode) (xs : List ℕ) (w : Judged) → Stands g k xs w → List·Memᴰ w (run g k m xs)
   standing-accepted v k m xs w h =
       rw (h .says, h .is, run-append g (h .before) (framed g (h .body) ++ h .rest) k m)
       (Memᴰ·append-right (run g k m (h .before))
@@ -91,7 +97,7 @@ module _ (g : Settings) (k : ℕ) where
   at-step read i x (ended s body) e a = at-opened read i x e
 
   -- bytes that come later change nothing
-  further : (xs : List ℕ) (w : Said) (ys : List ℕ) → Stands g k xs w → Stands g k (xs ++ ys) w
+  further : (xs : List ℕ) (w : Judged) (ys : List ℕ) → Stands g k xs w → Stands g k (xs ++ ys) w
   further xs w ys h =
       record {
         before = h .before;
@@ -108,25 +114,25 @@ module _ (g : Settings) (k : ℕ) where
       regroup : (a b c d : List ℕ) → (a ++ (b ++ c)) ++ d ≡ a ++ (b ++ (c ++ d))
       regroup a b c d = simp append-assoc
 
-  no-interruption : (s t n : ℕ) (body : List ℕ) (w : Said) → w ≡ said g s Interrupted body → w .verdict ≡ Accepted t n → ⊥
-  no-interruption s t n body w e v = omega (arith, ap numberOf (sym (ap (λ (z : Said). z .verdict) e) ∙ v))
+  no-interruption : (s t n : ℕ) (body : List ℕ) (w : Judged) → w ≡ judged g s (Refused 8 0) body → w .verdict ≡ Accepted t n → ⊥
+  no-interruption s t n body w e v = omega (arith, ap numberOf (sym (ap (λ (z : Judged). z .verdict) e) ∙ v))
 
   content-body : (t : ℕ) (d body : List ℕ) → Body g t d body → contentOf g (Accepted t (length d)) body ≡ d
   unfolding contentOf
   content-body t d body (hybrid e h) = rw (e, h .is) (data-body t d (h .sum))
   content-body t d body (minimal e f q a) = rw (e, q) (take-length d)
 
-  says-it : (s x t n : ℕ) (d body p : List ℕ) (w : Said) → w ≡ said g s (outcome g body x) body → outcome g body x ≡ Accepted t n → n ≡ length d
+  says-it : (s x t n : ℕ) (d body p : List ℕ) (w : Judged) → w ≡ judged g s (endVerdict g body x) body → endVerdict g body x ≡ Accepted t n → n ≡ length d
       → s ≡ k + length p → Body g t d body → w ≡ accepted (k + length p) t d
   says-it s x t n d body p w e o l f b =
-      e ∙ ap (λ (v : Verdict). said g s v body) (o ∙ ap (Accepted t) l)
+      e ∙ ap (λ (v : Verdict). judged g s v body) (o ∙ ap (Accepted t) l)
       ∙ ap (λ (z : List ℕ). record { offset = s; verdict = Accepted t (length d); content = z }) (content-body t d body b)
       ∙ ap (λ (i : ℕ). accepted i t d) f
 
-  ended-sound : (read : List ℕ) (s x t n : ℕ) (body p : List ℕ) (w : Said) → s ≡ k + length p → read ≡ p ++ (g .«start_block» ∷ (body ++ g .«end_block» ∷ []))
-      → w ≡ said g s (outcome g body x) body → w .verdict ≡ Accepted t n → Stands g k (read ++ x ∷ []) w
+  ended-sound : (read : List ℕ) (s x t n : ℕ) (body p : List ℕ) (w : Judged) → s ≡ k + length p → read ≡ p ++ (g .«start_block» ∷ (body ++ g .«end_block» ∷ []))
+      → w ≡ judged g s (endVerdict g body x) body → w .verdict ≡ Accepted t n → Stands g k (read ++ x ∷ []) w
   ended-sound read s x t n body p w f h e v =
-      let o : outcome g body x ≡ Accepted t n = sym (ap (λ (z : Said). z .verdict) e) ∙ v in
+      let o : endVerdict g body x ≡ Accepted t n = sym (ap (λ (z : Judged). z .verdict) e) ∙ v in
       let c = outcome-sound g body x t n o in
       let a = c .accepts in
       record {
@@ -137,14 +143,14 @@ module _ (g : Settings) (k : ℕ) where
         content = a .content;
         is = longer read p (g .«start_block» ∷ (body ++ g .«end_block» ∷ [])) x h
             ∙ ap (λ (z : ℕ). p ++ (g .«start_block» ∷ ((body ++ g .«end_block» ∷ []) ++ z ∷ []))) (c .return)
-            ∙ ap (λ (z : List ℕ). p ++ (g .«start_block» ∷ z)) (append-assoc body (g .«end_block» ∷ []) (13 ∷ []))
+            ∙ ap (λ (z : List ℕ). p ++ (g .«start_block» ∷ z)) (append-assoc body (g .«end_block» ∷ []) (0x0D ∷ []))
             ∙ ap (λ (z : List ℕ). p ++ z) (sym (append-nil (framed g body)));
         form = a .form;
         fits = a .fits;
         says = says-it s x t n (a .content) body p w e o (a .size) f (a .form);
       }
 
-  step-sound : (read : List ℕ) (i x t n : ℕ) (m : Mode) (w : Said) → At g k read m → List·Memᴰ w (move g i m x .says) → w .verdict ≡ Accepted t n
+  step-sound : (read : List ℕ) (i x t n : ℕ) (m : Mode) (w : Judged) → At g k read m → List·Memᴰ w (move g i m x .says) → w .verdict ≡ Accepted t n
       → Stands g k (read ++ x ∷ []) w
   unfolding move
   step-sound read i x t n between w a h v = absurd (List·Memᴰ·not-nil h)
@@ -155,15 +161,15 @@ module _ (g : Settings) (k : ℕ) where
       (moved [] (ended s body)) (moved [] (inside s (body ++ x ∷ []))) (λ r h v. absurd (List·Memᴰ·not-nil h)) (λ r h v. absurd (List·Memᴰ·not-nil h))) h v
   step-sound read i x t n (ended s body) w (at-ended p f e) h v = ended-sound read s x t n body p w f e (List·Memᴰ·eq-of-singleton h) v
 
-  run-cases : (i x : ℕ) (m : Mode) (xs : List ℕ) (w : Said) → List·Memᴰ w (run g i m (x ∷ xs)) → List·Memᴰ w (move g i m x .says) ⊎ List·Memᴰ w (run g (i + 1) (move g i m x .mode) xs)
+  run-cases : (i x : ℕ) (m : Mode) (xs : List ℕ) (w : Judged) → List·Memᴰ w (run g i m (x ∷ xs)) → List·Memᴰ w (move g i m x .says) ⊎ List·Memᴰ w (run g (i + 1) (move g i m x .mode) xs)
   unfolding run
   run-cases i x m xs w h = List·Memᴰ·append-cases (move g i m x .says) h
 
-  run-empty : (i : ℕ) (m : Mode) (w : Said) → List·Memᴰ w (run g i m []) → ⊥
+  run-empty : (i : ℕ) (m : Mode) (w : Judged) → List·Memᴰ w (run g i m []) → ⊥
   unfolding run
   run-empty i m w h = List·Memᴰ·not-nil h
 
-  one-more : (x : ℕ) (xs read : List ℕ) (i t n : ℕ) (m : Mode) (w : Said) → At g k read m → w .verdict ≡ Accepted t n
+  one-more : (x : ℕ) (xs read : List ℕ) (i t n : ℕ) (m : Mode) (w : Judged) → At g k read m → w .verdict ≡ Accepted t n
       → (List·Memᴰ w (run g (i + 1) (move g i m x .mode) xs) → Stands g k (read ++ x ∷ [] ++ xs) w)
       → List·Memᴰ w (move g i m x .says) ⊎ List·Memᴰ w (run g (i + 1) (move g i m x .mode) xs) → Stands g k (read ++ x ∷ [] ++ xs) w
   one-more x xs read i t n m w a v f (inl u) = further (read ++ x ∷ []) w xs (step-sound read i x t n m w a u v)
@@ -172,10 +178,10 @@ module _ (g : Settings) (k : ℕ) where
   next-start : (read : List ℕ) (i x : ℕ) → i ≡ k + length read → i + 1 ≡ k + length (read ++ x ∷ [])
   next-start read i x e = let l : length (read ++ x ∷ []) ≡ length read + 1 = length-append read (x ∷ []) in omega arith
 
-  regrouped : (x : ℕ) (xs read : List ℕ) (w : Said) → Stands g k (read ++ x ∷ [] ++ xs) w → Stands g k (read ++ x ∷ xs) w
+  regrouped : (x : ℕ) (xs read : List ℕ) (w : Judged) → Stands g k (read ++ x ∷ [] ++ xs) w → Stands g k (read ++ x ∷ xs) w
   regrouped x xs read w h = rw (← append-snoc read x xs) h
 
-  run-sound : (xs read : List ℕ) (i t n : ℕ) (m : Mode) (w : Said) → i ≡ k + length read → At g k read m → List·Memᴰ w (run g i m xs) → w .verdict ≡ Accepted t n
+  run-sound : (xs read : List ℕ) (i t n : ℕ) (m : Mode) (w : Judged) → i ≡ k + length read → At g k read m → List·Memᴰ w (run g i m xs) → w .verdict ≡ Accepted t n
       → Stands g k (read ++ xs) w
   run-sound [] read i t n m w e a h v = absurd (run-empty i m w h)
   run-sound (x ∷ xs) read i t n m w e a h v =
@@ -184,22 +190,65 @@ module _ (g : Settings) (k : ℕ) where
       (run-cases i x m xs w h))
 
   -- sound: an accepted verdict's block stands in the input at its offset
-  pub accepted-stands : (xs : List ℕ) (w : Said) (t n : ℕ) → List·Memᴰ w (run g k between xs) → w .verdict ≡ Accepted t n → Stands g k xs w
+  pub accepted-stands : (xs : List ℕ) (w : Judged) (t n : ℕ) → List·Memᴰ w (run g k between xs) → w .verdict ≡ Accepted t n → Stands g k xs w
   accepted-stands xs w t n h v = run-sound xs [] k t n between w (sym (add-zero k)) at-between h v
 
 -- ---- both ways
-accepted-of : (g : Settings) (k : ℕ) (xs : List ℕ) (w : Said) (v : Verdict) → w .verdict ≡ v → List·Memᴰ w (run g k between xs) → numberOf v ≡ 0 → Stands g k xs w
+-- a verdict that is no acceptance has a number of the table
+abbrev Numbered : Verdict → Type 0
+Numbered (Accepted t n) = Unit {0}
+Numbered (Refused n i) = 1 ≤ n
+
+parts-numbered : (sb t : ℕ) (d c x : List ℕ) → Numbered (judgeParts sb t d c x)
+unfolding judgeParts
+parts-numbered sb t d c x =
+    cond-ind Numbered (typeMatches t d) _ _
+    (λ e. cond-ind Numbered (allAllowed d) _ _
+    (λ f. cond-ind Numbered (same c (countField d)) _ _
+    (λ q. cond-ind Numbered (checksumMatches sb t d x) _ _ (λ r. tt) (λ r. omega arith)) (λ q. omega arith)) (λ f. omega arith)) (λ e. omega arith)
+
+judge-numbered : (g : Settings) (body : List ℕ) → Numbered (judge g body)
+unfolding judge judgeHybrid judgeMinimal
+judge-numbered g body = go (g .kind)
+  where
+    go : (k : Kind) → Numbered (byKind k (judgeHybrid (g .«start_block») body) (judgeMinimal body))
+    go Hybrid = cond-ind Numbered (headerOk body) _ _ (λ e. parts-numbered _ _ _ _ _) (λ e. omega arith)
+    go Minimal = cond-ind Numbered (allAllowed body) _ _ (λ e. tt) (λ e. omega arith)
+
+module _ (g : Settings) where
+  end-numbered : (body : List ℕ) (x : ℕ) → Numbered (endVerdict g body x)
+  unfolding endVerdict
+  end-numbered body x =
+      cond-ind Numbered (ltb (capacityOf g) (length body)) _ _ (λ e. omega arith)
+      (λ e. cond-ind Numbered (eqb x 0x0D) _ _ (λ f. judge-numbered g body) (λ f. omega arith))
+
+  move-numbered : (i x : ℕ) (m : Mode) (w : Judged) → List·Memᴰ w (move g i m x .says) → Numbered (w .verdict)
+  unfolding move
+  move-numbered i x between w h = absurd (List·Memᴰ·not-nil h)
+  move-numbered i x (inside s body) w h =
+      let P : Moved → Type 0 = λ o. List·Memᴰ w (o .says) → Numbered (w .verdict) in
+      cond-ind P (eqb x (g .«start_block»)) _ _ (λ q u. subst (λ (z : Judged). Numbered (z .verdict)) (sym (List·Memᴰ·eq-of-singleton u)) (omega arith))
+      (λ q. cond-ind P (eqb x (g .«end_block»)) (moved [] (ended s body)) (moved [] (inside s (body ++ x ∷ [])))
+      (λ r u. absurd (List·Memᴰ·not-nil u)) (λ r u. absurd (List·Memᴰ·not-nil u))) h
+  move-numbered i x (ended s body) w h = subst (λ (z : Judged). Numbered (z .verdict)) (sym (List·Memᴰ·eq-of-singleton h)) (end-numbered body x)
+
+  run-numbered : (xs : List ℕ) (i : ℕ) (m : Mode) (w : Judged) → List·Memᴰ w (run g i m xs) → Numbered (w .verdict)
+  unfolding run
+  run-numbered [] i m w h = absurd (List·Memᴰ·not-nil h)
+  run-numbered (x ∷ xs) i m w h = go (λ u. run-numbered xs (i + 1) (move g i m x .mode) w u) (List·Memᴰ·append-cases (move g i m x .says) h)
+    where
+      go : (List·Memᴰ w (run g (i + 1) (move g i m x .mode) xs) → Numbered (w .verdict))
+          → List·Memᴰ w (move g i m x .says) ⊎ List·Memᴰ w (run g (i + 1) (move g i m x .mode) xs) → Numbered (w .verdict)
+      go f (inl u) = move-numbered i x m w u
+      go f (inr u) = f u
+
+accepted-of : (g : Settings) (k : ℕ) (xs : List ℕ) (w : Judged) (v : Verdict) → w .verdict ≡ v → List·Memᴰ w (run g k between xs) → numberOf v ≡ 0 → Stands g k xs w
 accepted-of g k xs w (Accepted t n) e h z = accepted-stands g k xs w t n h e
-accepted-of g k xs w (Byte p) e h z = absurd (omega arith)
-accepted-of g k xs w Long e h z = absurd (omega arith)
-accepted-of g k xs w Shape e h z = absurd (omega arith)
-accepted-of g k xs w Count e h z = absurd (omega arith)
-accepted-of g k xs w Check e h z = absurd (omega arith)
-accepted-of g k xs w Interrupted e h z = absurd (omega arith)
+accepted-of g k xs w (Refused n i) e h z = let q : 1 ≤ n = subst Numbered e (run-numbered g xs k between w h) in absurd (omega arith)
 
 -- "the number (0 if accepted)": the accepted verdicts of an input are those on the formatted blocks that stand in it
-pub accepted-exactly : (g : Settings) (xs : List ℕ) (w : Said) → valid g ≡ true → (List·Memᴰ w (verdicts g xs) × (numberOf (w .verdict) ≡ 0)) ↔ Stands g 0 xs w
+pub accepted-exactly : (g : Settings) (xs : List ℕ) (w : Judged) → valid g ≡ true → (List·Memᴰ w (verdicts g xs) × (numberOf (w .verdict) ≡ 0)) ↔ Stands g 0 xs w
 accepted-exactly g xs w v = (
   λ (h : List·Memᴰ w (verdicts g xs) × (numberOf (w .verdict) ≡ 0)). accepted-of g 0 xs w (w .verdict) refl (h .0) (h .1),
-  λ (h : Stands g 0 xs w). (standing-accepted g v 0 between xs w h, ap (λ (z : Said). numberOf (z .verdict)) (h .says)),
+  λ (h : Stands g 0 xs w). (standing-accepted g v 0 between xs w h, ap (λ (z : Judged). numberOf (z .verdict)) (h .says)),
 )

@@ -3,38 +3,34 @@ use mathlib.Core.List.{List, [], _∷_, _++_}
 use Prim.Native.Nat.{ℕ, zero, suc}
 use lib.ListN.{length, drop}
 use Rattle.settings.specs.declared.Settings.{Settings}
-use Rattle.stream.specs.Stream.{Said, said}
+use Rattle.stream.specs.Stream.{Judged, judged}
 use Rattle.stream.specs.Scan.{readOf}
 use Rattle.stream.specs.declared.Reader.{Reader}
 use Rattle.stream.specs.declared.Answer.{Answer}
-use Rattle.stream.specs.declared.Answer.the-variants.{Setting, TooShort, State, Pending, Found}
+use Rattle.stream.specs.declared.Answer.the-variants.{Refused, Pending, Found}
 
 -- the verdicts that the caller was given, and the reader and the buffer that it has then
 pub record Served : Type 0 where
-  pub says : List Said
+  pub says : List Judged
   pub reader : Reader
   pub buffer : List ℕ
 
-abbrev pub served : List Said → Reader → List ℕ → Served
+abbrev pub served : List Judged → Reader → List ℕ → Served
 served l r b = record { says = l; reader = r; buffer = b }
 
 -- the verdict of one call: the data is looked up in the buffer after the call
-abbrev pub spoken : Settings → Answer → List ℕ → List Said
-spoken g (Found s v) b = said g s v b ∷ []
+abbrev pub spoken : Settings → Answer → List ℕ → List Judged
+spoken g (Found s v) b = judged g s v b ∷ []
 spoken g Pending b = []
-spoken g Setting b = []
-spoken g TooShort b = []
-spoken g State b = []
+spoken g (Refused n) b = []
 
 -- after a verdict the caller goes on, otherwise it stops
 abbrev pub goOn : Answer → Served → Served → Served
 goOn (Found s v) later stop = later
 goOn Pending later stop = stop
-goOn Setting later stop = stop
-goOn TooShort later stop = stop
-goOn State later stop = stop
+goOn (Refused n) later stop = stop
 
-abbrev pub andThen : List Said → Served → Served
+abbrev pub andThen : List Judged → Served → Served
 andThen l t = served (l ++ t .says) (t .reader) (t .buffer)
 
 -- one part, in at most as many calls as the first number says
@@ -42,8 +38,8 @@ unfoldable pub serve : Settings → ℕ → Reader → List ℕ → List ℕ →
 serve g zero r b xs = served [] r b
 serve g (suc n) r b xs =
     let c = readOf g r xs b in
-    andThen (spoken g (c .reading .answer) (c .buffer))
-    (goOn (c .reading .answer) (serve g n (c .reading .reader) (c .buffer) (drop (c .reading .used) xs)) (served [] (c .reading .reader) (c .buffer)))
+    andThen (spoken g (c .answer .answer) (c .buffer))
+    (goOn (c .answer .answer) (serve g n (c .answer .reader) (c .buffer) (drop (c .answer .used) xs)) (served [] (c .answer .reader) (c .buffer)))
 
 -- one part after another
 unfoldable pub session : Settings → Reader → List ℕ → List (List ℕ) → Served

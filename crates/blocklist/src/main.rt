@@ -2,11 +2,11 @@
 // length (0 if refused). Hybrid bytes, default settings, at most 4,096 data bytes. With --version it says its version instead.
 use libc::STDIN_FILENO;
 use libc::STDOUT_FILENO;
+use refusal::Verdict;
 use settings::Made;
 use settings::Settings;
 use stream::Answer;
 use stream::Reader;
-use verdict::Verdict;
 
 const DATA_LIMIT: u64 = 4096;
 

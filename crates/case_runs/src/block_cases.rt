@@ -2,41 +2,25 @@
 // for each: what was tried, and the numbers that came.
 use crate::print::print_number;
 use crate::print::print_text;
+use refusal::Written;
 use settings::Made;
 use settings::Settings;
 use stream::Answer;
 use stream::Reader;
-use whole_block::Checked;
-use writer::Written;
 
 const DATA_LIMIT: usize = 16;
 
-fn print_refusal(number: u64, offset: usize) -> usize {
-    print_number(number);
-    print_number(offset as u64);
-    0
-}
-
 // Prints the number and the offset of a forbidden byte, and returns the length of the block written.
 fn print_written(written: Written) -> usize {
-    match written {
-        Written::Setting => print_refusal(1, 0),
-        Written::TooShort => print_refusal(2, 0),
-        Written::Long => print_refusal(4, 0),
-        Written::Shape => print_refusal(5, 0),
-        Written::Byte(offset) => print_refusal(3, offset),
-        Written::Block(length) => {
-            print_number(0);
-            print_number(0);
-            length
-        }
-    }
+    print_number(written.number());
+    print_number(written.offset() as u64);
+    written.length()
 }
 
 // Writes a block of this data, and checks what was written: the writer's number and offset, then the check's number, offset
 // and data length.
 fn write_and_check(settings: Settings, content: &[u8], buffer: &mut [u8]) {
-    let written = writer::write(settings, 68, content, buffer, 0);
+    let written = writer::write(settings, b'D', content, buffer, 0);
     let length = print_written(written);
     if 0 < length {
         if length <= buffer.len() {
@@ -47,12 +31,9 @@ fn write_and_check(settings: Settings, content: &[u8], buffer: &mut [u8]) {
 }
 
 fn print_check(settings: Settings, bytes: &[u8]) {
-    let Checked::Judged(verdict) = whole_block::check_block(settings, bytes) else {
-        print_number(1);
-        return;
-    };
+    let verdict = whole_block::check_block(settings, bytes);
     print_number(verdict.number());
-    print_number(verdict.forbidden_offset() as u64);
+    print_number(verdict.offset() as u64);
     print_number(verdict.data_length() as u64);
 }
 
@@ -61,9 +42,7 @@ fn print_reading(settings: Settings, part: &[u8]) {
     let reading = stream::read(settings, Reader::new(), part, &mut buffer);
     let answer = reading.answer;
     match answer {
-        Answer::Setting => print_text(b" setting"),
-        Answer::TooShort => print_text(b" too short"),
-        Answer::State => print_text(b" state"),
+        Answer::Refused(number) => print_number(number),
         Answer::Pending => print_text(b" pending"),
         Answer::Found(_, verdict) => print_number(verdict.number()),
     }

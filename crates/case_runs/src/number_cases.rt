@@ -5,11 +5,11 @@ use crate::print::print_text;
 use receiver::Application;
 use receiver::Expected;
 use receiver::Transaction;
+use refusal::Verdict;
 use sender::Sender;
 use sender::SenderMade;
 use settings::Made;
 use settings::Settings;
-use verdict::Verdict;
 
 const DATA_LIMIT: usize = 128;
 // Where the MSA segment of a reply to a control ID of 15 bytes stands, without its CR.
@@ -49,7 +49,7 @@ fn print_received(settings: Settings, expected: Expected, content: &[u8]) -> Exp
         settings,
         Application::Accepts,
         expected,
-        Verdict::Accepted(68, content.len()),
+        Verdict::Accepted(b'D', content.len()),
         content,
         &mut buffer,
         0,
@@ -57,7 +57,7 @@ fn print_received(settings: Settings, expected: Expected, content: &[u8]) -> Exp
     let persisted = received.persisted;
     let then = persisted.expected;
     let transaction = persisted.transaction;
-    print_number(received.number);
+    print_number(received.refusal);
     print_transaction(transaction);
     print_expected(then);
     print_text(b" ");

@@ -5,18 +5,18 @@ use Rattle.lists.specs.Bytes.{same}
 use Rattle.block.specs.Judge.{typeMatches, headerOk, checksumMatches, judgeParts, dataOf, judgeHybrid, judge}
 use Rattle.settings.specs.Settings.{valid}
 use Rattle.block.specs.Content.{contentOf}
-use Rattle.stream.specs.Stream.{outcome, move, run}
+use Rattle.stream.specs.Stream.{endVerdict, move, run}
 use Rattle.whole_block.specs.Whole.{wholeOf, checkOf}
 use Rattle.numbers.specs.Numbers.{decimal}
 use Rattle.messages.specs.Messages.{answerMessage, controlMessage}
 use Rattle.receiver.specs.Receiver.{rowOf}
 use Rattle.sender.specs.Sender.{validSender, openOf, timerOf}
-use Rattle.station.specs.Station.{isDuplicate, validStation, blockOf}
+use Rattle.station.specs.Station.{goodBlockOf}
 use Rattle.cases.specs.Cases.{Each, none, _and_, cases}
 
 -- "The P cases are proved of the definitions as one list under one claim"
 pub all-cases : Each cases
-unfolding fiveDigits threeDigits countField checksumOf hybridBody hybridBlock same typeMatches headerOk checksumMatches judgeParts dataOf judgeHybrid judge valid contentOf outcome move run wholeOf checkOf decimal answerMessage controlMessage rowOf validSender openOf timerOf isDuplicate validStation blockOf
+unfolding fiveDigits threeDigits countField checksumOf hybridBody hybridBlock same typeMatches headerOk checksumMatches judgeParts dataOf judgeHybrid judge valid contentOf endVerdict move run wholeOf checkOf decimal answerMessage controlMessage rowOf validSender openOf timerOf goodBlockOf
 all-cases =
     refl and refl and refl and refl and refl and refl and refl and refl and refl and refl and
     refl and refl and refl and refl and refl and refl and refl and refl and refl and refl and

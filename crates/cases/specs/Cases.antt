@@ -2,12 +2,17 @@
 use mathlib.Core.Path.{_≡_}
 use mathlib.Core.List.{List, [], _∷_, _++_}
 use Prim.Native.Nat.{ℕ}
+use Prim.Native.Char.{code}
+use Prim.Native.String.{String}
+use Rattle.lists.specs.Bytes.{bytes}
+use Rattle.lists.specs.Outcome.{outcome}
 use Rattle.block.specs.Format.{hybridBlock}
-use Rattle.verdict.specs.Verdict.{numberOf, lengthOf}
+use Rattle.refusal.specs.Refusal.{numberOf, lengthOf}
 use Rattle.settings.specs.declared.Kind.the-variants.{Hybrid}
 use Rattle.settings.specs.declared.Settings.{Settings}
-use Rattle.verdict.specs.declared.Verdict.the-variants.{Accepted, Shape, Count, Check, Interrupted}
-use Rattle.stream.specs.Stream.{Said, verdicts}
+use Rattle.refusal.specs.declared.Verdict.{Verdict}
+use Rattle.refusal.specs.declared.Verdict.the-variants.{Accepted, Refused}
+use Rattle.stream.specs.Stream.{Judged, verdicts}
 use Rattle.header.specs.declared.Code.the-variants.{AA, AR}
 use Rattle.numbers.specs.declared.SequenceNumber.the-variants.{Number}
 use Rattle.numbers.specs.declared.NumberField.the-variants.{Present}
@@ -21,9 +26,7 @@ use Rattle.sender.specs.declared.Event.the-variants.{Abandoned}
 use Rattle.sender.specs.declared.Acted.{Acted}
 use Rattle.message_theorems.specs.Examples.{AnswerFor17, ControlFor0, ControlForMinusOne}
 use Rattle.whole_block.specs.Whole.{checkOf}
-use Rattle.whole_block.specs.declared.Checked.{Checked}
-use Rattle.whole_block.specs.declared.Checked.the-variants.{Judged}
-use Rattle.station.specs.Station.{blockOf, outcome, drops}
+use Rattle.station.specs.Station.{goodBlockOf, dropped}
 use Rattle.station.specs.declared.Station.the-variants.{Open}
 use Rattle.station.specs.declared.Ending.the-variants.{Etb}
 use Rattle.station.specs.declared.Reply.the-variants.{Ack, Nak}
@@ -31,7 +34,7 @@ use Rattle.station.specs.declared.Reply.the-variants.{Ack, Nak}
 infixr 2 _and_
 -- "with default settings and D of 4,096"
 abbrev pub usual : Settings
-usual = record { kind = Hybrid; «start_block» = 11; «end_block» = 28; «data_limit» = 4096 }
+usual = record { kind = Hybrid; «start_block» = 0x0B; «end_block» = 0x1C; «data_limit» = 4096 }
 
 -- "for each verdict, SB's offset, the number (0 if accepted) and the data length (0 if refused)"
 pub record Line : Type 0 where
@@ -42,7 +45,7 @@ pub record Line : Type 0 where
 abbrev pub line : ℕ → ℕ → ℕ → Line
 line s n m = record { offset = s; number = n; size = m }
 
-abbrev pub linesOf : List Said → List Line
+abbrev pub linesOf : List Judged → List Line
 linesOf [] = []
 linesOf (w ∷ l) = line (w .offset) (numberOf (w .verdict)) (lengthOf (w .verdict)) ∷ linesOf l
 
@@ -51,28 +54,27 @@ abbrev pub lines : List ℕ → List Line
 lines xs = linesOf (verdicts usual xs)
 
 -- what the check of a whole block gives
-abbrev pub check : List ℕ → Checked
+abbrev pub check : List ℕ → Verdict
 check xs = checkOf usual xs
 
--- an empty D block with the digits of its count and sum: the last of ccccc, and xxx
-abbrev pub emptyBlock : ℕ → ℕ → ℕ → ℕ → List ℕ
-emptyBlock c x y z = 11 ∷ 68 ∷ 50 ∷ 51 ∷ 13 ∷ 48 ∷ 48 ∷ 48 ∷ 48 ∷ c ∷ x ∷ y ∷ z ∷ 28 ∷ 13 ∷ []
+-- an empty D block with the fields ccccc xxx; an N block of a reason with its field xxx
+abbrev pub emptyBlock : String → List ℕ
+emptyBlock fields = bytes "\u{b}D23\r" ++ bytes fields ++ bytes "\u{1c}\r"
 
--- an N block with the digits of its sum
-abbrev pub reasonBlock : ℕ → ℕ → ℕ → ℕ → List ℕ
-reasonBlock r x y z = 11 ∷ 78 ∷ 50 ∷ 51 ∷ 13 ∷ r ∷ 48 ∷ 48 ∷ 48 ∷ 48 ∷ 54 ∷ x ∷ y ∷ z ∷ 28 ∷ 13 ∷ []
+abbrev pub reasonBlock : String → String → List ℕ
+reasonBlock reason xxx = bytes "\u{b}N23\r" ++ bytes reason ++ bytes "00006" ++ bytes xxx ++ bytes "\u{1c}\r"
 
 -- "P1 empty D block: count 00005, sum 067."
 abbrev pub p1 : List ℕ
-p1 = emptyBlock 53 48 54 55
+p1 = emptyBlock "00005067"
 
 -- "P2 data `A` CR: 00007, 015."
 abbrev pub p2 : List ℕ
-p2 = 11 ∷ 68 ∷ 50 ∷ 51 ∷ 13 ∷ 65 ∷ 13 ∷ 48 ∷ 48 ∷ 48 ∷ 48 ∷ 55 ∷ 48 ∷ 49 ∷ 53 ∷ 28 ∷ 13 ∷ []
+p2 = bytes "\u{b}D23\rA\r00007015\u{1c}\r"
 
 -- "P3 N block X: bytes 0B 4E 32 33 0D 58 30 30 30 30 36 30 31 37 1C 0D."
 abbrev pub p3 : List ℕ
-p3 = 11 ∷ 78 ∷ 50 ∷ 51 ∷ 13 ∷ 88 ∷ 48 ∷ 48 ∷ 48 ∷ 48 ∷ 54 ∷ 48 ∷ 49 ∷ 55 ∷ 28 ∷ 13 ∷ []
+p3 = 0x0B ∷ 0x4E ∷ 0x32 ∷ 0x33 ∷ 0x0D ∷ 0x58 ∷ 0x30 ∷ 0x30 ∷ 0x30 ∷ 0x30 ∷ 0x36 ∷ 0x30 ∷ 0x31 ∷ 0x37 ∷ 0x1C ∷ 0x0D ∷ []
 
 -- what a sender's act says of giving up: the event, and the sends made
 pub record Given : Type 0 where
@@ -93,44 +95,44 @@ pub data Each : List (Type 0) → Type 1 where
 abbrev pub cases : List (Type 0)
 cases =
     -- P1
-    (hybridBlock usual 68 [] ≡ p1)
+    (hybridBlock usual (code "D") [] ≡ p1)
     ∷ (lines p1 ≡ line 0 0 0 ∷ [])
-    ∷ (check p1 ≡ Judged (Accepted 68 0))
+    ∷ (check p1 ≡ Accepted (code "D") 0)
     -- P2
-    ∷ (hybridBlock usual 68 (65 ∷ 13 ∷ []) ≡ p2)
+    ∷ (hybridBlock usual (code "D") (bytes "A\r") ≡ p2)
     ∷ (lines p2 ≡ line 0 0 2 ∷ [])
-    ∷ (check p2 ≡ Judged (Accepted 68 2))
+    ∷ (check p2 ≡ Accepted (code "D") 2)
     -- P3
-    ∷ (hybridBlock usual 78 (88 ∷ []) ≡ p3)
+    ∷ (hybridBlock usual (code "N") (bytes "X") ≡ p3)
     ∷ (lines p3 ≡ line 0 0 1 ∷ [])
-    ∷ (check p3 ≡ Judged (Accepted 78 1))
+    ∷ (check p3 ≡ Accepted (code "N") 1)
     -- "P4 sums of N blocks C, B, G: 010, 011, 014."
-    ∷ (hybridBlock usual 78 (67 ∷ []) ≡ reasonBlock 67 48 49 48)
-    ∷ (hybridBlock usual 78 (66 ∷ []) ≡ reasonBlock 66 48 49 49)
-    ∷ (hybridBlock usual 78 (71 ∷ []) ≡ reasonBlock 71 48 49 52)
-    ∷ (lines (reasonBlock 67 48 49 48) ≡ line 0 0 1 ∷ [])
-    ∷ (lines (reasonBlock 66 48 49 49) ≡ line 0 0 1 ∷ [])
-    ∷ (lines (reasonBlock 71 48 49 52) ≡ line 0 0 1 ∷ [])
-    ∷ (check (reasonBlock 67 48 49 48) ≡ Judged (Accepted 78 1))
-    ∷ (check (reasonBlock 66 48 49 49) ≡ Judged (Accepted 78 1))
-    ∷ (check (reasonBlock 71 48 49 52) ≡ Judged (Accepted 78 1))
+    ∷ (hybridBlock usual (code "N") (bytes "C") ≡ reasonBlock "C" "010")
+    ∷ (hybridBlock usual (code "N") (bytes "B") ≡ reasonBlock "B" "011")
+    ∷ (hybridBlock usual (code "N") (bytes "G") ≡ reasonBlock "G" "014")
+    ∷ (lines (reasonBlock "C" "010") ≡ line 0 0 1 ∷ [])
+    ∷ (lines (reasonBlock "B" "011") ≡ line 0 0 1 ∷ [])
+    ∷ (lines (reasonBlock "G" "014") ≡ line 0 0 1 ∷ [])
+    ∷ (check (reasonBlock "C" "010") ≡ Accepted (code "N") 1)
+    ∷ (check (reasonBlock "B" "011") ≡ Accepted (code "N") 1)
+    ∷ (check (reasonBlock "G" "014") ≡ Accepted (code "N") 1)
     -- "P5 P1 with sum 999: accepted; with 256: 7."
-    ∷ (lines (emptyBlock 53 57 57 57) ≡ line 0 0 0 ∷ [])
-    ∷ (check (emptyBlock 53 57 57 57) ≡ Judged (Accepted 68 0))
-    ∷ (lines (emptyBlock 53 50 53 54) ≡ line 0 7 0 ∷ [])
-    ∷ (check (emptyBlock 53 50 53 54) ≡ Judged Check)
+    ∷ (lines (emptyBlock "00005999") ≡ line 0 0 0 ∷ [])
+    ∷ (check (emptyBlock "00005999") ≡ Accepted (code "D") 0)
+    ∷ (lines (emptyBlock "00005256") ≡ line 0 7 0 ∷ [])
+    ∷ (check (emptyBlock "00005256") ≡ Refused 7 0)
     -- "P6 P1 with count 00006: 6."
-    ∷ (lines (emptyBlock 54 48 54 55) ≡ line 0 6 0 ∷ [])
-    ∷ (check (emptyBlock 54 48 54 55) ≡ Judged Count)
+    ∷ (lines (emptyBlock "00006067") ≡ line 0 6 0 ∷ [])
+    ∷ (check (emptyBlock "00006067") ≡ Refused 6 0)
     -- "P7 P1 with count 00006 and sum 068: 6."
-    ∷ (lines (emptyBlock 54 48 54 56) ≡ line 0 6 0 ∷ [])
-    ∷ (check (emptyBlock 54 48 54 56) ≡ Judged Count)
+    ∷ (lines (emptyBlock "00006068") ≡ line 0 6 0 ∷ [])
+    ∷ (check (emptyBlock "00006068") ≡ Refused 6 0)
     -- "P8 SB D SB: 8."
-    ∷ (lines (11 ∷ 68 ∷ 11 ∷ []) ≡ line 0 8 0 ∷ [])
-    ∷ (check (11 ∷ 68 ∷ 11 ∷ []) ≡ Judged Interrupted)
+    ∷ (lines (bytes "\u{b}D\u{b}") ≡ line 0 8 0 ∷ [])
+    ∷ (check (bytes "\u{b}D\u{b}") ≡ Refused 8 0)
     -- "For P1 followed by P3 it prints exactly `0 0 0` and `15 0 1`"
     ∷ (lines (p1 ++ p3) ≡ line 0 0 0 ∷ line 15 0 1 ∷ [])
-    ∷ (check (p1 ++ p3) ≡ Judged Shape)
+    ∷ (check (p1 ++ p3) ≡ Refused 5 0)
     -- "P9 receiver NONE, 5: AA 5, then expects 6."
     ∷ (rowOf Accepts Unknown (Present (Number 5)) ≡ row AA (Number 5) (Numbered 5) (Next 6))
     -- "P10 expects 6, gets 5: AR 6."
@@ -138,8 +140,8 @@ cases =
     -- "P11 r = 0, one timer: gives up, count 1.": on a circuit that has just been opened
     ∷ (abandoned (timerOf 0 (openOf (freshSender 1) .sender)) ≡ given Abandoned 1)
     -- "P12 station expects 3, gets 2: ACK 2; gets 4: NAK."
-    ∷ (blockOf (Open 3 0) 2 Etb [] [] ≡ outcome (drops (Open 3 0) (Ack 2)) [])
-    ∷ (blockOf (Open 3 0) 4 Etb [] [] ≡ outcome (drops (Open 3 0) Nak) [])
+    ∷ (goodBlockOf (Open 3 0) 2 Etb [] [] ≡ outcome (dropped (Open 3 0) (Ack 2)) [])
+    ∷ (goodBlockOf (Open 3 0) 4 Etb [] [] ≡ outcome (dropped (Open 3 0) Nak) [])
     -- 'Header fields': the answer for request 17 and the control messages for 0 and -1, byte for byte
     ∷ AnswerFor17
     ∷ ControlFor0

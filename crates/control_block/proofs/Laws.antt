@@ -3,6 +3,7 @@ use mathlib.Core.Path.{_≡_, refl, sym, _∙_}
 use mathlib.Core.List.{List}
 use mathlib.Core.Bool.{Bool, true, false}
 use Prim.Native.Nat.{ℕ, _+_, _≤_}
+use Prim.Native.Char.{code}
 use native.Mathlib.Omega.{arith}
 use lib.ListN.{length}
 use lib.Dec.{leb}
@@ -10,31 +11,31 @@ use borrow.Author.Tests.{le-leb, leb-true}
 use Rattle.lists.proofs.Tests.{and-left, and-right}
 use Rattle.settings.specs.Settings.{valid, validLink}
 use Rattle.settings.specs.declared.Settings.{Settings}
-use Rattle.writer.specs.Write.{needOf, writeOf}
-use Rattle.writer.specs.declared.Written.the-variants.{Setting}
+use Rattle.writer.specs.Write.{needOf, refused, wrote, frameOf}
+use Rattle.writer.proofs.Laws.{frame-too-short, write-framed}
 use Rattle.messages.specs.Messages.{controlMessage, validType}
-use Rattle.messages.specs.Write.{writeControlOf, wrote as messageWrote}
+use Rattle.messages.specs.Write.{writeControlOf}
 use Rattle.messages.specs.declared.Control.{Control}
 use Rattle.messages.specs.declared.MessageType.{MessageType}
 use Rattle.message_theorems.proofs.Control.{control-length}
 use Rattle.message_theorems.proofs.InBlock.{control-in-block}
-use Rattle.control_block.specs.ControlBlock.{outcome, controlBlockOf}
+use Rattle.control_block.specs.ControlBlock.{controlBlockOf}
 
 -- the message made apart
 pub control-fits : (t : MessageType) (c : Control) (l : List ℕ) → 33 ≤ length l → length (controlMessage t c) ≤ length l
 control-fits t c l h = let m = control-length t c in omega arith
 
 pub control-made : (t : MessageType) (c : Control) (l : List ℕ) → validType t ≡ true → 33 ≤ length l
-    → writeControlOf t c 0 l ≡ messageWrote l 0 (controlMessage t c)
+    → writeControlOf t c 0 l ≡ wrote l 0 (controlMessage t c)
 unfolding writeControlOf
 control-made t c l v h = let m = control-fits t c l h in rw (v, le-leb (0 + length (controlMessage t c)) (length l) (omega arith))
 
 module _ (g : Settings) (t : MessageType) (c : Control) (start : ℕ) (b : List ℕ) where
-  pub no-link : validLink g ≡ false → outcome Setting b ≡ controlBlockOf g t c start b
+  pub no-link : validLink g ≡ false → refused 1 0 b ≡ controlBlockOf g t c start b
   unfolding controlBlockOf
   no-link h = rw h
 
-  pub no-type : validLink g ≡ true → validType t ≡ false → outcome Setting b ≡ controlBlockOf g t c start b
+  pub no-type : validLink g ≡ true → validType t ≡ false → refused 1 0 b ≡ controlBlockOf g t c start b
   unfolding controlBlockOf
   no-type h v = rw (h, v)
 
@@ -47,11 +48,12 @@ module _ (g : Settings) (t : MessageType) (c : Control) (start : ℕ) (b : List 
     unfolding validLink
     limit = leb-true 128 (g .«data_limit») (and-right (valid g) (leb 128 (g .«data_limit»)) h)
 
-    framed : (f : Bool) → leb (start + needOf g (controlMessage t c)) (length b) ≡ f → writeOf g 68 (controlMessage t c) start b ≡ controlBlockOf g t c start b
-    unfolding controlBlockOf writeOf
+    framed : (f : Bool) → leb (start + needOf g (controlMessage t c)) (length b) ≡ f → frameOf g (code "D") (controlMessage t c) start b ≡ controlBlockOf g t c start b
+    unfolding controlBlockOf
     framed true e =
-        control-in-block g settings-valid limit start b t c v (leb-true (start + needOf g (controlMessage t c)) (length b) e) ∙ sym (rw (h, v, e))
-    framed false e = rw (settings-valid, h, v, e)
+        write-framed g (code "D") (controlMessage t c) start b settings-valid
+        ∙ control-in-block g settings-valid limit start b t c v (leb-true (start + needOf g (controlMessage t c)) (length b) e) ∙ sym (rw (h, v, e))
+    framed false e = sym (frame-too-short g (code "D") (controlMessage t c) start b e) ∙ sym (rw (h, v, e))
 
-    pub control-framed : writeOf g 68 (controlMessage t c) start b ≡ controlBlockOf g t c start b
+    pub control-framed : frameOf g (code "D") (controlMessage t c) start b ≡ controlBlockOf g t c start b
     control-framed = framed (leb (start + needOf g (controlMessage t c)) (length b)) refl

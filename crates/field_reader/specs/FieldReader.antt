@@ -4,32 +4,28 @@ use mathlib.Core.Bool.{cond}
 use Prim.Native.Nat.{ℕ, _+_}
 use lib.ListN.{length, getD}
 use lib.Dec.{ltb, eqb}
-use Rattle.fields.specs.Fields.{fieldOf}
+use Rattle.lists.specs.Outcome.{need}
+use Rattle.fields.specs.Fields.{bar, fieldOf}
 use Rattle.fields.specs.declared.Field.{Field}
-use Rattle.field_reader.specs.declared.Delimiter.{Delimiter}
 use Rattle.field_reader.specs.declared.Delimiter.the-variants.{Separator, SegmentEnd, MessageEnd}
 use denote.Ref.{now}
 use Rattle.field_reader.specs.declared.FieldReader.{FieldReader}
 use Rattle.field_reader.specs.declared.NextField.{NextField}
 use Rattle.field_reader.specs.declared.NextField.the-variants.{NoField, Found}
 
-abbrev pub bar : ℕ
-bar = 124
-
 -- the offset of what ends a field
-abbrev pub endOf : Field → ℕ
-endOf f = f .start + f .length
+abbrev pub fieldEnd : Field → ℕ
+fieldEnd f = f .start + f .length
 
 -- a field goes "up to the next bar or the CR"; one that neither ends reaches to the message's end
 abbrev pub foundOf : List ℕ → Field → NextField
 foundOf m f =
-    cond (ltb (endOf f) (length m))
-    (cond (eqb (getD m (endOf f) 0) bar) (Found f Separator (endOf f + 1)) (Found f SegmentEnd (endOf f + 1)))
-    (Found f MessageEnd (endOf f))
+    cond (ltb (fieldEnd f) (length m)) (Found f (cond (eqb (getD m (fieldEnd f) 0) bar) Separator SegmentEnd) (fieldEnd f + 1))
+    (Found f MessageEnd (fieldEnd f))
 
 -- the field with which the message goes on at a position, by the one definition of a field
 unfoldable pub nextOf : List ℕ → ℕ → NextField
-nextOf m at = cond (ltb at (length m)) (foundOf m (fieldOf bar at 0 m)) NoField
+nextOf m at = need (ltb at (length m)) NoField (foundOf m (fieldOf bar at 0 m))
 
 -- the position after a field that was given at a position
 abbrev pub afterOf : ℕ → NextField → ℕ

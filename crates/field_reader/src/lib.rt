@@ -1,13 +1,11 @@
 // A reader over a message: it holds the message's bytes and its position and gives the next field each time. The borrow
 // checker covers no function over a struct that holds a slice, so those here are few and thin, and are proved by hand. The
 // work is done by field_at, which takes the slice and the position.
+use fields::BAR;
 use fields::Field;
 use fields::find_field;
 ghost use mathlib.Core.Path.{_≡_};
 ghost use Rattle.field_reader.specs.FieldReader.{nextOf, afterOf, advanced};
-
-// The field separator.
-const BAR: u8 = 124;
 
 // What ended a field.
 pub enum Delimiter {

@@ -6,90 +6,85 @@ use Prim.Native.Nat.{ℕ, zero, suc, _+_, _-_, _≤_, _<_}
 use native.Mathlib.Omega.{arith}
 use lib.ListN.{length, drop, getD, length-drop}
 use lib.Seq.{getD-drop, drop-drop}
-use lib.Dec.{ltb, eqb}
-use borrow.Author.Tests.{lt-ltb, le-ltb, eq-eqb, ne-eqb, ltb-true}
-use Rattle.lists.specs.Bytes.{clear}
-use Rattle.lists.proofs.Tests.{and-left, cond-ind}
+use lib.Dec.{eqb}
+use borrow.Author.Tests.{eq-eqb, ne-eqb}
+use Rattle.lists.proofs.Tests.{or-left, or-right, cond-ind}
 use Rattle.lists.proofs.Parts.{drop-more, drop-none}
-use Rattle.lists.proofs.Search.{clear-most, clear-hit}
-use Rattle.fields.specs.Fields.{fieldLength, endsInBar, startOf, fieldOf}
+use Rattle.lists.proofs.Search.{clear-hit}
+use Rattle.fields.specs.Fields.{bar, fieldLength, fieldStart, fieldOf}
 use Rattle.fields.specs.declared.Field.{Field}
 
+pub bar-no-return : bar ≡ 0x0D → ⊥
+bar-no-return e = absurd (omega (arith, e))
+
 module _ (bar : ℕ) where
-  pub starts-none : (k : ℕ) (t : List ℕ) → endsInBar bar t ≡ false → startOf bar (suc k) t ≡ fieldLength bar t
-  unfolding startOf
-  starts-none k t h = rw h
+  -- no bar stands in a field
+  pub field-past : (k : ℕ) (t : List ℕ) → fieldStart bar (suc k) t ≡ fieldLength bar t + fieldStart bar (suc k) (drop (fieldLength bar t) t)
+  unfolding fieldStart
+  field-past k [] = refl
+  field-past k (x ∷ xs) = go (eqb x bar || eqb x 0x0D) refl (field-past k xs)
+    where
+      go : (b : Bool) → (eqb x bar || eqb x 0x0D) ≡ b → fieldStart bar (suc k) xs ≡ fieldLength bar xs + fieldStart bar (suc k) (drop (fieldLength bar xs) xs)
+          → fieldStart bar (suc k) (x ∷ xs) ≡ fieldLength bar (x ∷ xs) + fieldStart bar (suc k) (drop (fieldLength bar (x ∷ xs)) (x ∷ xs))
+      go true e i = rw e (omega arith)
+      go false e i = rw (or-left (eqb x bar) (eqb x 0x0D) e, or-right (eqb x bar) (eqb x 0x0D) e) (omega (arith, i))
 
-  pub starts-next : (k : ℕ) (t : List ℕ) → endsInBar bar t ≡ true
-      → startOf bar (suc k) t ≡ fieldLength bar t + 1 + startOf bar k (drop (fieldLength bar t + 1) t)
-  unfolding startOf
-  starts-next k t h = rw h
+  -- the field at i ends at e: in a bar, or not
+  module _ (s : List ℕ) (i e : ℕ) (h : e ≡ i + fieldLength bar (drop i s)) where
+    past : (k : ℕ) → i + fieldStart bar (suc k) (drop i s) ≡ e + fieldStart bar (suc k) (drop e s)
+    past k =
+        let d : drop (fieldLength bar (drop i s)) (drop i s) ≡ drop e s = drop-drop (fieldLength bar (drop i s)) i s ∙ ap (λ (z : ℕ). drop z s) (sym h) in
+        let f = field-past k (drop i s) ∙ ap (λ (z : List ℕ). fieldLength bar (drop i s) + fieldStart bar (suc k) z) d in
+        omega (arith, f, h)
 
-  -- whether the field at i ends in a bar, by the byte at its end e
-  module _ (s : List ℕ) (i e : ℕ) (h : e ≡ i + clear bar 13 (drop i s)) where
-    short : length s ≤ e → endsInBar bar (drop i s) ≡ false
-    short l = rw (le-ltb (clear bar 13 (drop i s)) (length (drop i s)) (simp length-drop (omega (arith, h))))
+    -- what ends a field in a message is a bar or CR
+    pub ends-in-return : e < length s → (getD s e 0 ≡ bar → ⊥) → eqb (getD s e 0) 0x0D ≡ true
+    ends-in-return l n =
+        let b : getD (drop i s) (fieldLength bar (drop i s)) 0 ≡ getD s e 0 = getD-drop i s (fieldLength bar (drop i s)) 0 ∙ ap (λ (z : ℕ). getD s z 0) (sym h) in
+        rw (b, ne-eqb (getD s e 0) bar n) at (clear-hit bar 0x0D (drop i s) (simp length-drop (omega (arith, h))))
 
-    inside : e < length s → ltb (clear bar 13 (drop i s)) (length (drop i s)) ≡ true
-    inside l = lt-ltb (clear bar 13 (drop i s)) (length (drop i s)) (simp length-drop (omega (arith, h)))
+    pub at-end : (left : ℕ) → 0 < left → length s ≤ e → e ≡ i + fieldStart bar left (drop i s)
+    unfolding fieldStart
+    at-end zero p l = absurd (omega arith)
+    at-end (suc k) p l = let z : fieldStart bar (suc k) (drop e s) ≡ 0 = rw (drop-none s e l) in omega (arith, past k, z)
 
-    byte : getD (drop i s) (clear bar 13 (drop i s)) 0 ≡ getD s e 0
-    byte = getD-drop i s (clear bar 13 (drop i s)) 0 ∙ ap (λ (z : ℕ). getD s z 0) (sym h)
-
-    other : e < length s → (getD s e 0 ≡ bar → ⊥) → endsInBar bar (drop i s) ≡ false
-    other l n = rw (inside l, byte, ne-eqb (getD s e 0) bar n)
-
-    here : e < length s → getD s e 0 ≡ bar → endsInBar bar (drop i s) ≡ true
-    here l n = rw (inside l, byte, eq-eqb (getD s e 0) bar n)
-
-    stays : (left : ℕ) → 0 < left → endsInBar bar (drop i s) ≡ false → e ≡ i + startOf bar left (drop i s)
-    stays zero p f = absurd (omega arith)
-    stays (suc k) p f = omega (arith, h, starts-none k (drop i s) f)
-
-    pub at-end : (left : ℕ) → 0 < left → length s ≤ e → e ≡ i + startOf bar left (drop i s)
-    at-end left p l = stays left p (short l)
-
-    pub at-other : (left : ℕ) → 0 < left → e < length s → (getD s e 0 ≡ bar → ⊥) → e ≡ i + startOf bar left (drop i s)
-    at-other left p l n = stays left p (other l n)
+    pub at-other : (left : ℕ) → 0 < left → e < length s → (getD s e 0 ≡ bar → ⊥) → e ≡ i + fieldStart bar left (drop i s)
+    unfolding fieldStart
+    at-other zero p l n = absurd (omega arith)
+    at-other (suc k) p l n =
+        let z : fieldStart bar (suc k) (drop e s) ≡ 0 = rw (drop-more s e l, ne-eqb (getD s e 0) bar n, ends-in-return l n) in
+        omega (arith, past k, z)
 
     pub at-bar : (left : ℕ) → 0 < left → e < length s → getD s e 0 ≡ bar
-        → e + 1 + startOf bar (left - 1) (drop (e + 1) s) ≡ i + startOf bar left (drop i s)
+        → e + 1 + fieldStart bar (left - 1) (drop (e + 1) s) ≡ i + fieldStart bar left (drop i s)
+    unfolding fieldStart
     at-bar zero p l n = absurd (omega arith)
     at-bar (suc k) p l n =
-        let g : i + (clear bar 13 (drop i s) + 1) ≡ e + 1 = omega (arith, h) in
-        let d : drop (clear bar 13 (drop i s) + 1) (drop i s) ≡ drop (e + 1) s =
-        drop-drop (clear bar 13 (drop i s) + 1) i s ∙ ap (λ (z : ℕ). drop z s) g in
-        let f : startOf bar k (drop (clear bar 13 (drop i s) + 1) (drop i s)) ≡ startOf bar k (drop (e + 1) s) =
-        ap (λ (z : List ℕ). startOf bar k z) d in
+        let z : fieldStart bar (suc k) (drop e s) ≡ suc (fieldStart bar k (drop (e + 1) s)) = rw (drop-more s e l, eq-eqb (getD s e 0) bar n) in
         let r : suc k - 1 ≡ k = omega arith in
-        let q : startOf bar (suc k - 1) (drop (e + 1) s) ≡ startOf bar k (drop (e + 1) s) =
-        ap (λ (z : ℕ). startOf bar z (drop (e + 1) s)) r in
-        omega (arith, h, f, q, starts-next k (drop i s) (here l n))
+        rw r (omega (arith, past k, z))
 
-  pub at-last : (t : List ℕ) (i left : ℕ) → left ≤ 0 → i ≡ i + startOf bar left t
-  unfolding startOf
+  pub at-last : (t : List ℕ) (i left : ℕ) → left ≤ 0 → i ≡ i + fieldStart bar left t
+  unfolding fieldStart
   at-last t i zero p = omega arith
   at-last t i (suc k) p = absurd (omega arith)
 
-  pub found : (m : List ℕ) (from k a e : ℕ) → a ≡ from + startOf bar k (drop from m) → e ≡ a + clear bar 13 (drop a m)
+  pub found : (m : List ℕ) (from k a e : ℕ) → a ≡ from + fieldStart bar k (drop from m) → e ≡ a + fieldLength bar (drop a m)
       → _≡_ {A = Field} (record { start = a; length = e - a }) (fieldOf bar from k m)
   unfolding fieldOf
   found m from k a e h l =
-      let n : e - a ≡ clear bar 13 (drop a m) = omega (arith, l) in
-      let p : clear bar 13 (drop a m) ≡ clear bar 13 (drop (from + startOf bar k (drop from m)) m) = ap (λ (z : ℕ). clear bar 13 (drop z m)) h in
+      let n : e - a ≡ fieldLength bar (drop a m) = omega (arith, l) in
+      let p : fieldLength bar (drop a m) ≡ fieldLength bar (drop (from + fieldStart bar k (drop from m)) m) = ap (λ (z : ℕ). fieldLength bar (drop z m)) h in
       ap (λ (z : ℕ). record { start = a; length = z }) (n ∙ p)
-      ∙ ap (λ (z : ℕ). record { start = z; length = clear bar 13 (drop (from + startOf bar k (drop from m)) m) }) h
+      ∙ ap (λ (z : ℕ). record { start = z; length = fieldLength bar (drop (from + fieldStart bar k (drop from m)) m) }) h
 
   -- a field that is found lies in the message
-  pub start-most : (k : ℕ) (t : List ℕ) → startOf bar k t ≤ length t
-  unfolding startOf
+  pub start-most : (k : ℕ) (t : List ℕ) → fieldStart bar k t ≤ length t
+  unfolding fieldStart
   start-most zero t = omega arith
-  start-most (suc k) t =
-      cond-ind (λ (z : ℕ). z ≤ length t) (endsInBar bar t) (fieldLength bar t + 1 + startOf bar k (drop (fieldLength bar t + 1) t))
-      (fieldLength bar t)
-      (λ (e : endsInBar bar t ≡ true).
-      let l : fieldLength bar t < length t = ltb-true (fieldLength bar t) (length t) (and-left (ltb (fieldLength bar t) (length t)) (eqb (getD t (fieldLength bar t) 0) bar) e) in
-      let m : startOf bar k (drop (fieldLength bar t + 1) t) ≤ length t - (fieldLength bar t + 1) =
-      rw (← length-drop (fieldLength bar t + 1) t) (start-most k (drop (fieldLength bar t + 1) t)) in
-      omega arith)
-      (λ (e : endsInBar bar t ≡ false). clear-most bar 13 t)
+  start-most (suc k) [] = omega arith
+  start-most (suc k) (x ∷ xs) =
+      let a = start-most k xs in
+      let b = start-most (suc k) xs in
+      cond-ind (λ (z : ℕ). z ≤ suc (length xs)) (eqb x bar) _ _ (λ e. omega (arith, a))
+      (λ e. cond-ind (λ (z : ℕ). z ≤ suc (length xs)) (eqb x 0x0D) _ _ (λ f. omega arith) (λ f. omega (arith, b)))

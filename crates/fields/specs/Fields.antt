@@ -1,48 +1,36 @@
--- Document 01, 'Header fields': where the fields of a segment stand. The separator (the bar) is an input.
-use mathlib.Core.List.{List, [], _∷_, _++_}
-use mathlib.Core.Bool.{Bool, cond, _&&_}
+-- Document 01, 'Header fields': where the fields of a segment stand. The separator is an input; document 01 has the bar.
+use mathlib.Core.List.{List, [], _∷_}
+use mathlib.Core.Bool.{cond}
 use Prim.Native.Nat.{ℕ, zero, suc, _+_}
-use lib.ListN.{length, take, drop, getD}
-use lib.Dec.{ltb, eqb}
+use Prim.Native.Char.{code}
+use lib.ListN.{take, drop}
+use lib.Dec.{eqb}
 use Rattle.lists.specs.Bytes.{clear}
 use Rattle.fields.specs.declared.Field.{Field}
 
+abbrev pub bar : ℕ
+bar = code "|"
+
 -- "up to the next bar or the CR": the length of the field with which s begins
 abbrev pub fieldLength : ℕ → List ℕ → ℕ
-fieldLength bar s = clear bar 13 s
+fieldLength separator s = clear separator 0x0D s
 
--- whether that field ends in a bar
-abbrev pub endsInBar : ℕ → List ℕ → Bool
-endsInBar bar s = ltb (fieldLength bar s) (length s) && eqb (getD s (fieldLength bar s) 0) bar
-
--- what "follows" the k-th bar of the segment with which s begins: its offset. A segment with fewer bars has no such field: then the offset of its end, the CR.
-unfoldable pub startOf : ℕ → ℕ → List ℕ → ℕ
-startOf bar zero s = 0
-startOf bar (suc k) s =
-    cond (endsInBar bar s) (fieldLength bar s + 1 + startOf bar k (drop (fieldLength bar s + 1) s)) (fieldLength bar s)
+-- the offset of what "follows" the k-th bar of the segment with which s begins. A segment with fewer bars has no such field: then the offset of its end, the CR.
+unfoldable pub fieldStart : ℕ → ℕ → List ℕ → ℕ
+fieldStart separator zero s = 0
+fieldStart separator (suc k) [] = 0
+fieldStart separator (suc k) (x ∷ s) =
+    cond (eqb x separator) (suc (fieldStart separator k s)) (cond (eqb x 0x0D) 0 (suc (fieldStart separator (suc k) s)))
 
 -- field k of the segment that begins at offset `from` of the message. "A missing field reads as empty."
 unfoldable pub fieldOf : ℕ → ℕ → ℕ → List ℕ → Field
-fieldOf bar from k m =
-    record { start = from + startOf bar k (drop from m); length = fieldLength bar (drop (from + startOf bar k (drop from m)) m) }
+fieldOf separator from k m =
+    record { start = from + fieldStart separator k (drop from m); length = fieldLength separator (drop (from + fieldStart separator k (drop from m)) m) }
 
 -- the bytes of a field
 unfoldable pub bytesOf : Field → List ℕ → List ℕ
 bytesOf f m = take (f .length) (drop (f .start) m)
 
--- the bytes of field k of the segment with which s begins
-unfoldable pub field : ℕ → ℕ → List ℕ → List ℕ
-field bar k s = take (fieldLength bar (drop (startOf bar k s) s)) (drop (startOf bar k s) s)
-
 -- the offset of the CR that ends the segment with which s begins; the length of s where there is none
 abbrev pub segmentLength : List ℕ → ℕ
-segmentLength s = clear 13 13 s
-
--- fields with a bar between them
-abbrev pub joined : ℕ → List ℕ → List (List ℕ) → List ℕ
-joined bar f [] = f
-joined bar f (g ∷ gs) = f ++ bar ∷ joined bar g gs
-
--- a segment: its fields, and CR
-abbrev pub segment : ℕ → List ℕ → List (List ℕ) → List ℕ
-segment bar f fs = joined bar f fs ++ 13 ∷ []
+segmentLength s = clear 0x0D 0x0D s

@@ -2,8 +2,10 @@
 ghost use mathlib.Core.Path.{_≡_};
 ghost use Prim.Native.Nat.{_+_};
 ghost use lib.ListN.{drop};
-ghost use Rattle.lists.specs.Bytes.{clear};
-ghost use Rattle.fields.specs.Fields.{startOf, fieldOf, bytesOf};
+ghost use Rattle.fields.specs.Fields.{fieldLength, fieldStart, fieldOf, bytesOf};
+
+// The field separator of document 01.
+pub const BAR: u8 = b'|';
 
 // Where a field stands in the message.
 pub struct Field {
@@ -13,7 +15,7 @@ pub struct Field {
 
 // The offset of the first separator or CR from `from` on, or the message's end.
 pub fn field_end(message: &[u8], from: usize, separator: u8) -> usize
-    ensures { λ r. ⌜ r ≡ from + clear separator 13 (drop from (now (message .entry))) ⌝ }
+    ensures { λ r. ⌜ r ≡ from + fieldLength separator (drop from (now (message .entry))) ⌝ }
 {
     let mut i = from;
     while i < message.len() {
@@ -21,7 +23,7 @@ pub fn field_end(message: &[u8], from: usize, separator: u8) -> usize
         if x == separator {
             return i;
         }
-        if x == 13 {
+        if x == b'\r' {
             return i;
         }
         i += 1;
@@ -31,7 +33,7 @@ pub fn field_end(message: &[u8], from: usize, separator: u8) -> usize
 
 // The offset after `count` separators of the segment that begins at `from`, or its end where it has fewer.
 fn field_start(message: &[u8], from: usize, separator: u8, count: usize) -> usize
-    ensures { λ r. ⌜ r ≡ from + startOf separator count (drop from (now (message .entry))) ⌝ }
+    ensures { λ r. ⌜ r ≡ from + fieldStart separator count (drop from (now (message .entry))) ⌝ }
 {
     let mut i = from;
     let mut left = count;

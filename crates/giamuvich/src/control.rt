@@ -1,8 +1,9 @@
 // The sender's control blocks.
 use settings::Settings;
 ghost use mathlib.Core.Path.{_≡_};
-ghost use Rattle.settings.specs.Settings.{hybridOf, minimalOf};
-ghost use Rattle.block_calls.specs.WriteCalls.{writeCalled};
+ghost use mathlib.Core.List.{[]};
+ghost use Rattle.lists.specs.Outcome.{called};
+ghost use Rattle.settings.specs.Settings.{hybridLink, minimalLink};
 ghost use Rattle.message_calls.specs.ControlCalls.{controlBlockCall};
 
 #[no_mangle]
@@ -16,10 +17,10 @@ pub extern "C" fn gmv_hybrid_control_block(
     start: usize,
     report: &mut [u64],
 ) -> u64
-    ensures { λ r. ⌜ writeCalled r (now (buffer .exit)) (now (report .exit)) ≡ controlBlockCall (hybridOf «start_block» «end_block» «data_limit») (now (letters .entry)) number (now (buffer .entry)) start (now (report .entry)) ⌝ }
+    ensures { λ r. ⌜ called r [] (now (buffer .exit)) (now (report .exit)) ≡ controlBlockCall (hybridLink «start_block» «end_block» «data_limit») (now (letters .entry)) number (now (buffer .entry)) start (now (report .entry)) ⌝ }
 {
     message_calls::control_block_words(
-        Settings::hybrid(start_block, end_block, data_limit),
+        Settings::hybrid_link(start_block, end_block, data_limit),
         letters,
         number,
         buffer,
@@ -37,10 +38,10 @@ pub extern "C" fn gmv_minimal_control_block(
     start: usize,
     report: &mut [u64],
 ) -> u64
-    ensures { λ r. ⌜ writeCalled r (now (buffer .exit)) (now (report .exit)) ≡ controlBlockCall (minimalOf «data_limit») (now (letters .entry)) number (now (buffer .entry)) start (now (report .entry)) ⌝ }
+    ensures { λ r. ⌜ called r [] (now (buffer .exit)) (now (report .exit)) ≡ controlBlockCall (minimalLink «data_limit») (now (letters .entry)) number (now (buffer .entry)) start (now (report .entry)) ⌝ }
 {
     message_calls::control_block_words(
-        Settings::minimal(data_limit),
+        Settings::minimal_link(data_limit),
         letters,
         number,
         buffer,

@@ -1,12 +1,14 @@
 // The receiver.
 use settings::Settings;
 ghost use mathlib.Core.Path.{_≡_};
-ghost use Rattle.settings.specs.Settings.{hybridOf, minimalOf};
-ghost use Rattle.receiver_calls.specs.ReceiverCalls.{fresh, freshCall, called, receiveCall};
+ghost use mathlib.Core.List.{[]};
+ghost use Rattle.lists.specs.Outcome.{called};
+ghost use Rattle.settings.specs.Settings.{hybridLink, minimalLink};
+ghost use Rattle.receiver_calls.specs.ReceiverCalls.{freshCall, receiveCall};
 
 #[no_mangle]
 pub extern "C" fn gmv_receiver_fresh(state: &mut [u64]) -> u64
-    ensures { λ r. ⌜ fresh r (now (state .exit)) ≡ freshCall (now (state .entry)) ⌝ }
+    ensures { λ r. ⌜ called r (now (state .exit)) [] [] ≡ freshCall (now (state .entry)) ⌝ }
 {
     receiver_calls::fresh_receiver_words(state)
 }
@@ -25,10 +27,10 @@ pub extern "C" fn gmv_hybrid_receive(
     start: usize,
     report: &mut [u64],
 ) -> u64
-    ensures { λ r. ⌜ called r (now (state .exit)) (now (buffer .exit)) (now (report .exit)) ≡ receiveCall (hybridOf «start_block» «end_block» «data_limit») application (now (state .entry)) «block_number» «block_type» (now (content .entry)) (now (buffer .entry)) start (now (report .entry)) ⌝ }
+    ensures { λ r. ⌜ called r (now (state .exit)) (now (buffer .exit)) (now (report .exit)) ≡ receiveCall (hybridLink «start_block» «end_block» «data_limit») application (now (state .entry)) «block_number» «block_type» (now (content .entry)) (now (buffer .entry)) start (now (report .entry)) ⌝ }
 {
     receiver_calls::received_words(
-        Settings::hybrid(start_block, end_block, data_limit),
+        Settings::hybrid_link(start_block, end_block, data_limit),
         application,
         state,
         block_number,
@@ -52,10 +54,10 @@ pub extern "C" fn gmv_minimal_receive(
     start: usize,
     report: &mut [u64],
 ) -> u64
-    ensures { λ r. ⌜ called r (now (state .exit)) (now (buffer .exit)) (now (report .exit)) ≡ receiveCall (minimalOf «data_limit») application (now (state .entry)) «block_number» «block_type» (now (content .entry)) (now (buffer .entry)) start (now (report .entry)) ⌝ }
+    ensures { λ r. ⌜ called r (now (state .exit)) (now (buffer .exit)) (now (report .exit)) ≡ receiveCall (minimalLink «data_limit») application (now (state .entry)) «block_number» «block_type» (now (content .entry)) (now (buffer .entry)) start (now (report .entry)) ⌝ }
 {
     receiver_calls::received_words(
-        Settings::minimal(data_limit),
+        Settings::minimal_link(data_limit),
         application,
         state,
         block_number,

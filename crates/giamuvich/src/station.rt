@@ -1,12 +1,13 @@
 // The X3.28 receiving station.
 ghost use mathlib.Core.Path.{_≡_};
 ghost use mathlib.Core.List.{[]};
-ghost use Rattle.station_calls.specs.StationCalls.{called, freshCall, openCall, nakCall, endCall, blockCall};
+ghost use Rattle.lists.specs.Outcome.{called};
+ghost use Rattle.station_calls.specs.StationCalls.{freshStationCall, openStationCall, badBlockCall, eotCall, goodBlockCall};
 
 // A closed station.
 #[no_mangle]
 pub extern "C" fn gmv_station_fresh(state: &mut [u64]) -> u64
-    ensures { λ r. ⌜ called r (now (state .exit)) [] [] ≡ freshCall (now (state .entry)) ⌝ }
+    ensures { λ r. ⌜ called r (now (state .exit)) [] [] ≡ freshStationCall (now (state .entry)) ⌝ }
 {
     station_calls::fresh_station_words(state)
 }
@@ -14,7 +15,7 @@ pub extern "C" fn gmv_station_fresh(state: &mut [u64]) -> u64
 // The driver opened the station.
 #[no_mangle]
 pub extern "C" fn gmv_station_open(state: &mut [u64], report: &mut [u64]) -> u64
-    ensures { λ r. ⌜ called r (now (state .exit)) [] (now (report .exit)) ≡ openCall (now (state .entry)) (now (report .entry)) ⌝ }
+    ensures { λ r. ⌜ called r (now (state .exit)) [] (now (report .exit)) ≡ openStationCall (now (state .entry)) (now (report .entry)) ⌝ }
 {
     station_calls::opened_words(state, report)
 }
@@ -29,7 +30,7 @@ pub extern "C" fn gmv_station_block(
     state: &mut [u64],
     report: &mut [u64],
 ) -> u64
-    ensures { λ r. ⌜ called r (now (state .exit)) (now (buffer .exit)) (now (report .exit)) ≡ blockCall number ending (now (text .entry)) (now (buffer .entry)) (now (state .entry)) (now (report .entry)) ⌝ }
+    ensures { λ r. ⌜ called r (now (state .exit)) (now (buffer .exit)) (now (report .exit)) ≡ goodBlockCall number ending (now (text .entry)) (now (buffer .entry)) (now (state .entry)) (now (report .entry)) ⌝ }
 {
     station_calls::block_words(number, ending, text, buffer, state, report)
 }
@@ -37,7 +38,7 @@ pub extern "C" fn gmv_station_block(
 // A bad block.
 #[no_mangle]
 pub extern "C" fn gmv_station_bad(state: &mut [u64], report: &mut [u64]) -> u64
-    ensures { λ r. ⌜ called r (now (state .exit)) [] (now (report .exit)) ≡ nakCall (now (state .entry)) (now (report .entry)) ⌝ }
+    ensures { λ r. ⌜ called r (now (state .exit)) [] (now (report .exit)) ≡ badBlockCall (now (state .entry)) (now (report .entry)) ⌝ }
 {
     station_calls::bad_words(state, report)
 }
@@ -45,15 +46,15 @@ pub extern "C" fn gmv_station_bad(state: &mut [u64], report: &mut [u64]) -> u64
 // A block ended by ENQ.
 #[no_mangle]
 pub extern "C" fn gmv_station_enquiry(state: &mut [u64], report: &mut [u64]) -> u64
-    ensures { λ r. ⌜ called r (now (state .exit)) [] (now (report .exit)) ≡ nakCall (now (state .entry)) (now (report .entry)) ⌝ }
+    ensures { λ r. ⌜ called r (now (state .exit)) [] (now (report .exit)) ≡ badBlockCall (now (state .entry)) (now (report .entry)) ⌝ }
 {
-    station_calls::enquiry_words(state, report)
+    station_calls::bad_words(state, report)
 }
 
 // EOT was received.
 #[no_mangle]
 pub extern "C" fn gmv_station_end(state: &mut [u64], report: &mut [u64]) -> u64
-    ensures { λ r. ⌜ called r (now (state .exit)) [] (now (report .exit)) ≡ endCall (now (state .entry)) (now (report .entry)) ⌝ }
+    ensures { λ r. ⌜ called r (now (state .exit)) [] (now (report .exit)) ≡ eotCall (now (state .entry)) (now (report .entry)) ⌝ }
 {
     station_calls::end_words(state, report)
 }

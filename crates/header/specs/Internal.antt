@@ -3,8 +3,9 @@ use mathlib.Core.List.{List}
 use mathlib.Core.Bool.{cond, _&&_}
 use Prim.Native.Nat.{ℕ}
 use lib.ListN.{drop}
-use Rattle.fields.specs.Fields.{fieldOf, segmentLength}
-use Rattle.header.specs.Header.{bar, begins, ended, controlIdField, sequenceField, readableHeader}
+use Rattle.lists.specs.Bytes.{bytes}
+use Rattle.fields.specs.Fields.{bar, fieldOf, segmentLength}
+use Rattle.header.specs.Header.{begins, ended, controlIdField, sequenceField, readableHeader}
 use Rattle.header.specs.declared.Scanned.{Scanned}
 use Rattle.header.specs.declared.Scanned.the-variants.{Unreadable, Readable}
 use Rattle.header.specs.declared.Acknowledgment.{Acknowledgment}
@@ -17,4 +18,4 @@ scannedOf m = cond (readableHeader m) (Readable (controlIdField m) (sequenceFiel
 -- the MSA segment that begins at an offset
 unfoldable pub acknowledgmentAt : ℕ → List ℕ → Acknowledgment
 acknowledgmentAt from m =
-    cond (begins 77 83 65 (drop from m) && ended (drop from m)) (AnAnswer (fieldOf bar from 1 m) (fieldOf bar from 2 m) (fieldOf bar from 4 m)) NoAnswer
+    cond (begins (bytes "MSA|") (drop from m) && ended (drop from m)) (AnAnswer (fieldOf bar from 1 m) (fieldOf bar from 2 m) (fieldOf bar from 4 m)) NoAnswer

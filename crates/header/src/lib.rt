@@ -1,15 +1,15 @@
 // What the receiver and the sender read of a message: MSH-10, MSH-13, and of an answer MSA-1, MSA-2 and MSA-4.
+use fields::BAR;
 use fields::Field;
 use fields::field_end;
 use fields::find_field;
 ghost use mathlib.Core.Path.{_≡_};
+ghost use mathlib.Core.List.{[], _∷_};
 ghost use Prim.Native.Nat.{_≤_};
 ghost use lib.ListN.{length};
+ghost use Rattle.fields.specs.Fields.{bar};
 ghost use Rattle.header.specs.Header.{begins, headerOf, acknowledgmentOf, codeField};
 ghost use Rattle.header.specs.Internal.{scannedOf, acknowledgmentAt};
-
-// The field separator.
-const BAR: u8 = 124;
 
 // A message's header: refused by 9, or where MSH-10 and MSH-13 stand.
 pub enum Header {
@@ -44,7 +44,7 @@ enum Scanned {
 
 // Whether a segment begins with these letters and a bar.
 fn begins_with(segment: &[u8], first: u8, second: u8, third: u8) -> bool
-    ensures { λ r. ⌜ r ≡ begins first second third (now (segment .entry)) ⌝ }
+    ensures { λ r. ⌜ r ≡ begins (first ∷ second ∷ third ∷ bar ∷ []) (now (segment .entry)) ⌝ }
 {
     if segment.len() < 4 {
         return false;
@@ -56,12 +56,12 @@ fn begins_with(segment: &[u8], first: u8, second: u8, third: u8) -> bool
 fn scan_header(message: &[u8]) -> Scanned
     ensures { λ r. ⌜ r ≡ scannedOf (now (message .entry)) ⌝ }
 {
-    if !begins_with(message, 77, 83, 72) {
+    if !begins_with(message, b'M', b'S', b'H') {
         return Scanned::Unreadable;
     }
     let control_id = find_field(message, 0, BAR, 9);
     let sequence = find_field(message, control_id.start, BAR, 3);
-    let end = field_end(message, sequence.start + sequence.length, 13);
+    let end = field_end(message, sequence.start + sequence.length, b'\r');
     if message.len() <= end {
         return Scanned::Unreadable;
     }
@@ -89,13 +89,13 @@ fn scan_acknowledgment(message: &[u8], from: usize) -> Acknowledgment
     requires { ⌜ from ≤ length (now message) ⌝ }
     ensures { λ r. ⌜ r ≡ acknowledgmentAt from (now (message .entry)) ⌝ }
 {
-    if !begins_with(&message[from..], 77, 83, 65) {
+    if !begins_with(&message[from..], b'M', b'S', b'A') {
         return Acknowledgment::Unreadable;
     }
     let code = find_field(message, from, BAR, 1);
     let control_id = find_field(message, code.start, BAR, 1);
     let expected = find_field(message, control_id.start, BAR, 2);
-    let end = field_end(message, expected.start + expected.length, 13);
+    let end = field_end(message, expected.start + expected.length, b'\r');
     if message.len() <= end {
         return Acknowledgment::Unreadable;
     }
@@ -121,16 +121,16 @@ pub fn read_code(field: &[u8]) -> CodeField
     }
     let first = field[0];
     let second = field[1];
-    if first != 65 {
+    if first != b'A' {
         return CodeField::Other;
     }
-    if second == 65 {
+    if second == b'A' {
         return CodeField::Known(Code::AA);
     }
-    if second == 69 {
+    if second == b'E' {
         return CodeField::Known(Code::AE);
     }
-    if second == 82 {
+    if second == b'R' {
         return CodeField::Known(Code::AR);
     }
     CodeField::Other

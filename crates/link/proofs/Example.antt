@@ -10,7 +10,7 @@ use Rattle.numbers.specs.Numbers.{greatestSent, greatestExpected, textOf}
 use Rattle.numbers.specs.declared.SequenceNumber.the-variants.{Number}
 use Rattle.numbers.proofs.Reading.{text-length}
 use Rattle.messages.specs.Messages.{validType}
-use Rattle.message_theorems.proofs.Control.{whole-reads, whole-allowed}
+use Rattle.message_theorems.proofs.Control.{numbered-reads, numbered-allowed}
 use Rattle.receiver.specs.Receiver.{validExpected}
 use Rattle.receiver.specs.declared.Application.{Application}
 use Rattle.receiver.specs.declared.Expected.{Expected}
@@ -48,8 +48,8 @@ ready =
       name = type-valid;
       logged = λ n a b. record {
         fits = log-length n b;
-        allowed = whole-allowed admission (Number n) type-valid;
-        reads = whole-reads admission (Number n) type-valid (le-leb n greatestSent b) (let t = text-length (Number n) (le-leb n greatestExpected (omega arith)) .1 in omega (arith, t));
+        allowed = numbered-allowed admission (Number n) type-valid;
+        reads = numbered-reads admission (Number n) type-valid (le-leb n greatestSent b) (let t = text-length (Number n) (le-leb n greatestExpected (omega arith)) .1 in omega (arith, t));
       };
       reply = let z = blank-length 143 in omega (arith, z);
     }

@@ -1,38 +1,44 @@
--- One exchange on a good line: a message is written, read, stored, answered and heard.
+-- One exchange on a good line: a message is written, read, stored and answered, and its answer is read.
 use mathlib.Core.Path.{_≡_, refl, ap, _∙_}
 use mathlib.Core.List.{List, [], _∷_}
 use mathlib.Core.Bool.{Bool, true, false, cond}
 use Prim.Native.Nat.{ℕ}
+use Prim.Native.Char.{code}
 use lib.ListN.{length}
 use borrow.Author.Tests.{eq-eqb}
-use Rattle.lists.specs.Bytes.{put}
-use Rattle.verdict.specs.declared.Verdict.the-variants.{Accepted}
+use Rattle.lists.specs.Outcome.{Outcome}
 use Rattle.block.specs.Format.{blockOf}
 use Rattle.numbers.specs.Numbers.{textOf}
 use Rattle.numbers.specs.declared.SequenceNumber.{SequenceNumber}
 use Rattle.numbers.specs.declared.NumberField.the-variants.{Present}
-use Rattle.messages.specs.Messages.{answerMessage, validExpected as answerable}
-use Rattle.stream.specs.Stream.{Said, Mode, between, run, after}
-use Rattle.receiver.specs.Receiver.{validExpected, rowOf, Outcome, outcome}
+use Rattle.header.specs.declared.Code.{Code}
+use Rattle.messages.specs.Messages.{answerMessage, answerable}
+use Rattle.stream.specs.Stream.{Judged, Mode, between, run, after}
+use Rattle.receiver.specs.Receiver.{validExpected, rowOf, answerBlock, replied}
 use Rattle.receiver.specs.declared.Application.{Application}
 use Rattle.receiver.specs.declared.Expected.{Expected}
 use Rattle.receiver.specs.declared.Expected.the-variants.{Unknown, Next}
 use Rattle.receiver.specs.declared.Row.{Row}
-use Rattle.sender.specs.Sender.{blockReadOf}
+use Rattle.receiver.specs.declared.Received.{Received}
+use Rattle.sender.specs.Sender.{validSender, isOpen, waitsOf, answerOf}
 use Rattle.sender.specs.declared.Persisted.{Persisted}
+use Rattle.header.specs.declared.CodeField.the-variants.{Known}
 use Rattle.sender.specs.declared.Sender.{Sender}
+use Rattle.sender.specs.declared.NumberedMessage.the-variants.{Numbered}
 use Rattle.sender.specs.declared.Acted.{Acted}
-use Rattle.link.specs.SenderHistory.{Entry, told}
 use Rattle.block_theorems.specs.Shapes.{Writable, accepted}
 use Rattle.block_theorems.proofs.RoundTrip.{reads-back}
-use Rattle.link.specs.Line.{Reader}
-use Rattle.link.specs.System.{Link, System, SendingEnd, ReceivingEnd, requestOf, namedAfter, actedEnd, sameFlag, samePersisted, hearsAll, withReader, storedWith, receivedWith, readsAll, readingWith, sameExpected, isKept, stores, writes, keeps, answers}
+use Rattle.link.specs.SenderHistory.{Entry, reported}
+use Rattle.link.specs.Line.{Reader, Line, line, newReader}
+use Rattle.link.specs.System.{Link, System, SendingEnd, Stored, stored, sending, ReceivingEnd, receiving, link, requestOf, namedAfter, actedEnd, sameFlag}
+use Rattle.link.specs.System.{samePersisted, answersRead, hasWith, receivedWith, requestsRead, sameExpected, sameStored, senderPersists, senderWrites, receiverPersists, receiverWrites}
 use Rattle.link.specs.Promise.{Ready}
-use Rattle.link.proofs.Messages.{Nameable, request-control, request-writable, answer-writable, data-read}
+use Rattle.link.proofs.Messages.{Nameable, SayableAnswer, request-control, request-writable, answer-writable, data-read}
 use Rattle.link.proofs.Receiving.{received}
-use Rattle.link.proofs.Reading.{reply-is}
+use Rattle.link.proofs.RequestsRead.{reply-is}
+use Rattle.link.proofs.AnswersRead.{read-own}
 use Rattle.link.proofs.Bytes.{alone}
-use Rattle.link.proofs.Through.{Reaches, act, join, to, readerThrough, read-through, hear-through, through-mode}
+use Rattle.link.proofs.Runs.{Reaches, act, join, to, readerThrough, verdictsOf, read-requests, read-answers, through-mode}
 
 flag-same : (b : Bool) → sameFlag b b ≡ true
 flag-same true = refl
@@ -46,113 +52,145 @@ expected-same : (e : Expected) → sameExpected e e ≡ true
 expected-same Unknown = refl
 expected-same (Next n) = eq-eqb n n refl
 
--- ends with all stored
-abbrev pub sendingAt : Sender → List SequenceNumber → Reader → List Entry → SendingEnd
-sendingAt s ns r h = record { sender = s; persisted = s .persisted; named = ns; reader = r; history = h }
+stored-same : (x : Stored) → sameStored x x ≡ true
+stored-same x = rw (expected-same (x .expected), eq-eqb (length (x .has)) (length (x .has)) refl)
 
-abbrev pub receivingAt : Expected → List (List ℕ) → List (List ℕ) → Reader → ReceivingEnd
-receivingAt e ts os r = record { expected = e; has = ts; keptExpected = e; keptHas = ts; owed = os; reader = r }
+-- a reader between blocks
+pub record Resting : Type 0 where
+  pub reader : Reader
+  pub rests : reader .mode ≡ between
 
-abbrev pub quietAt : SendingEnd → ReceivingEnd → System
-quietAt s e = record { sending = s; receiving = e; forward = []; back = [] }
+abbrev pub resting : Resting
+resting = record { reader = newReader; rests = refl }
 
-kept-same : (e : Expected) (ts os : List (List ℕ)) (r : Reader) → isKept (receivingAt e ts os r) ≡ true
-kept-same e ts os r = rw (expected-same e, eq-eqb (length ts) (length ts) refl)
+-- a sender's end with all persisted
+abbrev pub sendingAt : Sender → List SequenceNumber → List Entry → SendingEnd
+sendingAt s ns h = sending s (s .persisted) ns h
 
-module _ (l : Link) (rd : Ready l) (a : Application) where
+-- both ends have persisted all, no reply is pending, and the lines are empty
+abbrev pub quietAt : SendingEnd → Stored → Resting → Resting → System
+quietAt s x far own = link s (receiving x x []) (line (far .reader) []) (line (own .reader) [])
+
+-- some run leads to such ends
+pub record Comes (l : Link) (y : System) (s : SendingEnd) (x : Stored) : Type 0 where
+  pub far : Resting
+  pub own : Resting
+  pub run : Reaches l y (quietAt s x far own)
+
+module _ (l : Link) (rd : Ready l) where
   -- a block of data that is all that is on the line
-  module _ (d : List ℕ) (w : Writable (l .settings) 68 d) (r : Reader) (start : r .mode ≡ between) where
-    pub block-says : run (l .settings) (r .offset) (r .mode) (blockOf (l .settings) 68 d) ≡ accepted (r .offset) 68 d ∷ []
+  module _ (d : List ℕ) (w : Writable (l .settings) (code "D") d) (r : Resting) where
+    pub block-says : verdictsOf l (r .reader) (blockOf (l .settings) (code "D") d) ≡ accepted (r .reader .offset) (code "D") d ∷ []
     block-says =
-        ap (λ (m : Mode). run (l .settings) (r .offset) m (blockOf (l .settings) 68 d)) start
-        ∙ alone (l .settings) 68 d w (r .offset)
-        ∙ ap (λ (t : ℕ). accepted (r .offset) t d ∷ []) (data-read (l .settings) (rd .settings))
+        ap (λ (m : Mode). run (l .settings) (r .reader .offset) m (blockOf (l .settings) (code "D") d)) (r .rests)
+        ∙ alone (l .settings) (code "D") d w (r .reader .offset)
+        ∙ ap (λ (t : ℕ). accepted (r .reader .offset) t d ∷ []) (data-read (l .settings) (rd .settings))
 
-    pub block-rest : readerThrough l r (blockOf (l .settings) 68 d) .mode ≡ between
-    block-rest =
-        through-mode l (blockOf (l .settings) 68 d) r
-        ∙ ap (λ (m : Mode). after (l .settings) (r .offset) m (blockOf (l .settings) 68 d)) start
-        ∙ reads-back (l .settings) 68 d w .rest (r .offset)
+    abbrev pub afterBlock : Resting
+    afterBlock =
+        record {
+          reader = readerThrough l (r .reader) (blockOf (l .settings) (code "D") d);
+          rests =
+              through-mode l (blockOf (l .settings) (code "D") d) (r .reader)
+              ∙ ap (λ (m : Mode). after (l .settings) (r .reader .offset) m (blockOf (l .settings) (code "D") d)) (r .rests)
+              ∙ reads-back (l .settings) (code "D") d w .rest (r .reader .offset);
+        }
 
-  -- the message v is named and all else is quiet: it is answered by the row that it meets
-  module _ (s : Sender) (v : SequenceNumber) (r : Reader) (h : List Entry) (e : Expected) (ts : List (List ℕ)) (q : Reader) (r-mode : r .mode ≡ between) (q-mode : q .mode ≡ between) (nm : Nameable (l .first) v) (ve : validExpected e ≡ true) (sayable : answerable (rowOf a e (Present v) .number) ≡ true) where
-    abbrev row : Row
-    row = rowOf a e (Present v)
+  -- the answer to what waits is all that is on the line back: it is read, and what changed is persisted
+  module _ (s : Sender) (v : SequenceNumber) (valid : validSender s ≡ true) (on : isOpen (s .waiting) ≡ true) (names : waitsOf s ≡ Numbered v)
+      (d : Code) (m : SequenceNumber) (y : SayableAnswer v m) (k : Acted) (takes : answerOf s (Known d) (Present m) ≡ k) where
+    abbrev answer : List ℕ
+    answer = answerMessage (textOf v) d m
+
+    abbrev pub answerAble : Writable (l .settings) (code "D") answer
+    answerAble = answer-writable (l .settings) (rd .settings) v d m y
+
+    pub read-answer : (h : List Entry) (e : ReceivingEnd) (b : Line) (own : Resting)
+        → Reaches l (link (sendingAt s [] h) e b (line (own .reader) (blockOf (l .settings) (code "D") answer)))
+        (link (sendingAt (k .sender) (namedAfter [] k) (reported k ∷ h)) e b (line (afterBlock answer answerAble own .reader) []))
+    read-answer h e b own =
+        let end = line (readerThrough l (own .reader) (blockOf (l .settings) (code "D") answer)) [] in
+        join l
+        (to l (read-answers l (blockOf (l .settings) (code "D") answer) (own .reader) (sendingAt s [] h) e b)
+        (ap (λ (ws : List Judged). link (answersRead l (sendingAt s [] h) ws) e b end) (block-says answer answerAble own)
+        ∙ ap (λ (z : Acted). link (actedEnd (sendingAt s [] h) z) e b end) (read-own (l .resends) s v d m y (rd .resends) valid on names (length answer) ∙ takes)))
+        (act l senderPersists (link (actedEnd (sendingAt s [] h) k) e b end))
+
+  -- the message v is named and all else is quiet: it is written, read, stored, and answered by the row that it meets; and the answer is taken
+  module _ (a : Application) (s : Sender) (v : SequenceNumber) (valid : validSender s ≡ true) (on : isOpen (s .waiting) ≡ true)
+      (names : waitsOf s ≡ Numbered v) (nm : Nameable (l .first) v)
+      (x : Stored) (vx : validExpected (x .expected) ≡ true) (r : Row) (meets : rowOf a (x .expected) (Present v) ≡ r) (sayable : answerable (r .number) ≡ true)
+      (k : Acted) (takes : answerOf s (Known (r .code)) (Present (r .number)) ≡ k) (h : List Entry) (y : System) (i : Comes l y (sendingAt s (v ∷ []) h) x) where
+    abbrev far : Resting
+    far = i .far
+
+    abbrev own : Resting
+    own = i .own
 
     abbrev request : List ℕ
     request = requestOf l v
 
-    abbrev answer : List ℕ
-    answer = answerMessage (textOf v) (row .code) (row .number)
+    abbrev requestBlock : List ℕ
+    requestBlock = blockOf (l .settings) (code "D") request
 
-    abbrev answerBlock : List ℕ
-    answerBlock = blockOf (l .settings) 68 answer
+    abbrev reply : List ℕ
+    reply = answerBlock (l .settings) (textOf v) r
 
-    abbrev pub heardAct : Acted
-    heardAct = blockReadOf (l .resends) s (Accepted 68 (length answer)) answer
+    abbrev x' : Stored
+    x' = stored (r .persisted .expected) (hasWith (r .persisted .transaction) request (x .has))
 
-    ts' : List (List ℕ)
-    ts' = storedWith (row .persisted .transaction) request ts
-
-    able : Writable (l .settings) 68 request
+    able : Writable (l .settings) (code "D") request
     able = request-writable l rd v nm
 
-    answer-able : Writable (l .settings) 68 answer
-    answer-able = answer-writable (l .settings) (rd .settings) v (row .code) (row .number) (record { control = request-control l rd v nm; number = sayable })
+    says : SayableAnswer v (r .number)
+    says = record { control = request-control l rd v nm; number = sayable }
 
-    q' : Reader
-    q' = readerThrough l q (blockOf (l .settings) 68 request)
+    abbrev far' : Resting
+    far' = afterBlock request able far
+
+    abbrev own' : Resting
+    own' = afterBlock (answerMessage (textOf v) (r .code) (r .number)) (answerAble s v valid on names (r .code) (r .number) says k takes) own
+
+    -- the ends and lines, with the message and the reply on the way
+    abbrev at : ReceivingEnd → List ℕ → Reader → List ℕ → System
+    at e xs r bs = link (sendingAt s [] h) e (line r xs) (line (own .reader) bs)
 
     -- written
-    step-1 : Reaches l (quietAt (sendingAt s (v ∷ []) r h) (receivingAt e ts [] q)) (record { sending = sendingAt s [] r h; receiving = receivingAt e ts [] q; forward = blockOf (l .settings) 68 request; back = [] })
+    step-1 : Reaches l (quietAt (sendingAt s (v ∷ []) h) x far own) (at (receiving x x []) requestBlock (far .reader) [])
     step-1 =
-        to l (act l writes (quietAt (sendingAt s (v ∷ []) r h) (receivingAt e ts [] q)))
-        (ap (λ (b : Bool). cond b (record { sending = sendingAt s [] r h; receiving = receivingAt e ts [] q; forward = blockOf (l .settings) 68 request; back = [] }) (quietAt (sendingAt s (v ∷ []) r h) (receivingAt e ts [] q))) (persisted-same (s .persisted)))
+        let z = quietAt (sendingAt s (v ∷ []) h) x far own in
+        to l (act l senderWrites z)
+        (ap (λ (b : Bool). cond b (at (receiving x x []) requestBlock (far .reader) []) z) (persisted-same (s .persisted)))
 
-    outcomeHere : Outcome
-    outcomeHere = outcome (record { number = 0; persisted = row .persisted; «reply_length» = length answerBlock }) (put (l .reply) 0 answerBlock)
+    outcomeOf : Row → Outcome Received
+    outcomeOf z = replied 0 (z .persisted) (answerBlock (l .settings) (textOf v) z) 0 (l .reply)
 
-    reading : readsAll l a (receivingAt e ts [] q) (run (l .settings) (q .offset) (q .mode) (blockOf (l .settings) 68 request))
-        ≡ record { expected = row .persisted .expected; has = ts'; keptExpected = e; keptHas = ts; owed = answerBlock ∷ []; reader = q }
-    unfolding outcomeHere ts'
-    reading =
-        ap (λ (ws : List Said). readsAll l a (receivingAt e ts [] q) ws) (block-says request able q q-mode)
-        ∙ ap (λ (o : Outcome). receivedWith (receivingAt e ts [] q) request o) (received l rd a e ve v nm (length request))
-        ∙ ap (λ (os : List (List ℕ)). record { expected = row .persisted .expected; has = storedWith (row .persisted .transaction) request ts; keptExpected = e; keptHas = ts; owed = os; reader = q }) (reply-is (l .settings) 68 answer (l .reply) outcomeHere refl refl)
+    decided : requestsRead l a (receiving x x []) (verdictsOf l (far .reader) requestBlock) ≡ receiving x' x (reply ∷ [])
+    unfolding outcomeOf
+    decided =
+        ap (λ (ws : List Judged). requestsRead l a (receiving x x []) ws) (block-says request able far)
+        ∙ ap (λ (o : Outcome Received). receivedWith (receiving x x []) request o) (received l rd a (x .expected) vx v nm (length request) ∙ ap outcomeOf meets)
+        ∙ ap (λ (bs : List (List ℕ)). receiving x' x bs) (reply-is (l .settings) (code "D") (answerMessage (textOf v) (r .code) (r .number)) (l .reply) (outcomeOf r) refl refl)
 
     -- read
-    step-2 : Reaches l (record { sending = sendingAt s [] r h; receiving = receivingAt e ts [] q; forward = blockOf (l .settings) 68 request; back = [] })
-        (record { sending = sendingAt s [] r h; receiving = record { expected = row .persisted .expected; has = ts'; keptExpected = e; keptHas = ts; owed = answerBlock ∷ []; reader = q' }; forward = []; back = [] })
-    unfolding q'
+    step-2 : Reaches l (at (receiving x x []) requestBlock (far .reader) []) (at (receiving x' x (reply ∷ [])) [] (far' .reader) [])
     step-2 =
-        to l (read-through l a (blockOf (l .settings) 68 request) (sendingAt s [] r h) (receivingAt e ts [] q) [])
-        (ap (λ (k : ReceivingEnd). record { sending = sendingAt s [] r h; receiving = readingWith k (readerThrough l q (blockOf (l .settings) 68 request)); forward = []; back = [] }) reading)
+        to l (read-requests l a requestBlock (far .reader) (sendingAt s [] h) (receiving x x []) (line (own .reader) []))
+        (ap (λ (e : ReceivingEnd). at e [] (far' .reader) []) decided)
 
-    -- stored, and answered
-    step-3 : Reaches l (record { sending = sendingAt s [] r h; receiving = record { expected = row .persisted .expected; has = ts'; keptExpected = e; keptHas = ts; owed = answerBlock ∷ []; reader = q' }; forward = []; back = [] })
-        (record { sending = sendingAt s [] r h; receiving = receivingAt (row .persisted .expected) ts' [] q'; forward = []; back = answerBlock })
+    -- persisted, and answered
+    step-3 : Reaches l (at (receiving x' x (reply ∷ [])) [] (far' .reader) []) (at (receiving x' x' []) [] (far' .reader) reply)
     step-3 =
-        join l (act l keeps (record { sending = sendingAt s [] r h; receiving = record { expected = row .persisted .expected; has = ts'; keptExpected = e; keptHas = ts; owed = answerBlock ∷ []; reader = q' }; forward = []; back = [] }))
-        (to l (act l answers (quietAt (sendingAt s [] r h) (receivingAt (row .persisted .expected) ts' (answerBlock ∷ []) q')))
-        (ap (λ (b : Bool). cond b (record { sending = sendingAt s [] r h; receiving = receivingAt (row .persisted .expected) ts' [] q'; forward = []; back = answerBlock }) (quietAt (sendingAt s [] r h) (receivingAt (row .persisted .expected) ts' (answerBlock ∷ []) q')))
-        (kept-same (row .persisted .expected) ts' (answerBlock ∷ []) q')))
+        let z = at (receiving x' x' (reply ∷ [])) [] (far' .reader) [] in
+        join l (act l receiverPersists (at (receiving x' x (reply ∷ [])) [] (far' .reader) []))
+        (to l (act l receiverWrites z) (ap (λ (b : Bool). cond b (at (receiving x' x' []) [] (far' .reader) reply) z) (stored-same x')))
 
-    -- heard, and stored
-    step-4 : Reaches l (record { sending = sendingAt s [] r h; receiving = receivingAt (row .persisted .expected) ts' [] q'; forward = []; back = answerBlock })
-        (quietAt (sendingAt (heardAct .sender) (namedAfter [] heardAct) (readerThrough l r answerBlock) (told heardAct ∷ h)) (receivingAt (row .persisted .expected) ts' [] q'))
-    step-4 =
-        join l
-        (to l (hear-through l answerBlock (sendingAt s [] r h) (receivingAt (row .persisted .expected) ts' [] q') [])
-        (ap (λ (ws : List Said). record { sending = withReader (hearsAll l (sendingAt s [] r h) ws) (readerThrough l r answerBlock); receiving = receivingAt (row .persisted .expected) ts' [] q'; forward = []; back = [] }) (block-says answer answer-able r r-mode)))
-        (act l stores (record { sending = withReader (actedEnd (sendingAt s [] r h) heardAct) (readerThrough l r answerBlock); receiving = receivingAt (row .persisted .expected) ts' [] q'; forward = []; back = [] }))
-
-    pub exchange : Reaches l (quietAt (sendingAt s (v ∷ []) r h) (receivingAt e ts [] q))
-        (quietAt (sendingAt (heardAct .sender) (namedAfter [] heardAct) (readerThrough l r answerBlock) (told heardAct ∷ h)) (receivingAt (row .persisted .expected) (storedWith (row .persisted .transaction) request ts) [] (readerThrough l q (blockOf (l .settings) 68 request))))
-    unfolding ts' q'
-    exchange = join l step-1 (join l step-2 (join l step-3 step-4))
-
-    pub sending-rest : readerThrough l r answerBlock .mode ≡ between
-    sending-rest = block-rest answer answer-able r r-mode
-
-    pub receiving-rest : readerThrough l q (blockOf (l .settings) 68 request) .mode ≡ between
-    receiving-rest = block-rest request able q q-mode
+    pub exchange : Comes l y (sendingAt (k .sender) (namedAfter [] k) (reported k ∷ h)) x'
+    exchange =
+        record {
+          far = far';
+          own = own';
+          run =
+              join l (i .run)
+              (join l step-1 (join l step-2 (join l step-3 (read-answer s v valid on names (r .code) (r .number) says k takes h (receiving x' x' []) (line (far' .reader) []) own))));
+        }

@@ -1,13 +1,14 @@
 -- The messages of a link: each can be written as a block and reads as what it is.
 use mathlib.Core.Path.{_≡_, refl, sym, ap, subst}
 use mathlib.Core.List.{List, [], _∷_}
-use mathlib.Core.Bool.{Bool, true, false, cond, _||_}
+use mathlib.Core.Bool.{Bool, true, false, cond}
 use Prim.Native.Nat.{ℕ, _+_, _≤_}
+use Prim.Native.Char.{code}
 use native.Mathlib.Omega.{arith}
 use lib.ListN.{length, take, drop}
 use lib.Seq.{take-append-seam}
 use lib.Dec.{leb, eqb}
-use borrow.Author.Tests.{leb-true, eqb-true, ne-eqb}
+use borrow.Author.Tests.{leb-true, ne-eqb}
 use Rattle.lists.specs.Bytes.{put}
 use Rattle.lists.proofs.Tests.{and-left, and-right}
 use Rattle.settings.specs.Settings.{byKind, valid, validLink}
@@ -23,7 +24,7 @@ use Rattle.numbers.specs.declared.SequenceNumber.{SequenceNumber}
 use Rattle.numbers.specs.declared.SequenceNumber.the-variants.{MinusOne, Number}
 use Rattle.numbers.proofs.Reading.{text-allowed}
 use Rattle.header.specs.declared.Code.{Code}
-use Rattle.messages.specs.Messages.{answerMessage, controlMessage, validControlId, validExpected as answerable}
+use Rattle.messages.specs.Messages.{answerMessage, controlMessage, validControlId, answerable}
 use Rattle.messages.specs.declared.Control.{Control}
 use Rattle.messages.specs.declared.Control.the-variants.{Resynchronize, Query}
 use Rattle.message_theorems.specs.ReadBack.{ReadsControl}
@@ -31,6 +32,8 @@ use Rattle.message_theorems.proofs.Answer.{answer-allowed, answer-length}
 use Rattle.message_theorems.proofs.Control.{control-reads-back, control-allowed, control-length}
 use Rattle.message_theorems.proofs.HandedOut.{handed-out}
 use Rattle.block_theorems.specs.Shapes.{typeRead, Writable}
+use Rattle.receiver.specs.Receiver.{reasonOf, nakBlock}
+use Rattle.receiver.proofs.Laws.{reason-is, reason-allowed}
 use Rattle.link.specs.Line.{Arrival, arrival}
 use Rattle.link.specs.System.{Link, requestOf}
 use Rattle.link.specs.Promise.{Ready}
@@ -38,15 +41,15 @@ use Rattle.link.proofs.Queues.{Answer, replies, refuses}
 
 -- ---- as blocks on the line
 abbrev pub asRequest : Link → SequenceNumber → Arrival
-asRequest l v = arrival 68 (requestOf l v)
+asRequest l v = arrival (code "D") (requestOf l v)
 
 abbrev pub asAnswer : Answer → Arrival
-asAnswer (replies v c n) = arrival 68 (answerMessage (textOf v) c n)
-asAnswer (refuses r) = arrival 78 (r ∷ [])
+asAnswer (replies v c n) = arrival (code "D") (answerMessage (textOf v) c n)
+asAnswer (refuses n) = arrival (code "N") (reasonOf n ∷ [])
 
 abbrev pub asBlock : Settings → Answer → List ℕ
-asBlock g (replies v c n) = blockOf g 68 (answerMessage (textOf v) c n)
-asBlock g (refuses r) = blockOf g 78 (r ∷ [])
+asBlock g (replies v c n) = blockOf g (code "D") (answerMessage (textOf v) c n)
+asBlock g (refuses n) = nakBlock g n
 
 -- ---- what can be named, and what can be said
 pub data Nameable (f : ℕ) : SequenceNumber → Type 0 where
@@ -58,27 +61,11 @@ pub record SayableAnswer (v n : SequenceNumber) : Type 0 where
   pub control : validControlId (textOf v) ≡ true
   pub number : answerable n ≡ true
 
-pub record SayableNak (g : Settings) (r : ℕ) : Type 0 where
-  pub kind : g .kind ≡ Hybrid
-  pub reason : isReason (r ∷ []) ≡ true
-
 abbrev pub Sayable : Settings → Answer → Type 0
 Sayable g (replies v c n) = SayableAnswer v n
-Sayable g (refuses r) = SayableNak g r
+Sayable g (refuses n) = g .kind ≡ Hybrid
 
-or-cases : (a b : Bool) → (a || b) ≡ true → (P : Type 0) → (a ≡ true → P) → (b ≡ true → P) → P
-or-cases true b e P f g = f refl
-or-cases false b e P f g = g e
-
-reason-allowed : (r : ℕ) → isReason (r ∷ []) ≡ true → allAllowed (r ∷ []) ≡ true
-reason-allowed r h =
-    or-cases (eqb r 67 || eqb r 88 || eqb r 66) (eqb r 71) h (allAllowed (r ∷ []) ≡ true)
-    (λ e. or-cases (eqb r 67 || eqb r 88) (eqb r 66) e (allAllowed (r ∷ []) ≡ true)
-    (λ f. or-cases (eqb r 67) (eqb r 88) f (allAllowed (r ∷ []) ≡ true) (λ g. rw (eqb-true r 67 g)) (λ g. rw (eqb-true r 88 g)))
-    (λ f. rw (eqb-true r 66 f)))
-    (λ e. rw (eqb-true r 71 e))
-
-nak-matches : (r : ℕ) → isReason (r ∷ []) ≡ true → typeValid Hybrid 78 (r ∷ []) ≡ true
+nak-matches : (r : ℕ) → isReason (r ∷ []) ≡ true → typeValid Hybrid (code "N") (r ∷ []) ≡ true
 unfolding typeMatches
 nak-matches r h = h
 
@@ -91,37 +78,44 @@ module _ (g : Settings) (h : validLink g ≡ true) where
   unfolding validLink
   link-limit = leb-true 128 (g .«data_limit») (and-right (valid g) (leb 128 (g .«data_limit»)) h)
 
-  data-type : (d : List ℕ) → typeValid (g .kind) 68 d ≡ true
+  data-type : (d : List ℕ) → typeValid (g .kind) (code "D") d ≡ true
   unfolding typeMatches
   data-type d = go (g .kind)
     where
-      go : (k : Kind) → typeValid k 68 d ≡ true
+      go : (k : Kind) → typeValid k (code "D") d ≡ true
       go Hybrid = refl
       go Minimal = refl
 
-  pub data-writable : (d : List ℕ) → length d ≤ g .«data_limit» → allAllowed d ≡ true → Writable g 68 d
+  pub data-writable : (d : List ℕ) → length d ≤ g .«data_limit» → allAllowed d ≡ true → Writable g (code "D") d
   data-writable d l a = record { settings = link-valid; fits = l; type = data-type d; bytes = a }
 
-  pub nak-writable : (r : ℕ) → SayableNak g r → Writable g 78 (r ∷ [])
-  nak-writable r s = record { settings = link-valid; fits = let m = link-limit in omega arith; type = subst (λ (j : Kind). typeValid j 78 (r ∷ []) ≡ true) (sym (s .kind)) (nak-matches r (s .reason)); bytes = reason-allowed r (s .reason) }
+  pub nak-writable : (n : ℕ) → g .kind ≡ Hybrid → Writable g (code "N") (reasonOf n ∷ [])
+  nak-writable n k =
+      record {
+        settings = link-valid;
+        fits = let m = link-limit in omega arith;
+        type = subst (λ (j : Kind). typeValid j (code "N") (reasonOf n ∷ []) ≡ true) (sym k) (nak-matches (reasonOf n) (reason-is n));
+        bytes = reason-allowed n;
+      }
 
-  pub answer-writable : (v : SequenceNumber) (c : Code) (n : SequenceNumber) → SayableAnswer v n → Writable g 68 (answerMessage (textOf v) c n)
+  pub answer-writable : (v : SequenceNumber) (c : Code) (n : SequenceNumber) → SayableAnswer v n → Writable g (code "D") (answerMessage (textOf v) c n)
   answer-writable v c n s =
-      data-writable (answerMessage (textOf v) c n) (let m = answer-length (textOf v) c n (s .control) (s .number) in let k = link-limit in omega arith) (answer-allowed (textOf v) c n (text-allowed v))
+      data-writable (answerMessage (textOf v) c n) (let m = answer-length (textOf v) c n (s .control) (s .number) in let k = link-limit in omega arith)
+      (answer-allowed (textOf v) c n (text-allowed v))
 
   -- a data block reads as one, of either kind
-  pub data-read : typeRead g 68 ≡ 68
+  pub data-read : typeRead g (code "D") ≡ (code "D")
   data-read = go (g .kind)
     where
-      go : (k : Kind) → _≡_ {A = ℕ} (byKind k 68 68) 68
+      go : (k : Kind) → _≡_ {A = ℕ} (byKind k (code "D") (code "D")) (code "D")
       go Hybrid = refl
       go Minimal = refl
 
-  pub nak-read : g .kind ≡ Hybrid → typeRead g 78 ≡ 78
+  pub nak-read : g .kind ≡ Hybrid → typeRead g (code "N") ≡ (code "N")
   nak-read k = ap (λ (j : Kind). typed j) k
     where
       typed : Kind → ℕ
-      typed j = byKind j 78 68
+      typed j = byKind j (code "N") (code "D")
 
 module _ (l : Link) (rd : Ready l) where
   pub request-reads : (v : SequenceNumber) → Nameable (l .first) v → ReadsControl (requestOf l v) v
@@ -130,15 +124,16 @@ module _ (l : Link) (rd : Ready l) where
   request-reads (Number n) (transaction a b c) =
       subst (λ (z : Bool). ReadsControl (cond z (controlMessage (l .name) Query) (l .log n)) (Number n)) (sym (ne-eqb n 0 (λ (y : n ≡ 0). omega arith))) (rd .logged n b c .reads)
 
-  control-writable : (c : Control) → Writable (l .settings) 68 (controlMessage (l .name) c)
+  control-writable : (c : Control) → Writable (l .settings) (code "D") (controlMessage (l .name) c)
   control-writable c =
-      data-writable (l .settings) (rd .settings) (controlMessage (l .name) c) (let m = control-length (l .name) c in let k = link-limit (l .settings) (rd .settings) in omega arith) (control-allowed (l .name) c (rd .name))
+      data-writable (l .settings) (rd .settings) (controlMessage (l .name) c) (let m = control-length (l .name) c in let k = link-limit (l .settings) (rd .settings) in omega arith)
+      (control-allowed (l .name) c (rd .name))
 
-  pub request-writable : (v : SequenceNumber) → Nameable (l .first) v → Writable (l .settings) 68 (requestOf l v)
+  pub request-writable : (v : SequenceNumber) → Nameable (l .first) v → Writable (l .settings) (code "D") (requestOf l v)
   request-writable MinusOne minus = control-writable Resynchronize
-  request-writable (Number n) (query e) = subst (λ (k : ℕ). Writable (l .settings) 68 (requestOf l (Number k))) (sym e) (control-writable Query)
+  request-writable (Number n) (query e) = subst (λ (k : ℕ). Writable (l .settings) (code "D") (requestOf l (Number k))) (sym e) (control-writable Query)
   request-writable (Number n) (transaction a b c) =
-      subst (λ (z : Bool). Writable (l .settings) 68 (cond z (controlMessage (l .name) Query) (l .log n))) (sym (ne-eqb n 0 (λ (y : n ≡ 0). omega arith)))
+      subst (λ (z : Bool). Writable (l .settings) (code "D") (cond z (controlMessage (l .name) Query) (l .log n))) (sym (ne-eqb n 0 (λ (y : n ≡ 0). omega arith)))
       (data-writable (l .settings) (rd .settings) (l .log n) (rd .logged n b c .fits) (rd .logged n b c .allowed))
 
   -- the data of a transaction is the log's

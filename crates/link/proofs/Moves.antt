@@ -1,7 +1,7 @@
 -- Messages go onto the lines, and the receiver reads requests.
 use mathlib.Core.Path.{_≡_, refl, sym, ap, _∙_, subst}
 use mathlib.Core.List.{List, [], _∷_, _++_, append-assoc}
-use mathlib.Core.Bool.{Bool, true, false}
+use mathlib.Core.Bool.{true, false}
 use mathlib.Core.Logic.{_⊎_, inl, inr}
 use Prim.Native.Nat.{ℕ, _+_, _≤_}
 use native.Mathlib.Omega.{arith}
@@ -11,217 +11,218 @@ use Rattle.numbers.specs.declared.SequenceNumber.the-variants.{MinusOne, Number
 use Rattle.header.specs.declared.Code.{Code}
 use Rattle.header.specs.declared.Code.the-variants.{AA, AE, AR}
 use Rattle.receiver.specs.Receiver.{expectedNumber}
-use Rattle.receiver.specs.declared.Expected.{Expected}
 use Rattle.receiver.specs.declared.Expected.the-variants.{Unknown, Next}
 use Rattle.sender.specs.declared.Persisted.{Persisted}
 use Rattle.sender.specs.declared.Waiting.{Waiting}
 use Rattle.sender.specs.declared.Waiting.the-variants.{Closed, Idle, Resynchronizing, Querying, Sending}
-use Rattle.link.proofs.Queues.{All, all-map, all-right, all-end, all-head, all-tail, IsMinusOne, IsZero, Good, good-minus, good-zero, good-number, Answer, replies, true-more, to-zero, to-stored, to-repeat, SaysExpected}
-use Rattle.link.proofs.Core.{Holds, old, unknown, next, Waits, Core, not-both, either}
+use Rattle.link.proofs.Facts.{not-both, either, number-is}
+use Rattle.link.proofs.Queues.{All, all-map, all-right, all-end, all-head, all-tail, IsMinusOne, IsZero, Bounded, Good, good-minus, good-zero, good-number}
+use Rattle.link.proofs.Queues.{Answer, replies, side, Given, given-more, to-zero, to-stored, to-repeat, NamesExpected}
+use Rattle.link.proofs.Books.{forward-of, queried-of, chain, Books, books, withReceived, withLines, Forward, Expects, old, unknown, next, Waits, Queried, Core}
+use Rattle.link.proofs.Books.{lines-with, waits-with, persist-receiver}
 
-not-number : {P : Type 0} (n : ℕ) → Number n ≡ MinusOne → P
-not-number n e = let z : _≡_ {A = ℕ} 0 1 = cc in absurd (omega arith)
+-- ---- the oldest message named is written; what the sender holds is persisted
+module _ {f : ℕ} {b : Books} (c : Core f b) (v : SequenceNumber) (ns : List SequenceNumber) (e : b .named ≡ v ∷ ns) (same : b .held ≡ b .persisted) where
+  abbrev written : Books
+  written = books (b .held) (b .persisted) (b .waiting) ns (b .volatile) (b .stored) (b .forward ++ v ∷ []) (b .back) (b .pending)
 
-not-minus : {P : Type 0} (n : ℕ) → MinusOne ≡ Number n → P
-not-minus n e = let z : _≡_ {A = ℕ} 0 1 = cc in absurd (omega arith)
+  bounded : All (Bounded (b .held)) (v ∷ ns)
+  bounded = subst (All (Bounded (b .held))) e (c .forward .named)
 
-number-is : {m n : ℕ} → Number m ≡ Number n → m ≡ n
-number-is {m} {n} e = let z : m ≡ n = cc in z
+  queue : b .forward ++ b .named ≡ (b .forward ++ v ∷ []) ++ ns
+  queue = ap (λ (l : List SequenceNumber). b .forward ++ l) e ∙ sym (append-assoc (b .forward) (v ∷ []) ns)
 
-not-nothing : {P : Type 0} (v : SequenceNumber) (l : List SequenceNumber) → v ∷ l ≡ [] → P
-not-nothing v l e = let z : _≡_ {A = ℕ} 0 1 = cc in absurd (omega arith)
-
--- ---- the oldest message named is written; what the sender holds is stored
-module _ {f : ℕ} {p : Persisted} {w : Waiting} {e d : Expected} {xs ns : List SequenceNumber} {v : SequenceNumber} {bs cs : List Answer} {h k : ℕ} {o u : Bool} (c : Core f p p w e d xs (v ∷ ns) bs cs h k o u) where
-  first-named : p .resynchronized ≡ false → (x : Waiting) → Waits p x e d xs (v ∷ ns) bs cs → IsMinusOne v
-  first-named z Closed t = not-nothing v ns t
+  first-named : b .held .resynchronized ≡ false → (w : Waiting) → Waits (b .held .resynchronized) (b .named) (Queried b) w → IsMinusOne v
+  first-named z Closed t = not-both cc
   first-named z Idle t = not-both (sym t ∙ z)
-  first-named z Resynchronizing t = all-head (t .minus-ones)
+  first-named z Resynchronizing t = all-head (subst (All IsMinusOne) e (t .minus-ones))
   first-named z Querying t = not-both (sym (t .synchronized) ∙ z)
   first-named z Sending t = not-both (sym t ∙ z)
 
-  written-waits : (x : Waiting) → Waits p x e d xs (v ∷ ns) bs cs → Waits p x e d (xs ++ v ∷ []) ns bs cs
-  written-waits Closed t = not-nothing v ns t
+  written-waits : (w : Waiting) → Waits (b .held .resynchronized) (b .named) (Queried b) w → Waits (b .held .resynchronized) ns (Queried written) w
+  written-waits Closed t = not-both cc
   written-waits Idle t = t
-  written-waits Resynchronizing t = record { unsynchronized = t .unsynchronized; minus-ones = all-tail (t .minus-ones) }
-  written-waits Querying t =
-      record { synchronized = t .synchronized; zeros = subst (λ (l : List SequenceNumber). All IsZero l) (sym (append-assoc xs (v ∷ []) ns)) (t .zeros); says = t .says; kept-says = t .kept-says }
+  written-waits Resynchronizing t = record { unsynchronized = t .unsynchronized; minus-ones = all-tail (subst (All IsMinusOne) e (t .minus-ones)) }
+  written-waits Querying t = queried-of (t .synchronized) (subst (All IsZero) queue (t .zeros)) (t .names) (t .names-stored)
   written-waits Sending t = t
 
-  pub write : Core f p p w e d (xs ++ v ∷ []) ns bs cs h k o u
+  pub write : Core f written
   write =
       let g = c .forward in
-      record {
-        numbers = c .numbers;
-        ends = c .ends;
-        forward = record {
-          good = subst (λ (l : List SequenceNumber). Good f h l) (sym (append-assoc xs (v ∷ []) ns)) (g .good);
-          line-delivered = all-end (g .line-delivered) (all-head (g .named-delivered));
-          line-last = all-end (g .line-last) (all-head (g .named-last));
-          named-delivered = all-tail (g .named-delivered);
-          named-last = all-tail (g .named-last);
-          start = g .start;
-          start-line = λ z. all-end (g .start-line z) (first-named z w (c .waits));
-        };
-        backward = c .backward;
-        waits = written-waits w (c .waits);
-      }
+      lines-with c (b .waiting) ns (b .forward ++ v ∷ []) (b .back) (b .pending)
+      (forward-of (subst (Good f (b .volatile .next)) queue (g .good)) (all-end (g .line) (subst (λ (p : Persisted). Bounded p v) same (all-head bounded))) (all-tail bounded) (g .start)
+      (λ z. all-end (g .start-line z) (first-named (ap (λ (p : Persisted). p .resynchronized) same ∙ z) (b .waiting) (c .waits)))) (c .back) (c .pending)
+      (written-waits (b .waiting) (c .waits))
 
--- ---- the oldest reply goes out; what the receiver holds is stored
-module _ {f : ℕ} {p q : Persisted} {w : Waiting} {e : Expected} {xs ns : List SequenceNumber} {a : Answer} {bs cs : List Answer} {h : ℕ} {o : Bool} (c : Core f p q w e e xs ns bs (a ∷ cs) h h o o) where
-  replied-waits : (x : Waiting) → Waits p x e e xs ns bs (a ∷ cs) → Waits p x e e xs ns (bs ++ a ∷ []) cs
-  replied-waits Closed t = t
-  replied-waits Idle t = t
-  replied-waits Resynchronizing t = t
-  replied-waits Querying t =
-      record {
-        synchronized = t .synchronized;
-        zeros = t .zeros;
-        says = subst (λ (l : List Answer). All (SaysExpected e) l) (sym (append-assoc bs (a ∷ []) cs)) (t .says);
-        kept-says = all-end (t .kept-says) (all-head (all-right bs (a ∷ cs) (t .says)));
-      }
-  replied-waits Sending t = t
+-- ---- the oldest reply goes out; what the receiver holds is persisted
+module _ {f : ℕ} {b : Books} (c : Core f b) (a : Answer) (cs : List Answer) (e : b .pending ≡ a ∷ cs) where
+  abbrev replied : Books
+  replied = books (b .held) (b .persisted) (b .waiting) (b .named) (b .volatile) (b .volatile) (b .forward) (b .back ++ a ∷ []) cs
 
-  pub reply : Core f p q w e e xs ns (bs ++ a ∷ []) cs h h o o
+  given : All (Given (b .volatile)) (a ∷ cs)
+  given = subst (All (Given (b .volatile))) e (c .pending)
+
+  answers : b .back ++ b .pending ≡ (b .back ++ a ∷ []) ++ cs
+  answers = ap (λ (l : List Answer). b .back ++ l) e ∙ sym (append-assoc (b .back) (a ∷ []) cs)
+
+  pub reply : Core f replied
   reply =
-      record { numbers = c .numbers; ends = c .ends; forward = c .forward; backward = record { heard = all-end (c .backward .heard) (all-head (c .backward .owed)); owed = all-tail (c .backward .owed) }; waits = replied-waits w (c .waits) }
+      let k = persist-receiver c in
+      record {
+        numbers = k .numbers;
+        senders = k .senders;
+        receivers = k .receivers;
+        forward = k .forward;
+        back = all-end (k .back) (all-head given);
+        pending = all-tail given;
+        waits = waits-with k replied (λ t. let names = subst (All (NamesExpected (b .volatile .expected))) answers (t .names) in queried-of (t .synchronized) (t .zeros) names
+            (all-end (t .names-stored) (all-head (all-right (b .back) (a ∷ cs) (subst (λ (l : List Answer). All (NamesExpected (b .volatile .expected)) (b .back ++ l)) e (t .names))))));
+      }
 
--- ---- the receiver reads -1
-module _ {f : ℕ} {p q : Persisted} {w : Waiting} {e d : Expected} {xs ns : List SequenceNumber} {bs cs : List Answer} {h k : ℕ} {o u : Bool} (c : Core f p q w e d (MinusOne ∷ xs) ns bs cs h k o u) where
-  minus-waits : (x : Waiting) (a : Answer) → Waits p x e d (MinusOne ∷ xs) ns bs cs → Waits p x Unknown d xs ns bs (cs ++ a ∷ [])
-  minus-waits Closed a t = t
-  minus-waits Idle a t = t
-  minus-waits Resynchronizing a t = t
-  minus-waits Querying a t = not-minus 0 (all-head (t .zeros))
-  minus-waits Sending a t = t
+-- ---- the receiver reads the oldest request on the line
+module _ {f : ℕ} {b : Books} (c : Core f b) (v : SequenceNumber) (xs : List SequenceNumber) (e : b .forward ≡ v ∷ xs) where
+  -- the line, as it is
+  abbrev Read : Books
+  Read = withLines b (v ∷ xs) (b .back)
 
-  minus-first : {l : List SequenceNumber} → Good f h (MinusOne ∷ l) → h ≡ f
+  at-front : Core f Read
+  at-front = subst (λ (l : List SequenceNumber). Core f (withLines b l (b .back))) e c
+
+  -- and without the request, for what the receiver has then
+  rest-of : (h : ℕ) → Good f h (xs ++ b .named) → (b .persisted .resynchronized ≡ false → h ≡ f) → Forward f (b .held) (b .persisted) h xs (b .named)
+  rest-of h good start =
+      let g = at-front .forward in
+      forward-of good (all-tail (g .line)) (g .named) start (λ z. all-tail (g .start-line z))
+
+-- ---- -1
+module _ {f : ℕ} {b : Books} (c : Core f b) (xs : List SequenceNumber) (e : b .forward ≡ MinusOne ∷ xs) where
+  abbrev resynchronized : Books
+  resynchronized = withReceived b (side Unknown (b .volatile .next) false) xs (b .pending ++ replies MinusOne AA MinusOne ∷ [])
+
+  minus-first : {l : List SequenceNumber} → Good f (b .volatile .next) (MinusOne ∷ l) → b .volatile .next ≡ f
   minus-first (good-minus a g) = a
 
-  minus-rest : {l : List SequenceNumber} → Good f h (MinusOne ∷ l) → Good f h l
+  minus-rest : {l : List SequenceNumber} → Good f (b .volatile .next) (MinusOne ∷ l) → Good f (b .volatile .next) l
   minus-rest (good-minus a g) = g
 
-  pub receive-minus-one : Core f p q w Unknown d xs ns bs (cs ++ replies MinusOne AA MinusOne ∷ []) h k false u
+  pub receive-minus-one : Core f resynchronized
   receive-minus-one =
-      let i = c .ends in
-      let g = c .forward in
+      let k = at-front c MinusOne xs e in
+      let r = k .receivers in
+      let g = k .forward in
       record {
-        numbers = c .numbers;
-        ends = record { first = i .first; kept-first = i .kept-first; thawed = i .thawed; kept-thawed = i .kept-thawed; later = i .later; holds = unknown refl (minus-first (g .good)) refl; keeps = i .keeps; newer = λ z. refl; synchronized = i .synchronized };
-        forward = record { good = minus-rest (g .good); line-delivered = all-tail (g .line-delivered); line-last = all-tail (g .line-last); named-delivered = g .named-delivered; named-last = g .named-last; start = g .start; start-line = λ z. all-tail (g .start-line z) };
-        backward = record { heard = c .backward .heard; owed = all-end (all-map (true-more o false h h (λ z. refl) (omega arith)) (c .backward .owed)) (record { code = refl; number = refl; new = refl }) };
-        waits = minus-waits w _ (c .waits);
+        numbers = k .numbers;
+        senders = k .senders;
+        receivers = record { expects = unknown refl (minus-first (g .good)) refl; stored-expects = r .stored-expects; newer = λ z. refl; synchronized = r .synchronized };
+        forward = rest-of c MinusOne xs e (b .volatile .next) (minus-rest (g .good)) (g .start);
+        back = k .back;
+        pending = all-end (all-map (given-more (b .volatile) (resynchronized .volatile) (λ z. refl) (omega arith)) (k .pending)) (record { code = refl; number = refl; new = refl });
+        waits = waits-with k resynchronized (λ t. let z = all-head (t .zeros) in not-both cc);
       }
 
--- ---- the receiver reads a number
-module _ {f : ℕ} {p q : Persisted} {w : Waiting} {e d : Expected} {n : ℕ} {xs ns : List SequenceNumber} {bs cs : List Answer} {h k : ℕ} {o u : Bool} (c : Core f p q w e d (Number n ∷ xs) ns bs cs h k o u) where
-  zero-waits : n ≡ 0 → (x : Waiting) → Waits p x e d (Number n ∷ xs) ns bs cs → Waits p x e d xs ns bs (cs ++ replies (Number n) AA (expectedNumber e) ∷ [])
-  zero-waits z Closed t = t
-  zero-waits z Idle t = t
-  zero-waits z Resynchronizing t = t
-  zero-waits z Querying t =
-      record {
-        synchronized = t .synchronized;
-        zeros = all-tail (t .zeros);
-        says = subst (λ (l : List Answer). All (SaysExpected e) l) (append-assoc bs cs (replies (Number n) AA (expectedNumber e) ∷ [])) (all-end (t .says) (λ y. refl));
-        kept-says = t .kept-says;
-      }
-  zero-waits z Sending t = t
+-- ---- a number
+module _ {f : ℕ} {b : Books} (c : Core f b) (n : ℕ) (xs : List SequenceNumber) (e : b .forward ≡ Number n ∷ xs) where
+  k : Core f (withLines b (Number n ∷ xs) (b .back))
+  k = at-front c (Number n) xs e
 
-  zero-rest : n ≡ 0 → {l : List SequenceNumber} → Good f h (Number n ∷ l) → Good f h l
+  abbrev answered : Books
+  answered = withReceived b (b .volatile) xs (b .pending ++ replies (Number n) AA (expectedNumber (b .volatile .expected)) ∷ [])
+
+  zero-rest : n ≡ 0 → {l : List SequenceNumber} → Good f (b .volatile .next) (Number n ∷ l) → Good f (b .volatile .next) l
   zero-rest z (good-zero a g) = g
-  zero-rest z (good-number a b y g) = absurd (omega arith)
+  zero-rest z (good-number a d y g) = absurd (omega arith)
 
-  pub receive-zero : n ≡ 0 → Core f p q w e d xs ns bs (cs ++ replies (Number n) AA (expectedNumber e) ∷ []) h k o u
+  pub receive-zero : n ≡ 0 → Core f answered
   receive-zero z =
-      let g = c .forward in
-      record {
-        numbers = c .numbers;
-        ends = c .ends;
-        forward = record { good = zero-rest z (g .good); line-delivered = all-tail (g .line-delivered); line-last = all-tail (g .line-last); named-delivered = g .named-delivered; named-last = g .named-last; start = g .start; start-line = λ y. all-tail (g .start-line y) };
-        backward = record { heard = c .backward .heard; owed = all-end (c .backward .owed) (to-zero z refl) };
-        waits = zero-waits z w (c .waits);
-      }
+      lines-with k (b .waiting) (b .named) xs (b .back) (answered .pending)
+      (rest-of c (Number n) xs e (b .volatile .next) (zero-rest z (k .forward .good)) (k .forward .start)) (k .back) (all-end (k .pending) (to-zero z refl))
+      (waits-with k answered (λ t. queried-of (t .synchronized) (all-tail (t .zeros))
+      (subst (All (NamesExpected (b .volatile .expected))) (append-assoc (b .back) (b .pending) (replies (Number n) AA (expectedNumber (b .volatile .expected)) ∷ []))
+      (all-end (t .names) (λ y. refl))) (t .names-stored)))
 
   module _ (l : 1 ≤ n) where
     -- a transaction is on the line only when the exchange for -1 is over
-    stored-synchronized : q .resynchronized ≡ true
-    stored-synchronized = go (either (q .resynchronized))
+    persisted-synchronized : b .persisted .resynchronized ≡ true
+    persisted-synchronized = go (either (b .persisted .resynchronized))
       where
-        go : (q .resynchronized ≡ true) ⊎ (q .resynchronized ≡ false) → q .resynchronized ≡ true
+        go : (b .persisted .resynchronized ≡ true) ⊎ (b .persisted .resynchronized ≡ false) → b .persisted .resynchronized ≡ true
         go (inl z) = z
-        go (inr z) = not-number n (all-head (c .forward .start-line z))
+        go (inr z) = let y = all-head (k .forward .start-line z) in not-both cc
 
-    held-synchronized : p .resynchronized ≡ true
-    held-synchronized = go (either (p .resynchronized))
+    held-synchronized : b .held .resynchronized ≡ true
+    held-synchronized = go (either (b .held .resynchronized))
       where
-        go : (p .resynchronized ≡ true) ⊎ (p .resynchronized ≡ false) → p .resynchronized ≡ true
+        go : (b .held .resynchronized ≡ true) ⊎ (b .held .resynchronized ≡ false) → b .held .resynchronized ≡ true
         go (inl z) = z
-        go (inr z) = not-both (sym stored-synchronized ∙ c .ends .later z)
+        go (inr z) = not-both (sym persisted-synchronized ∙ c .senders .later z)
 
-    pub is-new : o ≡ false
-    is-new = c .ends .newer (c .ends .synchronized held-synchronized)
+    is-new : b .volatile .old ≡ false
+    is-new = c .receivers .newer (c .receivers .synchronized held-synchronized)
 
-    number-least : {t : List SequenceNumber} → Good f h (Number n ∷ t) → f ≤ n
+    number-least : {t : List SequenceNumber} → Good f (b .volatile .next) (Number n ∷ t) → f ≤ n
     number-least (good-zero a g) = absurd (omega arith)
-    number-least (good-number a b y g) = b
+    number-least (good-number a d y g) = d
 
-    number-near : {t : List SequenceNumber} → Good f h (Number n ∷ t) → h ≤ n + 1
+    number-near : {t : List SequenceNumber} → Good f (b .volatile .next) (Number n ∷ t) → b .volatile .next ≤ n + 1
     number-near (good-zero a g) = absurd (omega arith)
-    number-near (good-number a b y g) = y
+    number-near (good-number a d y g) = y
 
-    number-rest : {t : List SequenceNumber} → Good f h (Number n ∷ t) → Good f (n + 1) t
+    number-rest : {t : List SequenceNumber} → Good f (b .volatile .next) (Number n ∷ t) → Good f (n + 1) t
     number-rest (good-zero a g) = absurd (omega arith)
-    number-rest (good-number a b y g) = g
+    number-rest (good-number a d y g) = g
 
-    not-more : n ≤ h
-    not-more = let m = all-head (c .forward .line-delivered) in let i = c .numbers in omega arith
+    not-more : n ≤ b .volatile .next
+    not-more = let m = all-head (k .forward .line) .delivered in let i = c .numbers in omega arith
 
     -- the number that the receiver expects, or the one before it
-    pub which : ((n ≡ h) × ((e ≡ Unknown) ⊎ (e ≡ Next n))) ⊎ ((n + 1 ≡ h) × (e ≡ Next h))
-    which = go (c .ends .holds)
-      where
-        go : Holds f o h e → ((n ≡ h) × ((e ≡ Unknown) ⊎ (e ≡ Next n))) ⊎ ((n + 1 ≡ h) × (e ≡ Next h))
-        go (old a b) = not-both (sym a ∙ is-new)
-        go (unknown a b y) = let m = number-least (c .forward .good) in let z = not-more in inl (omega arith, inl y)
-        go (next a b y) = near (decLe h n) y
-          where
-            near : Dec (h ≤ n) → e ≡ Next h → ((n ≡ h) × ((e ≡ Unknown) ⊎ (e ≡ Next n))) ⊎ ((n + 1 ≡ h) × (e ≡ Next h))
-            near (yes z) t = let s = not-more in let r : n ≡ h = omega arith in inl (r, inr (t ∙ ap Next (sym r)))
-            near (no z) t = let m = number-near (c .forward .good) in let s = not-more in inr (omega arith, t)
+    abbrev pub Which : Type 0
+    Which =
+        ((n ≡ b .volatile .next) × ((b .volatile .expected ≡ Unknown) ⊎ (b .volatile .expected ≡ Next n)))
+        ⊎ ((n + 1 ≡ b .volatile .next) × (b .volatile .expected ≡ Next (b .volatile .next)))
 
-    number-waits : (e' : Expected) (x : Waiting) (a : Answer) → Waits p x e d (Number n ∷ xs) ns bs cs → Waits p x e' d xs ns bs (cs ++ a ∷ [])
-    number-waits e' Closed a t = t
-    number-waits e' Idle a t = t
-    number-waits e' Resynchronizing a t = t
-    number-waits e' Querying a t = let z = number-is (all-head (t .zeros)) in absurd (omega arith)
-    number-waits e' Sending a t = t
+    pub which : Which
+    which = go (c .receivers .expects)
+      where
+        near : Dec (b .volatile .next ≤ n) → b .volatile .expected ≡ Next (b .volatile .next) → Which
+        near (yes z) t = let s = not-more in let r : n ≡ b .volatile .next = omega arith in inl (r, inr (t ∙ ap Next (sym r)))
+        near (no z) t = let m = number-near (k .forward .good) in let s = not-more in inr (omega arith, t)
+
+        go : Expects f (b .volatile) → Which
+        go (old a y) = not-both (sym a ∙ is-new)
+        go (unknown a z y) = let m = number-least (k .forward .good) in let s = not-more in inl (omega arith, inl y)
+        go (next a z y) = near (decLe (b .volatile .next) n) y
+
+    number-waits : (d : Books) → Waits (b .held .resynchronized) (b .named) (Queried d) (b .waiting)
+    number-waits d = waits-with k d (λ t. let z = number-is (all-head (t .zeros)) in absurd (omega arith))
 
     -- stored
-    pub receive-next : (b : Code) → (b ≡ AA) ⊎ (b ≡ AE) → n ≡ h → Core f p q w (Next (n + 1)) d xs ns bs (cs ++ replies (Number n) b (Number n) ∷ []) (n + 1) k o u
-    receive-next b y z =
-        let i = c .ends in
-        let g = c .forward in
-        let m = c .numbers in
-        let t = all-head (g .line-delivered) in
-        let s = all-head (g .line-last) in
-        let r = number-least (g .good) in
+    abbrev taken : Code → Books
+    taken d = withReceived b (side (Next (n + 1)) (n + 1) (b .volatile .old)) xs (b .pending ++ replies (Number n) d (Number n) ∷ [])
+
+    pub receive-next : (d : Code) → (d ≡ AA) ⊎ (d ≡ AE) → n ≡ b .volatile .next → Core f (taken d)
+    receive-next d y z =
+        let r = k .receivers in
+        let g = k .forward in
+        let m = k .numbers in
+        let t = all-head (g .line) in
+        let s = number-least (g .good) in
         record {
-          numbers = record { first-least = m .first-least; kept-least = m .kept-least; delivered-more = m .delivered-more; covered = m .covered; kept-most = omega arith; ahead = omega arith; submitted = omega arith; last-more = m .last-more; last-most = m .last-most };
-          ends = record { first = i .first; kept-first = i .kept-first; thawed = i .thawed; kept-thawed = i .kept-thawed; later = i .later; holds = next is-new (omega arith) refl; keeps = i .keeps; newer = i .newer; synchronized = i .synchronized };
-          forward = record { good = number-rest (g .good); line-delivered = all-tail (g .line-delivered); line-last = all-tail (g .line-last); named-delivered = g .named-delivered; named-last = g .named-last; start = λ v. not-both (sym stored-synchronized ∙ v); start-line = λ v. not-both (sym stored-synchronized ∙ v) };
-          backward = record { heard = c .backward .heard; owed = all-end (all-map (true-more o o h (n + 1) (λ v. v) (omega arith)) (c .backward .owed)) (to-stored l y refl (omega arith)) };
-          waits = number-waits (Next (n + 1)) w _ (c .waits);
+          numbers = chain (m .first-least) (m .persisted-least) (m .delivered-more) (m .covered) (omega arith) (omega arith) (omega arith) (m .last-more) (m .last-most);
+          senders = k .senders;
+          receivers = record { expects = next is-new (omega arith) refl; stored-expects = r .stored-expects; newer = r .newer; synchronized = r .synchronized };
+          forward = rest-of c (Number n) xs e (n + 1) (number-rest (g .good)) (λ u. not-both (sym persisted-synchronized ∙ u));
+          back = k .back;
+          pending = all-end (all-map (given-more (b .volatile) (taken d .volatile) (λ u. u) (omega arith)) (k .pending)) (to-stored l y refl (omega arith));
+          waits = number-waits (taken d);
         }
 
     -- repeated
-    pub receive-repeat : n + 1 ≡ h → Core f p q w e d xs ns bs (cs ++ replies (Number n) AR (Number (n + 1)) ∷ []) h k o u
+    abbrev repeated : Books
+    repeated = withReceived b (b .volatile) xs (b .pending ++ replies (Number n) AR (Number (n + 1)) ∷ [])
+
+    pub receive-repeat : n + 1 ≡ b .volatile .next → Core f repeated
     receive-repeat z =
-        let g = c .forward in
-        record {
-          numbers = c .numbers;
-          ends = c .ends;
-          forward = record { good = subst (λ (j : ℕ). Good f j (xs ++ ns)) z (number-rest (g .good)); line-delivered = all-tail (g .line-delivered); line-last = all-tail (g .line-last); named-delivered = g .named-delivered; named-last = g .named-last; start = g .start; start-line = λ v. all-tail (g .start-line v) };
-          backward = record { heard = c .backward .heard; owed = all-end (c .backward .owed) (to-repeat l refl refl (omega arith)) };
-          waits = number-waits e w _ (c .waits);
-        }
+        lines-with k (b .waiting) (b .named) xs (b .back) (repeated .pending)
+        (rest-of c (Number n) xs e (b .volatile .next) (subst (λ (j : ℕ). Good f j (xs ++ b .named)) z (number-rest (k .forward .good))) (k .forward .start)) (k .back)
+        (all-end (k .pending) (to-repeat l refl refl (omega arith)))
+        (number-waits repeated)

@@ -1,37 +1,40 @@
 -- The line to the receiver has to be empty when a tenant begins: with an earlier tenant's request on it, there is a run after which the receiver has stored a message that is not the log's.
-use mathlib.Core.Path.{_≡_, refl, sym, ap, _∙_}
+use mathlib.Core.Path.{_≡_, sym, ap, _∙_}
 use mathlib.Core.List.{List, [], _∷_}
 use mathlib.Core.Bool.{true}
 use Prim.Native.Nat.{ℕ, _+_}
+use Prim.Native.Char.{code}
 use native.Mathlib.Omega.{arith}
 use lib.ListN.{length}
-use borrow.Author.Tests.{le-leb}
 use Rattle.block.specs.Format.{blockOf}
-use Rattle.numbers.specs.Numbers.{greatestExpected}
 use Rattle.numbers.specs.declared.SequenceNumber.the-variants.{Number}
-use Rattle.stream.specs.Stream.{Said, between, run}
-use Rattle.receiver.specs.Receiver.{validExpected, Outcome}
+use Rattle.stream.specs.Stream.{Judged}
+use Rattle.lists.specs.Outcome.{Outcome}
+use Rattle.receiver.specs.Receiver.{validExpected}
+use Rattle.receiver.specs.declared.Received.{Received}
+use Rattle.sender.specs.Sender.{freshSender}
 use Rattle.receiver.specs.declared.Row.{Row}
 use Rattle.receiver.specs.declared.Application.{Application}
 use Rattle.receiver.specs.declared.Expected.the-variants.{Next}
-use Rattle.link.specs.Line.{newReader}
-use Rattle.link.specs.System.{Link, System, requestOf, startOf, storedWith, receivedWith, readsAll, readingWith, keeps}
+use Rattle.link.specs.Line.{newReader, emptyLine, line}
+use Rattle.link.specs.System.{Link, System, link, requestOf, freshSending, freshReceiving, hasWith, receivedWith, requestsRead, receiverPersists}
+use Rattle.link.specs.Counterexamples.{earlierLink, withOldRequest}
 use Rattle.link.specs.Promise.{Ready, transactions, Safe}
-use Rattle.link.specs.Nights.{earlierLink, withOldRequest}
+use Rattle.link.proofs.ReceiverInvariant.{expects-next}
+use Rattle.link.proofs.Acts.{transactions-length}
+use Rattle.link.proofs.Runs.{Reaches, act, join, readerThrough, verdictsOf, read-requests}
+use Rattle.link.proofs.Exchange.{resting, block-says}
 use Rattle.link.proofs.Messages.{Nameable, transaction, request-writable, transaction-is}
 use Rattle.link.proofs.Receiving.{received}
-use Rattle.link.proofs.Reading.{next-row}
-use Rattle.link.proofs.Acts.{transactions-length}
-use Rattle.link.proofs.Through.{Reaches, act, join, readerThrough, read-through}
-use Rattle.link.proofs.Exchange.{block-says}
+use Rattle.link.proofs.RequestsRead.{next-row}
 
 -- a state in which one message is stored, the given one
 pub record Foreign (l : Link) (y z : System) (message : List ℕ) : Type 0 where
   pub run : Reaches l y z
-  pub stored : z .receiving .keptHas ≡ message ∷ []
+  pub stored : z .receiving .persisted .has ≡ message ∷ []
 
-one-kept : (l : Link) (k : ℕ) (d : List ℕ) → d ∷ [] ≡ transactions l k → k ≡ 1
-one-kept l k d z = sym (transactions-length l k) ∙ ap length (sym z)
+one-stored : (l : Link) (k : ℕ) (d : List ℕ) → d ∷ [] ≡ transactions l k → k ≡ 1
+one-stored l k d z = sym (transactions-length l k) ∙ ap length (sym z)
 
 headOf : List (List ℕ) → List ℕ
 headOf [] = []
@@ -44,13 +47,12 @@ one-is l k d e z =
 
 pub foreign-breaks : (l : Link) (y z : System) (d : List ℕ) → Foreign l y z d → (d ≡ l .log (l .first) → ⊥) → Safe l z → ⊥
 foreign-breaks l y z d n other f =
-    let e = sym (n .stored) ∙ f .kept-has in
-    other (one-is l (f .kept) d (one-kept l (f .kept) d e) e)
+    let e = sym (n .stored) ∙ f .persisted-has in
+    other (one-is l (f .persisted) d (one-stored l (f .persisted) d e) e)
 
 module _ (l : Link) (rd : Ready l) (a : Application) (log : ℕ → List ℕ) (old : Ready (earlierLink l log)) where
   expected-valid : validExpected (Next (l .first)) ≡ true
-  unfolding validExpected
-  expected-valid = let b = rd .first-most in rw (le-leb 1 (l .first) (rd .first-least), le-leb (l .first) greatestExpected (omega arith))
+  expected-valid = let b = rd .first-most in expects-next (l .first) (rd .first-least) (omega arith)
 
   abbrev message : List ℕ
   message = requestOf (earlierLink l log) (Number (l .first))
@@ -64,19 +66,21 @@ module _ (l : Link) (rd : Ready l) (a : Application) (log : ℕ → List ℕ) (o
 
   pub with-old-request : Stores
   with-old-request =
-      let e = startOf l (Next (l .first)) .receiving in
-      let s = startOf l (Next (l .first)) .sending in
-      let says = block-says l rd a message (request-writable (earlierLink l log) old (Number (l .first)) first-nameable) newReader refl in
+      let e = freshReceiving (Next (l .first)) in
+      let s = freshSending (freshSender (l .first)) in
+      let block = blockOf (l .settings) (code "D") message in
+      let says = block-says l rd message (request-writable (earlierLink l log) old (Number (l .first)) first-nameable) resting in
       record {
         end = _;
         foreign = record {
           run =
-              join l (read-through l a (blockOf (l .settings) 68 message) s e [])
-              (act l keeps (record { sending = s; receiving = readingWith (readsAll l a e (run (l .settings) 0 between (blockOf (l .settings) 68 message))) (readerThrough l newReader (blockOf (l .settings) 68 message)); forward = []; back = [] }));
+              join l (read-requests l a (blockOf (l .settings) (code "D") message) newReader s e emptyLine)
+              (act l receiverPersists (link s (requestsRead l a e (verdictsOf l newReader block)) (line (readerThrough l newReader block) []) emptyLine));
           stored =
-              ap (λ (ws : List Said). readsAll l a e ws .has) says
-              ∙ ap (λ (o : Outcome). receivedWith e message o .has) (received (earlierLink l log) old a (Next (l .first)) expected-valid (Number (l .first)) first-nameable (length message))
-              ∙ ap (λ (r : Row). storedWith (r .persisted .transaction) message []) (next-row a (l .first) (rd .first-least));
+              ap (λ (ws : List Judged). requestsRead l a e ws .volatile .has) says
+              ∙ ap (λ (o : Outcome Received). receivedWith e message o .volatile .has)
+              (received (earlierLink l log) old a (Next (l .first)) expected-valid (Number (l .first)) first-nameable (length message))
+              ∙ ap (λ (r : Row). hasWith (r .persisted .transaction) message []) (next-row a (l .first) (rd .first-least));
         };
       }
 

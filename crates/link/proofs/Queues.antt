@@ -11,6 +11,7 @@ use Rattle.header.specs.declared.Code.{Code}
 use Rattle.header.specs.declared.Code.the-variants.{AA, AE, AR}
 use Rattle.receiver.specs.Receiver.{expectedNumber}
 use Rattle.receiver.specs.declared.Expected.{Expected}
+use Rattle.sender.specs.declared.Persisted.{Persisted}
 
 -- ---- every one, and some of them in their order
 pub data All {A : Type 0} (P : A → Type 0) : List A → Type 0 where
@@ -71,6 +72,15 @@ pub not-over-more : (j k : ℕ) → j ≤ k → (v : SequenceNumber) → NotOver
 not-over-more j k l MinusOne h = omega arith
 not-over-more j k l (Number m) h = omega arith
 
+-- what a sender with these numbers may have named
+pub record Bounded (p : Persisted) (v : SequenceNumber) : Type 0 where
+  pub delivered : NotOver (p .delivered + 1) v
+  pub last : NotOver (p .last) v
+
+pub bounded-more : (q p : Persisted) → q .delivered ≤ p .delivered → q .last ≤ p .last → (v : SequenceNumber) → Bounded q v → Bounded p v
+bounded-more q p a b v t =
+    record { delivered = not-over-more (q .delivered + 1) (p .delivered + 1) (omega arith) v (t .delivered); last = not-over-more (q .last) (p .last) b v (t .last) }
+
 -- a receiver that has the numbers up to h can read these in order: each -1 before any transaction, and transactions that go up by at most one from what it has
 pub data Good (f : ℕ) : ℕ → List SequenceNumber → Type 0 where
   good-none : {h : ℕ} → Good f h []
@@ -120,10 +130,19 @@ module _ (f : ℕ) where
   good-end k a b c (more o os) (good-zero e g) = good-zero e (good-end k a b c os g)
   good-end k a b c (more o os) (good-number l m n g) = good-number l m n (good-end k a b (omega arith) os g)
 
--- ---- replies: an answer to the message with a number, or an N block
+-- ---- replies: an answer to the message with a number, or an N block for the number of a refusal
 pub data Answer : Type 0 where
   replies : SequenceNumber → Code → SequenceNumber → Answer
   refuses : ℕ → Answer
+
+-- the receiver, as held or as persisted: what it expects, the number after those that it has, and whether it may still expect a number that an earlier tenant left
+pub record Side : Type 0 where
+  pub expected : Expected
+  pub next : ℕ
+  pub old : Bool
+
+abbrev pub side : Expected → ℕ → Bool → Side
+side e h o = record { expected = e; next = h; old = o }
 
 -- the answer to a number k, from a receiver that has the numbers up to h
 pub data ToNumber (h k : ℕ) (c : Code) (n : SequenceNumber) : Type 0 where
@@ -136,21 +155,21 @@ pub record ToMinusOne (o : Bool) (c : Code) (n : SequenceNumber) : Type 0 where
   pub number : n ≡ MinusOne
   pub new : o ≡ false
 
--- o: the receiver may still expect a number that an earlier tenant left
-abbrev pub True : Bool → ℕ → Answer → Type 0
-True o h (replies MinusOne c n) = ToMinusOne o c n
-True o h (replies (Number k) c n) = ToNumber h k c n
-True o h (refuses r) = 0 ≤ h
+-- an answer that such a receiver gave
+abbrev pub Given : Side → Answer → Type 0
+Given s (replies MinusOne c n) = ToMinusOne (s .old) c n
+Given s (replies (Number k) c n) = ToNumber (s .next) k c n
+Given s (refuses r) = 0 ≤ s .next
 
-pub true-more : (o q : Bool) (h k : ℕ) → (o ≡ false → q ≡ false) → h ≤ k → (a : Answer) → True o h a → True q k a
-true-more o q h k f l (replies MinusOne c n) t = record { code = t .code; number = t .number; new = f (t .new) }
-true-more o q h k f l (replies (Number m) c n) (to-zero a b) = to-zero a b
-true-more o q h k f l (replies (Number m) c n) (to-stored a b d e) = to-stored a b d (omega arith)
-true-more o q h k f l (replies (Number m) c n) (to-repeat a b d e) = to-repeat a b d (omega arith)
-true-more o q h k f l (refuses r) t = omega arith
+pub given-more : (s t : Side) → (s .old ≡ false → t .old ≡ false) → s .next ≤ t .next → (a : Answer) → Given s a → Given t a
+given-more s t f l (replies MinusOne c n) g = record { code = g .code; number = g .number; new = f (g .new) }
+given-more s t f l (replies (Number m) c n) (to-zero a b) = to-zero a b
+given-more s t f l (replies (Number m) c n) (to-stored a b d e) = to-stored a b d (omega arith)
+given-more s t f l (replies (Number m) c n) (to-repeat a b d e) = to-repeat a b d (omega arith)
+given-more s t f l (refuses r) g = omega arith
 
 -- an answer to 0 says what is expected
-abbrev pub SaysExpected : Expected → Answer → Type 0
-SaysExpected e (replies MinusOne c n) = n ≡ n
-SaysExpected e (replies (Number k) c n) = k ≡ 0 → n ≡ expectedNumber e
-SaysExpected e (refuses r) = r ≡ r
+abbrev pub NamesExpected : Expected → Answer → Type 0
+NamesExpected e (replies MinusOne c n) = n ≡ n
+NamesExpected e (replies (Number k) c n) = k ≡ 0 → n ≡ expectedNumber e
+NamesExpected e (refuses r) = r ≡ r

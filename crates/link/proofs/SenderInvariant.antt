@@ -14,8 +14,9 @@ use Rattle.sender.specs.declared.SenderMade.{SenderMade}
 use Rattle.sender.specs.declared.SenderMade.the-variants.{Refused, Made}
 use Rattle.sender.specs.declared.NumberedMessage.{NumberedMessage}
 use Rattle.sender.specs.declared.Event.{Event}
-use Rattle.link.specs.SenderActs.{Act, actOf, crashOf, Doing, does, crashes, doneOf, afterOf}
-use Rattle.link.proofs.SenderValid.{Right, right-from, right-valid}
+use Rattle.link.specs.SenderActs.{Act, actOf, afterCrash, ActOrCrash, act, crash, stepOf, afterOf}
+use Rattle.link.proofs.Facts.{not-both}
+use Rattle.link.proofs.SenderValid.{numbers-of, Right, right-from, right-valid}
 use Rattle.link.proofs.SenderSteps.{Step, refuses, keeps, starts, resends, abandons, shuts, steps}
 
 pub step-right : {r n k : ℕ} {s t : Sender} {m : NumberedMessage} {e : Event} → Right (s .persisted) (s .waiting) (s .sends) → Step r s n t m k e
@@ -30,14 +31,17 @@ step-right i (shuts g j) = record { stored = j; waits = refl }
 pub act-valid : (a : Act) (s : Sender) → validSender s ≡ true → validSender (actOf a s .sender) ≡ true
 act-valid a s v = right-valid (actOf a s .sender) (step-right (right-from s v) (steps s v a))
 
-pub crash-valid : (s : Sender) → validSender s ≡ true → validSender (crashOf s) ≡ true
-crash-valid s v = right-valid (crashOf s) (record { stored = right-from s v .stored; waits = refl })
+pub crash-valid : (s : Sender) → validSender s ≡ true → validSender (afterCrash (s .persisted)) ≡ true
+crash-valid s v = right-valid (afterCrash (s .persisted)) (record { stored = right-from s v .stored; waits = refl })
 
 -- a new sender
 pub fresh-valid : (f : ℕ) → 1 ≤ f → f ≤ greatestSent → validSender (freshSender f) ≡ true
 fresh-valid f l m =
     right-valid (freshSender f)
-    (record { stored = record { first-least = l; first-most = m; delivered-least = omega arith; delivered-most = omega arith; last-most = omega arith; begun = λ (e : false ≡ false). omega arith }; waits = refl })
+    (record {
+      stored = numbers-of l m (omega arith) (omega arith) (omega arith) (λ (e : false ≡ false). omega arith);
+      waits = refl;
+    })
 
 pub made-valid : (f : ℕ) (s : Sender) → senderOf f ≡ Made s → validSender s ≡ true
 unfolding senderOf
@@ -47,17 +51,17 @@ made-valid f s h =
     let g : freshSender f ≡ s = cc in
     ap (λ (x : Sender). validSender x) (sym g)
     ∙ fresh-valid f (leb-true 1 f (and-left (leb 1 f) (leb f greatestSent) b)) (leb-true f greatestSent (and-right (leb 1 f) (leb f greatestSent) b)))
-    (λ (b : (leb 1 f && leb f greatestSent) ≡ false) (e : Refused ≡ Made s). let z : _≡_ {A = ℕ} 0 1 = cc in absurd (omega arith))
+    (λ (b : (leb 1 f && leb f greatestSent) ≡ false) (e : Refused ≡ Made s). not-both cc)
     h
 
 -- runs
-pub done-valid : (x : Doing) (s : Sender) → validSender s ≡ true → validSender (doneOf x s) ≡ true
-done-valid (does a) s v = act-valid a s v
-done-valid crashes s v = crash-valid s v
+pub step-valid : (x : ActOrCrash) (s : Sender) → validSender s ≡ true → validSender (stepOf x s) ≡ true
+step-valid (act a) s v = act-valid a s v
+step-valid crash s v = crash-valid s v
 
-pub run-valid : (s : Sender) → validSender s ≡ true → (xs : List Doing) → validSender (afterOf s xs) ≡ true
+pub run-valid : (s : Sender) → validSender s ≡ true → (xs : List ActOrCrash) → validSender (afterOf s xs) ≡ true
 run-valid s v [] = v
-run-valid s v (x ∷ xs) = done-valid x (afterOf s xs) (run-valid s v xs)
+run-valid s v (x ∷ xs) = step-valid x (afterOf s xs) (run-valid s v xs)
 
-pub reachable-valid : (f : ℕ) → 1 ≤ f → f ≤ greatestSent → (xs : List Doing) → validSender (afterOf (freshSender f) xs) ≡ true
+pub reachable-valid : (f : ℕ) → 1 ≤ f → f ≤ greatestSent → (xs : List ActOrCrash) → validSender (afterOf (freshSender f) xs) ≡ true
 reachable-valid f l m xs = run-valid (freshSender f) (fresh-valid f l m) xs

@@ -1,24 +1,24 @@
 -- The sender's acts keep the invariant, as far as requests and replies go. It never freezes.
 use mathlib.Core.Path.{_≡_, refl, sym, ap, _∙_, subst}
 use mathlib.Core.List.{List, _∷_}
-use mathlib.Core.Bool.{Bool, true, false, cond}
+use mathlib.Core.Bool.{Bool, true, false, cond, not, _&&_}
 use mathlib.Core.Logic.{inl, inr}
-use Prim.Native.Nat.{ℕ, _+_, _≤_, _<_}
+use Prim.Native.Nat.{ℕ, _+_, _-_, _≤_, _<_}
 use native.Mathlib.Omega.{arith}
 use native.Mathlib.Decide.{decLe}
 use lib.ListN.{length}
 use lib.Dec.{leb, ltb, eqb}
-use borrow.Author.Tests.{lt-ltb, ltb-true, eq-eqb, ne-eqb, eqb-true}
+use borrow.Author.Tests.{lt-ltb, ltb-true, eq-eqb, ne-eqb}
 use Rattle.lists.specs.Bytes.{same}
 use Rattle.lists.proofs.Tests.{cond-ind, and-left}
+use Rattle.lists.proofs.Same.{same-is}
+use Rattle.settings.specs.Settings.{limitValid, enoughForLink}
 use Rattle.settings.specs.DataBytes.{allAllowed}
 use Rattle.fields.specs.Fields.{bytesOf}
 use Rattle.numbers.specs.Numbers.{numberField, greatestSent, textOf}
 use Rattle.numbers.specs.declared.SequenceNumber.{SequenceNumber}
 use Rattle.numbers.specs.declared.SequenceNumber.the-variants.{MinusOne, Number}
-use Rattle.numbers.specs.declared.NumberField.{NumberField}
-use Rattle.numbers.specs.declared.NumberField.the-variants.{Missing, NotNumber, Present}
-use Rattle.numbers.proofs.Reading.{field-number-bound}
+use Rattle.numbers.specs.declared.NumberField.the-variants.{Present}
 use Rattle.header.specs.Header.{headerOf}
 use Rattle.header.specs.declared.Header.{Header}
 use Rattle.header.specs.declared.Header.the-variants.{Unreadable, Readable}
@@ -27,162 +27,160 @@ use Rattle.header.specs.declared.Code.the-variants.{AA, AE, AR}
 use Rattle.header.specs.declared.CodeField.the-variants.{Known}
 use Rattle.receiver.specs.Receiver.{expectedNumber}
 use Rattle.receiver.specs.declared.Expected.{Expected}
-use Rattle.sender.specs.Sender.{validSender, isOpen, waitingMessage, acted, begins, stays, againOf, dueIn, goesOn, resynchronizedOf, deliveredOf, hearResynchronizing, queryNone, queryNumber, hearQuerying, knownNumber, rejectNumber, hearSending, heardOf, answeredBy, freezes, takesNumber, takenIn, submittedHeader, validLimit, submitOf, endedOf, resetOf}
+use Rattle.sender.specs.Sender.{validSender, acted, waitingMessage, beginsToWait, onCircuit, resendOf, proceeds, freezes, resynchronizedOf, deliveredOf}
+use Rattle.sender.specs.Sender.{answerResynchronizing, answerQuery, answerTransaction, answerOf, answeredBy}
+use Rattle.sender.specs.Sender.{isNumber, takenIn, submittedHeader, submitOf, endedOf, resetOf}
 use Rattle.sender.specs.declared.Persisted.{Persisted}
 use Rattle.sender.specs.declared.Waiting.{Waiting}
 use Rattle.sender.specs.declared.Waiting.the-variants.{Closed, Idle, Resynchronizing, Querying, Sending}
 use Rattle.sender.specs.declared.Sender.{Sender}
+use Rattle.sender.specs.declared.NumberedMessage.the-variants.{Nothing, Numbered}
 use Rattle.sender.specs.declared.Event.{Event}
-use Rattle.sender.specs.declared.Event.the-variants.{NoEvent, Delivered, DeliveredUnknown, Dropped}
+use Rattle.sender.specs.declared.Event.the-variants.{NoEvent, DeliveredUnknown, Dropped}
 use Rattle.sender.specs.declared.Acted.{Acted}
+use Rattle.link.proofs.Facts.{not-both, number-is}
 use Rattle.link.proofs.SenderValid.{WaitsRight, right-from}
+use Rattle.link.proofs.SenderSteps.{number-sent}
+use Rattle.link.specs.SenderActs.{senderAt}
 use Rattle.link.specs.System.{namedAfter}
-use Rattle.link.proofs.Queues.{all-head, Answer, skip, sub-all, replies, True, ToNumber, to-zero, to-stored, to-repeat, SaysExpected}
-use Rattle.link.proofs.Core.{Core, Holds, old, unknown, next, close-circuit, lose-back, not-both}
-use Rattle.link.proofs.Asks.{quiet, send-next, rest, deliver, submit, synchronize, again-first, again-query}
-use Rattle.link.proofs.Texts.{same-is, text-is}
+use Rattle.link.proofs.Queues.{all-head, Answer, skip, sub-all, replies, Given, ToNumber, to-zero, to-stored, to-repeat, NamesExpected, All}
+use Rattle.link.proofs.Books.{Books, withSender, withLines, Core, Expects, old, unknown, next, close-circuit, lose-back}
+use Rattle.link.proofs.Naming.{quiet, send-next, rest, deliver, submit, synchronize, again-first, again-query}
+use Rattle.link.proofs.Texts.{text-is}
 
-module _ (f : ℕ) (q : Persisted) (e d : Expected) (xs ns : List SequenceNumber) (bs cs : List Answer) (h k : ℕ) (o u : Bool) where
+-- ---- 0 is answered by the number after the delivered one, or by the one after that
+module _ (p : Persisted) (h : ℕ) where
+  abbrev queried : Bool → Bool → Acted
+  queried x y = cond x (proceeds p NoEvent) (cond y (proceeds (deliveredOf p) (DeliveredUnknown (p .delivered + 1))) (freezes p))
+
+  pub query-same : h ≡ p .delivered + 1 → answerQuery p AA (Number h) ≡ proceeds p NoEvent
+  query-same e = ap (λ (x : Bool). queried x (eqb h (p .delivered + 1 + 1) && ltb (p .delivered) (p .last))) (eq-eqb h (p .delivered + 1) e)
+
+  pub query-moved : h ≡ p .delivered + 1 + 1 → p .delivered < p .last → answerQuery p AA (Number h) ≡ proceeds (deliveredOf p) (DeliveredUnknown (p .delivered + 1))
+  query-moved e l =
+      ap (λ (x : Bool). queried x (eqb h (p .delivered + 1 + 1) && ltb (p .delivered) (p .last))) (ne-eqb h (p .delivered + 1) (λ (a : h ≡ p .delivered + 1). omega arith))
+      ∙ ap (λ (y : Bool). queried false (y && ltb (p .delivered) (p .last))) (eq-eqb h (p .delivered + 1 + 1) e)
+      ∙ ap (λ (y : Bool). queried false y) (lt-ltb (p .delivered) (p .last) l)
+
+module _ (f : ℕ) (b : Books) where
   abbrev Now : Persisted → Waiting → Type 0
-  Now p w = Core f p q w e d xs ns bs cs h k o u
+  Now p w = Core f (withSender b p w (b .named))
 
   abbrev pub After : Acted → Type 0
-  After a = Core f (a .sender .persisted) q (a .sender .waiting) e d xs (namedAfter ns a) bs cs h k o u
-
-  abbrev held : Persisted → Waiting → ℕ → Sender
-  held p w n = record { persisted = p; waiting = w; sends = n }
+  After a = Core f (withSender b (a .sender .persisted) (a .sender .waiting) (namedAfter (b .named) a))
 
   -- ---- something falls due
   module _ (r : ℕ) (p : Persisted) where
-    again : (w : Waiting) (n : ℕ) → After (acted (held p w (n + 1)) (waitingMessage p w) (n + 1) NoEvent) → Now p w → After (againOf r (held p w n))
-    again w n a c = cond-ind After (ltb n (r + 1)) _ _ (λ z. a) (λ z. close-circuit c)
+    again : (w : Waiting) (n : ℕ) (v : SequenceNumber) → After (acted (senderAt p w (n + 1)) (Numbered v) NoEvent) → Now p w → After (resendOf r (senderAt p w n) (Numbered v))
+    again w n v a c = cond-ind After (ltb n (r + 1)) _ _ (λ z. a) (λ z. close-circuit c)
 
-    pub due : (w : Waiting) (n : ℕ) → WaitsRight p w n → Now p w → After (dueIn r (held p w n) w)
+    pub due : (w : Waiting) (n : ℕ) → WaitsRight p w n → Now p w → After (resendOf r (senderAt p w n) (waitingMessage p w))
     due Closed n t c = quiet c
     due Idle n t c = quiet c
-    due Resynchronizing n t c = again Resynchronizing n (again-first c) c
-    due Querying n t c = again Querying n (again-query c) c
-    due Sending n t c = again Sending n (send-next c (t .0 .synchronized) (t .1 .more)) c
+    due Resynchronizing n t c = again Resynchronizing n MinusOne (again-first c refl) c
+    due Querying n t c = again Querying n (Number 0) (again-query c (c .waits)) c
+    due Sending n t c = again Sending n (Number (p .delivered + 1)) (send-next c (t .0 .synchronized) (t .1 .more)) c
 
   -- ---- what goes on
-  pub goes-on : (p : Persisted) (v : Event) → p .resynchronized ≡ true → Now p Idle → After (goesOn p v)
-  goes-on p v z c =
-      cond-ind (λ (w : Waiting). After (begins p w v)) (ltb (p .delivered) (p .last)) Sending Idle (λ y. send-next c z (ltb-true (p .delivered) (p .last) y)) (λ y. quiet c)
+  pub proceeding : (p : Persisted) (v : Event) → p .resynchronized ≡ true → Now p Idle → After (proceeds p v)
+  proceeding p v z c =
+      cond-ind (λ (w : Waiting). After (beginsToWait p w v)) (ltb (p .delivered) (p .last)) Sending Idle (λ y. send-next c z (ltb-true (p .delivered) (p .last) y)) (λ y. quiet c)
 
   -- ---- an answer to what waits
-  module _ (p : Persisted) (n : ℕ) where
-    hears-first : (b : Code) (m : SequenceNumber) → Now p Resynchronizing → True u k (replies MinusOne b m) → After (hearResynchronizing (held p Resynchronizing n) b m)
-    hears-first b m c t =
-        subst (λ (x : Code). After (hearResynchronizing (held p Resynchronizing n) x m)) (sym (t .code))
-        (subst (λ (x : SequenceNumber). After (hearResynchronizing (held p Resynchronizing n) AA x)) (sym (t .number)) (goes-on (resynchronizedOf p) NoEvent refl (synchronize c (t .new))))
+  module _ (p : Persisted) where
+    first-answered : (d : Code) (m : SequenceNumber) → Now p Resynchronizing → Given (b .stored) (replies MinusOne d m) → After (answerResynchronizing p d m)
+    first-answered d m c t =
+        subst (λ (x : Code). After (answerResynchronizing p x m)) (sym (t .code))
+        (subst (λ (x : SequenceNumber). After (answerResynchronizing p AA x)) (sym (t .number))
+        (proceeding (resynchronizedOf p) NoEvent refl (synchronize c refl (t .new))))
 
-    query-none : Now p Querying → h ≡ f → After (queryNone (held p Querying n))
+    query-none : Now p Querying → b .volatile .next ≡ f → After (answerQuery p AA MinusOne)
     query-none c z =
         let i = c .numbers in
-        let g = c .ends .first in
-        let y : eqb (p .delivered + 1) (p .first) ≡ true = eq-eqb (p .delivered + 1) (p .first) (omega arith) in
-        subst (λ (t : Bool). After (cond t (goesOn p NoEvent) (freezes (held p Querying n)))) (sym y) (goes-on p NoEvent (c .waits .synchronized) (rest c (c .waits .synchronized)))
+        let g = c .senders .first in
+        let y : eqb (p .delivered) (p .first - 1) ≡ true = eq-eqb (p .delivered) (p .first - 1) (omega arith) in
+        subst (λ (t : Bool). After (cond t (proceeds p NoEvent) (freezes p))) (sym y) (proceeding p NoEvent (c .waits .synchronized) (rest c (c .waits .synchronized)))
 
-    query-number : Now p Querying → k ≡ h → After (queryNumber (held p Querying n) h)
-    query-number c z = go (decLe h (p .delivered + 1))
+    query-number : Now p Querying → b .stored .next ≡ b .volatile .next → After (answerQuery p AA (Number (b .volatile .next)))
+    query-number c z = go (decLe (b .volatile .next) (p .delivered + 1))
       where
-        goal : Bool → Bool → Bool → Acted
-        goal x y t =
-            cond x (goesOn p NoEvent)
-            (cond y (cond t (goesOn (deliveredOf p) (DeliveredUnknown (p .delivered + 1))) (freezes (held p Querying n))) (freezes (held p Querying n)))
-
-        go : Dec (h ≤ p .delivered + 1) → After (queryNumber (held p Querying n) h)
+        go : Dec (b .volatile .next ≤ p .delivered + 1) → After (answerQuery p AA (Number (b .volatile .next)))
         go (yes y) =
             let i = c .numbers in
-            let x : eqb h (p .delivered + 1) ≡ true = eq-eqb h (p .delivered + 1) (omega arith) in
-            subst (λ (t : Bool). After (cond t (goesOn p NoEvent) (cond (eqb h (p .delivered + 2)) (cond (ltb (p .delivered) (p .last)) (goesOn (deliveredOf p) (DeliveredUnknown (p .delivered + 1))) (freezes (held p Querying n))) (freezes (held p Querying n))))) (sym x)
-            (goes-on p NoEvent (c .waits .synchronized) (rest c (c .waits .synchronized)))
+            subst After (sym (query-same p (b .volatile .next) (omega arith))) (proceeding p NoEvent (c .waits .synchronized) (rest c (c .waits .synchronized)))
         go (no y) =
             let i = c .numbers in
-            let x : eqb h (p .delivered + 1) ≡ false = ne-eqb h (p .delivered + 1) (λ (a : h ≡ p .delivered + 1). y (omega arith)) in
-            let v : eqb h (p .delivered + 2) ≡ true = eq-eqb h (p .delivered + 2) (omega arith) in
-            let l : p .delivered < p .last = omega arith in
-            subst (λ (t : Bool). After (cond t (goesOn p NoEvent) (cond (eqb h (p .delivered + 2)) (cond (ltb (p .delivered) (p .last)) (goesOn (deliveredOf p) (DeliveredUnknown (p .delivered + 1))) (freezes (held p Querying n))) (freezes (held p Querying n))))) (sym x)
-            (subst (λ (t : Bool). After (cond t (cond (ltb (p .delivered) (p .last)) (goesOn (deliveredOf p) (DeliveredUnknown (p .delivered + 1))) (freezes (held p Querying n))) (freezes (held p Querying n)))) (sym v)
-            (subst (λ (t : Bool). After (cond t (goesOn (deliveredOf p) (DeliveredUnknown (p .delivered + 1))) (freezes (held p Querying n)))) (sym (lt-ltb (p .delivered) (p .last) l))
-            (goes-on (deliveredOf p) (DeliveredUnknown (p .delivered + 1)) (c .waits .synchronized) (deliver c (c .waits .synchronized) (omega arith)))))
+            subst After (sym (query-moved p (b .volatile .next) (omega arith) (omega arith)))
+            (proceeding (deliveredOf p) (DeliveredUnknown (p .delivered + 1)) (c .waits .synchronized) (deliver c (c .waits .synchronized) (omega arith)))
 
-    same-number : {a b : ℕ} → Number a ≡ Number b → a ≡ b
-    same-number {a} {b} y = let z : a ≡ b = cc in z
+    -- what the receiver has persisted is what it holds, where both name the same number
+    stored-is : Expects f (b .stored) → b .stored .old ≡ false → expectedNumber (b .stored .expected) ≡ Number (b .volatile .next) → b .stored .next ≡ b .volatile .next
+    stored-is (old a x) z y = not-both (sym a ∙ z)
+    stored-is (unknown a t x) z y = let v = sym (ap expectedNumber x) ∙ y in not-both cc
+    stored-is (next a t x) z y = number-is (sym (ap expectedNumber x) ∙ y)
 
-    not-minus : {P : Type 0} (a : ℕ) → MinusOne ≡ Number a → P
-    not-minus a y = let z : _≡_ {A = ℕ} 0 1 = cc in absurd (omega arith)
-
-    -- what the receiver has stored is what it holds, where both say h
-    kept-is : Holds f u k d → u ≡ false → expectedNumber d ≡ Number h → k ≡ h
-    kept-is (old a b) z y = not-both (sym a ∙ z)
-    kept-is (unknown a b x) z y = not-minus h (sym (ap expectedNumber x) ∙ y)
-    kept-is (next a b x) z y = same-number (sym (ap expectedNumber x) ∙ y)
-
-    hears-query : (m : SequenceNumber) → Now p Querying → m ≡ expectedNumber e → m ≡ expectedNumber d → After (hearQuerying (held p Querying n) AA m)
-    hears-query m c y x = go (c .ends .holds)
+    query-answered : (m : SequenceNumber) → Now p Querying → m ≡ expectedNumber (b .volatile .expected) → m ≡ expectedNumber (b .stored .expected)
+        → After (answerQuery p AA m)
+    query-answered m c y x = go (c .receivers .expects)
       where
-        go : Holds f o h e → After (hearQuerying (held p Querying n) AA m)
-        go (old a b) = not-both (sym a ∙ c .ends .newer (c .ends .synchronized (c .waits .synchronized)))
-        go (unknown a b t) = subst (λ (z : SequenceNumber). After (hearQuerying (held p Querying n) AA z)) (sym (y ∙ ap expectedNumber t)) (query-none c b)
-        go (next a b t) =
-            subst (λ (z : SequenceNumber). After (hearQuerying (held p Querying n) AA z)) (sym (y ∙ ap expectedNumber t))
-            (query-number c (kept-is (c .ends .keeps) (c .ends .synchronized (c .waits .synchronized)) (sym x ∙ y ∙ ap expectedNumber t)))
+        new : b .stored .old ≡ false
+        new = c .receivers .synchronized (c .waits .synchronized)
 
-    known : (b : Code) → Now p Sending → p .delivered + 2 ≤ k → After (knownNumber (held p Sending n) b (p .delivered + 1))
-    known b c l =
-        subst (λ (t : Bool). After (cond t (goesOn (deliveredOf p) (Delivered (p .delivered + 1) b)) (freezes (held p Sending n)))) (sym (eq-eqb (p .delivered + 1) (p .delivered + 1) refl))
-        (goes-on (deliveredOf p) (Delivered (p .delivered + 1) b) (c .waits) (deliver c (c .waits) l))
+        go : Expects f (b .volatile) → After (answerQuery p AA m)
+        go (old a t) = not-both (sym a ∙ c .receivers .newer new)
+        go (unknown a z t) = subst (λ (v : SequenceNumber). After (answerQuery p AA v)) (sym (y ∙ ap expectedNumber t)) (query-none c z)
+        go (next a z t) =
+            subst (λ (v : SequenceNumber). After (answerQuery p AA v)) (sym (y ∙ ap expectedNumber t))
+            (query-number c (stored-is (c .receivers .stored-expects) new (sym x ∙ y ∙ ap expectedNumber t)))
 
-    repeated : (m : ℕ) → m ≡ p .delivered + 2 → Now p Sending → p .delivered + 2 ≤ k → After (rejectNumber (held p Sending n) m)
-    repeated m y c l =
-        subst (λ (t : Bool). After (cond t (goesOn (deliveredOf p) (DeliveredUnknown (p .delivered + 1))) (freezes (held p Sending n)))) (sym (eq-eqb m (p .delivered + 2) y))
-        (goes-on (deliveredOf p) (DeliveredUnknown (p .delivered + 1)) (c .waits) (deliver c (c .waits) l))
+    -- the test of the number is passed, and the delivered number moves
+    taken : (t : Bool) (v : Event) → t ≡ true → Now p Sending → p .delivered + 2 ≤ b .stored .next → After (cond t (proceeds (deliveredOf p) v) (freezes p))
+    taken t v y c l = subst (λ (x : Bool). After (cond x (proceeds (deliveredOf p) v) (freezes p))) (sym y) (proceeding (deliveredOf p) v (c .waits) (deliver c (c .waits) l))
 
-    hears-transaction : (b : Code) (m : SequenceNumber) → Now p Sending → ToNumber k (p .delivered + 1) b m → After (hearSending (held p Sending n) b m)
-    hears-transaction b m c (to-zero a x) = absurd (omega arith)
-    hears-transaction b m c (to-stored a (inl x) y l) =
-        subst (λ (z : Code). After (hearSending (held p Sending n) z m)) (sym x)
-        (subst (λ (z : SequenceNumber). After (hearSending (held p Sending n) AA z)) (sym y) (known AA c (omega arith)))
-    hears-transaction b m c (to-stored a (inr x) y l) =
-        subst (λ (z : Code). After (hearSending (held p Sending n) z m)) (sym x)
-        (subst (λ (z : SequenceNumber). After (hearSending (held p Sending n) AE z)) (sym y) (known AE c (omega arith)))
-    hears-transaction b m c (to-repeat a x y l) =
-        subst (λ (z : Code). After (hearSending (held p Sending n) z m)) (sym x)
-        (subst (λ (z : SequenceNumber). After (hearSending (held p Sending n) AR z)) (sym y) (repeated (p .delivered + 1 + 1) (omega arith) c (omega arith)))
+    transaction-answered : (d : Code) (m : SequenceNumber) → Now p Sending → ToNumber (b .stored .next) (p .delivered + 1) d m → After (answerTransaction p d m)
+    transaction-answered d m c (to-zero a x) = absurd (omega arith)
+    transaction-answered d m c (to-stored a (inl x) y l) =
+        subst (λ (z : Code). After (answerTransaction p z m)) (sym x)
+        (subst (λ (z : SequenceNumber). After (answerTransaction p AA z)) (sym y) (taken _ _ (eq-eqb (p .delivered + 1) (p .delivered + 1) refl) c (omega arith)))
+    transaction-answered d m c (to-stored a (inr x) y l) =
+        subst (λ (z : Code). After (answerTransaction p z m)) (sym x)
+        (subst (λ (z : SequenceNumber). After (answerTransaction p AE z)) (sym y) (taken _ _ (eq-eqb (p .delivered + 1) (p .delivered + 1) refl) c (omega arith)))
+    transaction-answered d m c (to-repeat a x y l) =
+        subst (λ (z : Code). After (answerTransaction p z m)) (sym x)
+        (subst (λ (z : SequenceNumber). After (answerTransaction p AR z)) (sym y) (taken _ _ (eq-eqb (p .delivered + 1 + 1) (p .delivered + 1 + 1) refl) c (omega arith)))
 
   -- ---- any answer that the receiver gave: to what waits, or dropped
-  module _ (p : Persisted) (n : ℕ) (v : SequenceNumber) (b : Code) (m : SequenceNumber) where
+  module _ (p : Persisted) (n : ℕ) (v : SequenceNumber) (d : Code) (m : SequenceNumber) where
     abbrev Before : Waiting → Type 0
-    Before w = Core f p q w e d xs ns (replies v b m ∷ bs) cs h k o u
+    Before w = Core f (withLines (withSender b p w (b .named)) (b .forward) (replies v d m ∷ b .back))
 
     rid : {w : Waiting} → Before w → Now p w
-    rid c = lose-back c (skip (sub-all bs))
+    rid c = lose-back c (skip (sub-all (b .back)))
 
-    given : {w : Waiting} → Before w → True u k (replies v b m)
-    given c = all-head (c .backward .heard)
+    given : {w : Waiting} (x : SequenceNumber) → v ≡ x → Before w → Given (b .stored) (replies x d m)
+    given x y c = subst (λ (z : SequenceNumber). Given (b .stored) (replies z d m)) y (all-head (c .back))
 
-    or-dropped : (w : Waiting) (x : SequenceNumber) → Before w → (v ≡ x → After (heardOf (held p w n) (Known b) (Present m)))
-        → After (cond (same (textOf v) (textOf x)) (heardOf (held p w n) (Known b) (Present m)) (stays (held p w n) Dropped))
+    or-dropped : (w : Waiting) (x : SequenceNumber) → Before w → (v ≡ x → After (answerOf (senderAt p w n) (Known d) (Present m)))
+        → After (cond (same (textOf v) (textOf x)) (answerOf (senderAt p w n) (Known d) (Present m)) (acted (senderAt p w n) Nothing Dropped))
     or-dropped w x c g =
         cond-ind After (same (textOf v) (textOf x)) _ _ (λ y. g (text-is v x (same-is (textOf v) (textOf x) y))) (λ y. quiet (rid c))
 
-    pub answered : (w : Waiting) → Before w → After (answeredBy (held p w n) (textOf v) (Known b) (Present m) (waitingMessage p w))
+    pub answered : (w : Waiting) → Before w → After (answeredBy (senderAt p w n) (textOf v) (Known d) (Present m) (waitingMessage p w))
     answered Closed c = quiet (rid c)
     answered Idle c = quiet (rid c)
-    answered Resynchronizing c =
-        or-dropped Resynchronizing MinusOne c
-        (λ y. hears-first p n b m (rid c) (subst (λ (z : SequenceNumber). True u k (replies z b m)) y (given c)))
-    answered Querying c =
-        or-dropped Querying (Number 0) c (λ y. zero y (subst (λ (z : SequenceNumber). True u k (replies z b m)) y (given c)) (subst (λ (z : SequenceNumber). SaysExpected e (replies z b m)) y (all-head (c .waits .says)) refl) (subst (λ (z : SequenceNumber). SaysExpected d (replies z b m)) y (all-head (c .waits .kept-says)) refl))
+    answered Resynchronizing c = or-dropped Resynchronizing MinusOne c (λ y. first-answered p d m (rid c) (given MinusOne y c))
+    answered Querying c = or-dropped Querying (Number 0) c (λ y. zero (given (Number 0) y c) (named y (c .waits .names)) (named y (c .waits .names-stored)))
       where
-        zero : v ≡ Number 0 → ToNumber k 0 b m → m ≡ expectedNumber e → m ≡ expectedNumber d → After (heardOf (held p Querying n) (Known b) (Present m))
-        zero y (to-zero a x) r t = subst (λ (z : Code). After (hearQuerying (held p Querying n) z m)) (sym x) (hears-query p n m (rid c) r t)
-        zero y (to-stored a x z l) r t = absurd (omega arith)
-        zero y (to-repeat a x z l) r t = absurd (omega arith)
+        named : {e : Expected} {l : List Answer} → v ≡ Number 0 → All (NamesExpected e) (replies v d m ∷ l) → m ≡ expectedNumber e
+        named {e} y a = subst (λ (z : SequenceNumber). NamesExpected e (replies z d m)) y (all-head a) refl
+
+        zero : ToNumber (b .stored .next) 0 d m → m ≡ expectedNumber (b .volatile .expected) → m ≡ expectedNumber (b .stored .expected)
+            → After (answerOf (senderAt p Querying n) (Known d) (Present m))
+        zero (to-zero a x) r t = subst (λ (z : Code). After (answerQuery p z m)) (sym x) (query-answered p m (rid c) r t)
+        zero (to-stored a x z l) r t = absurd (omega arith)
+        zero (to-repeat a x z l) r t = absurd (omega arith)
     answered Sending c =
-        or-dropped Sending (Number (p .delivered + 1)) c
-        (λ y. hears-transaction p n b m (rid c) (subst (λ (z : SequenceNumber). True u k (replies z b m)) y (given c)))
+        or-dropped Sending (Number (p .delivered + 1)) c (λ y. transaction-answered p d m (rid c) (given (Number (p .delivered + 1)) y c))
 
   -- ---- the driver's and the operator's acts
   module _ (s : Sender) (c : Now (s .persisted) (s .waiting)) where
@@ -191,49 +189,41 @@ module _ (f : ℕ) (q : Persisted) (e d : Expected) (xs ns : List SequenceNumber
 
     pub ended : After (endedOf s)
     unfolding endedOf
-    ended =
-        cond-ind After (validSender s) _ _
-        (λ v. cond-ind After (isOpen (s .waiting)) _ _ (λ y. close-circuit c) (λ y. quiet c))
-        (λ v. quiet c)
+    ended = cond-ind After (onCircuit s) _ _ (λ y. close-circuit c) (λ y. quiet c)
 
     pub reset : After (resetOf s)
     unfolding resetOf
     reset =
         cond-ind After (validSender s) _ _
-        (λ v. cond-ind After (s .persisted .frozen) _ _ (λ y. not-both (sym y ∙ c .ends .thawed)) (λ y. quiet c))
+        (λ v. cond-ind After (s .persisted .frozen) _ _ (λ y. not-both (sym y ∙ c .senders .unfrozen)) (λ y. quiet c))
         (λ v. quiet c)
 
     -- a transaction is taken: the message has the next number
-    taken : (w : Waiting) (n : ℕ) → WaitsRight (s .persisted) w n → Now (s .persisted) w → s .persisted .last + 1 ≤ 999999999999998 → After (takenIn (held (s .persisted) w n) w)
-    taken Closed n t a l = quiet (submit a l)
-    taken Idle n t a l = send-next (submit a l) (t .0 .synchronized) (let r = t .1 .all in omega arith)
-    taken Resynchronizing n t a l = quiet (submit a l)
-    taken Querying n t a l = quiet (submit a l)
-    taken Sending n t a l = quiet (submit a l)
-
-    next-bound : (id bytes : List ℕ) (x : NumberField) → numberField greatestSent bytes ≡ x → takesNumber (s .persisted) id x ≡ true → s .persisted .last + 1 ≤ 999999999999998
-    next-bound id bytes Missing y z = not-both (sym z)
-    next-bound id bytes NotNumber y z = not-both (sym z)
-    next-bound id bytes (Present MinusOne) y z = not-both (sym z)
-    next-bound id bytes (Present (Number n)) y z =
-        let a = eqb-true n (s .persisted .last + 1) (and-left (eqb n (s .persisted .last + 1)) (same id (textOf (Number n))) z) in
-        let r = field-number-bound greatestSent n bytes y in
-        omega arith
+    submitted-in : (w : Waiting) (n : ℕ) → WaitsRight (s .persisted) w n → Now (s .persisted) w → s .persisted .last + 1 ≤ 999999999999998 → After (takenIn (senderAt (s .persisted) w n) w)
+    submitted-in Closed n t a l = quiet (submit a l)
+    submitted-in Idle n t a l = send-next (submit a l) (t .0 .synchronized) (let r = t .1 .all in omega arith)
+    submitted-in Resynchronizing n t a l = quiet (submit a l)
+    submitted-in Querying n t a l = quiet (submit a l)
+    submitted-in Sending n t a l = quiet (submit a l)
 
     header : validSender s ≡ true → (message : List ℕ) (x : Header) → After (submittedHeader s message x)
     header v message Unreadable = quiet c
     header v message (Readable id number) =
-        cond-ind After (takesNumber (s .persisted) (bytesOf id message) (numberField greatestSent (bytesOf number message))) _ _
-        (λ y. taken (s .waiting) (s .sends) (right v) c (next-bound (bytesOf id message) (bytesOf number message) (numberField greatestSent (bytesOf number message)) refl y)) (λ y. quiet c)
+        let next = s .persisted .last + 1 in
+        let is = isNumber next (numberField greatestSent (bytesOf number message)) in
+        let named = same (bytesOf id message) (textOf (Number next)) in
+        cond-ind After (is && named) _ _
+        (λ y. submitted-in (s .waiting) (s .sends) (right v) c (number-sent next (bytesOf number message) (and-left is named y))) (λ y. quiet c)
 
     pub submits : (limit : ℕ) (message : List ℕ) → After (submitOf limit s message)
     unfolding submitOf
     submits limit message =
-        cond-ind After (validLimit limit) _ _
+        cond-ind After (limitValid limit && enoughForLink limit) _ _
         (λ a. cond-ind After (validSender s) _ _
-        (λ v. cond-ind After (s .persisted .frozen) _ _ (λ y. quiet c)
+        (λ v. cond-ind After (not (s .persisted .frozen)) _ _
         (λ y. cond-ind After (leb (length message) limit) _ _
         (λ z. cond-ind After (allAllowed message) _ _ (λ x. header v message (headerOf message)) (λ x. quiet c))
-        (λ z. quiet c)))
+        (λ z. quiet c))
+        (λ y. quiet c))
         (λ v. quiet c))
         (λ a. quiet c)

@@ -5,9 +5,9 @@ use Prim.Native.Nat.{ℕ, _+_}
 use lib.Dec.{eqb}
 use Rattle.lists.specs.Bytes.{same}
 use Rattle.settings.specs.declared.Settings.{Settings}
-use Rattle.verdict.specs.declared.Verdict.{Verdict}
-use Rattle.verdict.specs.declared.Verdict.the-variants.{Accepted, Byte, Long, Shape, Count, Check, Interrupted}
-use Rattle.stream.specs.Stream.{Said, Mode, between, Moved, move, run}
+use Rattle.refusal.specs.declared.Verdict.{Verdict}
+use Rattle.refusal.specs.declared.Verdict.the-variants.{Accepted, Refused}
+use Rattle.stream.specs.Stream.{Judged, Mode, between, Moved, move, run}
 
 -- a reader: where it stands in the stream, and the offset of the next byte
 pub record Reader : Type 0 where
@@ -16,6 +16,18 @@ pub record Reader : Type 0 where
 
 abbrev pub newReader : Reader
 newReader = record { mode = between; offset = 0 }
+
+-- a line in one direction: the reader at its end, and the bytes on the way to it
+pub record Line : Type 0 where
+  pub reader : Reader
+  pub bytes : List ℕ
+
+abbrev pub line : Reader → List ℕ → Line
+line r xs = record { reader = r; bytes = xs }
+
+-- nothing on the way, and no block half read
+abbrev pub emptyLine : Line
+emptyLine = line newReader []
 
 -- one byte is read: at most one verdict, and the reader then
 abbrev pub readsByte : Settings → Reader → ℕ → Moved
@@ -34,20 +46,15 @@ arrival t d = record { type = t; content = d }
 
 abbrev pub accepts : Verdict → List ℕ → List Arrival
 accepts (Accepted t n) d = arrival t d ∷ []
-accepts (Byte p) d = []
-accepts Long d = []
-accepts Shape d = []
-accepts Count d = []
-accepts Check d = []
-accepts Interrupted d = []
+accepts (Refused n i) d = []
 
-unfoldable pub acceptedOf : List Said → List Arrival
+unfoldable pub acceptedOf : List Judged → List Arrival
 acceptedOf [] = []
 acceptedOf (w ∷ ws) = accepts (w .verdict) (w .content) ++ acceptedOf ws
 
--- the blocks that a reader will accept of the bytes on its line
-abbrev pub arriving : Settings → Reader → List ℕ → List Arrival
-arriving g r xs = acceptedOf (run g (r .offset) (r .mode) xs)
+-- the blocks that the reader will accept of the bytes on its line
+abbrev pub arriving : Settings → Line → List Arrival
+arriving g x = acceptedOf (run g (x .reader .offset) (x .reader .mode) (x .bytes))
 
 abbrev pub sameArrival : Arrival → Arrival → Bool
 sameArrival a b = eqb (a .type) (b .type) && same (a .content) (b .content)
@@ -58,7 +65,7 @@ someOf [] ys = true
 someOf (x ∷ xs) [] = false
 someOf (x ∷ xs) (y ∷ ys) = cond (sameArrival x y) (someOf xs ys) (someOf (x ∷ xs) ys)
 
--- Loss and damage: any other bytes may come in place of those on the line, as many as you like, if no block is accepted that would not have been: all that changed is refused,
--- by one refusal, by several, or by none until the next SB
-abbrev pub damages : Settings → Reader → List ℕ → List ℕ → Bool
-damages g r xs ys = someOf (arriving g r ys) (arriving g r xs)
+-- Loss and damage: any other bytes may come in place of those on the line, as many as you like, if no block is accepted that would not have been:
+-- all that changed is refused, by one refusal, by several, or by none until the next SB
+abbrev pub damages : Settings → Line → List ℕ → Bool
+damages g x ys = someOf (arriving g (line (x .reader) ys)) (arriving g x)

@@ -35,21 +35,21 @@ unfoldable pub transactions : Link → ℕ → List (List ℕ)
 transactions l zero = []
 transactions l (suc n) = transactions l n ++ l .log (l .first + n) ∷ []
 
--- "the receiver has the first k transactions, each once, in order, and the sender's mark covers k or k less one": both as it is held and as it is stored.
+-- "the receiver has the first k transactions, each once, in order, and the sender's mark covers k or k less one": both as it is held and as it is persisted.
 -- The mark covers j transactions where it is f - 1 + j.
 pub record Covers (l : Link) (delivered k : ℕ) : Type 0 where
   pub at-most : delivered + 1 ≤ l .first + k
   pub at-least : l .first + k ≤ delivered + 2
 
 pub record Safe (l : Link) (y : System) : Type 0 where
-  pub held : ℕ
-  pub kept : ℕ
-  pub has : y .receiving .has ≡ transactions l held
-  pub kept-has : y .receiving .keptHas ≡ transactions l kept
-  pub covers : Covers l (y .sending .sender .persisted .delivered) kept
-  pub kept-covers : Covers l (y .sending .persisted .delivered) kept
-  pub held-covers : Covers l (y .sending .sender .persisted .delivered) held
-  pub kept-held-covers : Covers l (y .sending .persisted .delivered) held
+  pub volatile : ℕ
+  pub persisted : ℕ
+  pub has : y .receiving .volatile .has ≡ transactions l volatile
+  pub persisted-has : y .receiving .persisted .has ≡ transactions l persisted
+  pub covers : Covers l (y .sending .sender .persisted .delivered) volatile
+  pub covers-persisted : Covers l (y .sending .sender .persisted .delivered) persisted
+  pub persisted-covers : Covers l (y .sending .persisted .delivered) volatile
+  pub persisted-covers-persisted : Covers l (y .sending .persisted .delivered) persisted
   -- "The sender never freezes."
-  pub thawed : y .sending .sender .persisted .frozen ≡ false
-  pub kept-thawed : y .sending .persisted .frozen ≡ false
+  pub unfrozen : y .sending .sender .persisted .frozen ≡ false
+  pub persisted-unfrozen : y .sending .persisted .frozen ≡ false

@@ -2,22 +2,22 @@
 use mathlib.Core.List.{List, [], _∷_}
 use mathlib.Core.Bool.{Bool, true, false, cond, _&&_}
 use Prim.Native.Nat.{ℕ}
+use Prim.Native.Char.{code}
 use lib.Dec.{leb, eqb}
-use Rattle.verdict.specs.declared.Verdict.{Verdict}
-use Rattle.verdict.specs.declared.Verdict.the-variants.{Accepted, Byte, Long, Shape, Count, Check, Interrupted}
+use Rattle.refusal.specs.declared.Verdict.{Verdict}
+use Rattle.refusal.specs.declared.Verdict.the-variants.{Accepted, Refused}
 use Rattle.header.specs.Header.{acknowledgmentOf}
 use Rattle.header.specs.declared.Acknowledgment.{Acknowledgment}
 use Rattle.header.specs.declared.Acknowledgment.the-variants.{Unreadable as NoAnswer, Readable as AnAnswer}
-use Rattle.sender.specs.Sender.{openOf, endedOf, resetOf, timerOf, blockReadOf, submitOf}
-use Rattle.sender.specs.declared.Waiting.the-variants.{Closed}
+use Rattle.sender.specs.Sender.{closed, openOf, endedOf, resetOf, timerOf, blockReadOf, submitOf}
+use Rattle.sender.specs.declared.Persisted.{Persisted}
+use Rattle.sender.specs.declared.Waiting.{Waiting}
 use Rattle.sender.specs.declared.Sender.{Sender}
 use Rattle.sender.specs.declared.Acted.{Acted}
 
 -- an act, with the resends, the limit and what was read or submitted
 pub data Act : Type 0 where
-  opened : Act
-  ended : Act
-  reset : Act
+  opened ended reset : Act
   timer : ℕ → Act
   block : ℕ → Verdict → List ℕ → Act
   submit : ℕ → List ℕ → Act
@@ -36,13 +36,8 @@ unreadable NoAnswer = true
 unreadable (AnAnswer c i e) = false
 
 abbrev pub dueBlock : Verdict → List ℕ → Bool
-dueBlock (Accepted t n) d = cond (eqb t 78) true (unreadable (acknowledgmentOf d))
-dueBlock (Byte p) d = true
-dueBlock Long d = true
-dueBlock Shape d = true
-dueBlock Count d = true
-dueBlock Check d = true
-dueBlock Interrupted d = true
+dueBlock (Accepted t n) d = cond (eqb t (code "N")) true (unreadable (acknowledgmentOf d))
+dueBlock (Refused n i) d = true
 
 abbrev pub fallsDue : Act → Bool
 fallsDue opened = false
@@ -61,25 +56,28 @@ resendsOf (timer r) = r
 resendsOf (block r v d) = r
 resendsOf (submit limit d) = 0
 
--- a crash keeps what is stored. An act whose change was not yet stored is lost with it: then the crash stands in its place
-abbrev pub crashOf : Sender → Sender
-crashOf s = record { persisted = s .persisted; waiting = Closed; sends = 0 }
+abbrev pub senderAt : Persisted → Waiting → ℕ → Sender
+senderAt p w n = record { persisted = p; waiting = w; sends = n }
 
-pub data Doing : Type 0 where
-  does : Act → Doing
-  crashes : Doing
+-- a crash keeps what is persisted. An act whose change was not yet persisted is lost with it: then the crash stands in its place
+abbrev pub afterCrash : Persisted → Sender
+afterCrash p = closed p
 
-abbrev pub doneOf : Doing → Sender → Sender
-doneOf (does a) s = actOf a s .sender
-doneOf crashes s = crashOf s
+pub data ActOrCrash : Type 0 where
+  act : Act → ActOrCrash
+  crash : ActOrCrash
 
--- the state after a run, the newest doing first
-abbrev pub afterOf : Sender → List Doing → Sender
+abbrev pub stepOf : ActOrCrash → Sender → Sender
+stepOf (act a) s = actOf a s .sender
+stepOf crash s = afterCrash (s .persisted)
+
+-- the state after a run, the newest step first
+abbrev pub afterOf : Sender → List ActOrCrash → Sender
 afterOf s [] = s
-afterOf s (x ∷ xs) = doneOf x (afterOf s xs)
+afterOf s (x ∷ xs) = stepOf x (afterOf s xs)
 
 -- the acts of a run are given r resends at most
-abbrev pub within : ℕ → List Doing → Bool
+abbrev pub within : ℕ → List ActOrCrash → Bool
 within r [] = true
-within r (does a ∷ xs) = leb (resendsOf a) r && within r xs
-within r (crashes ∷ xs) = within r xs
+within r (act a ∷ xs) = leb (resendsOf a) r && within r xs
+within r (crash ∷ xs) = within r xs

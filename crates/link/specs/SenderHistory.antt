@@ -5,32 +5,28 @@ use Prim.Native.Nat.{ℕ, _+_}
 use lib.Dec.{eqb}
 use Rattle.numbers.specs.declared.SequenceNumber.{SequenceNumber}
 use Rattle.numbers.specs.declared.SequenceNumber.the-variants.{MinusOne, Number}
-use Rattle.sender.specs.Sender.{waitingMessage}
+use Rattle.sender.specs.Sender.{waitsOf}
 use Rattle.sender.specs.declared.Sender.{Sender}
 use Rattle.sender.specs.declared.NumberedMessage.{NumberedMessage}
 use Rattle.sender.specs.declared.NumberedMessage.the-variants.{Nothing, Numbered}
 use Rattle.sender.specs.declared.Event.{Event}
 use Rattle.sender.specs.declared.Event.the-variants.{NoEvent, Delivered, DeliveredUnknown, Abandoned, Froze, Dropped}
 use Rattle.sender.specs.declared.Acted.{Acted}
-use Rattle.link.specs.SenderActs.{actOf, Doing, does, crashes, afterOf}
+use Rattle.link.specs.SenderActs.{actOf, ActOrCrash, act, crash, afterOf}
 
 -- what happened: an act's answer, or a crash
 pub data Entry : Type 0 where
-  told : Acted → Entry
+  reported : Acted → Entry
   crashed : Entry
 
-abbrev pub entryOf : Doing → Sender → Entry
-entryOf (does a) s = told (actOf a s)
-entryOf crashes s = crashed
+abbrev pub entryOf : ActOrCrash → Sender → Entry
+entryOf (act a) s = reported (actOf a s)
+entryOf crash s = crashed
 
 -- the history of a run, the newest first
-abbrev pub historyOf : Sender → List Doing → List Entry
+abbrev pub historyOf : Sender → List ActOrCrash → List Entry
 historyOf s [] = []
 historyOf s (x ∷ xs) = entryOf x (afterOf s xs) ∷ historyOf s xs
-
--- the message that waits in a state, by its number (-1, 0 or a transaction's)
-abbrev pub waitsOf : Sender → NumberedMessage
-waitsOf s = waitingMessage (s .persisted) (s .waiting)
 
 abbrev pub is : SequenceNumber → NumberedMessage → Bool
 is m Nothing = false
@@ -44,7 +40,7 @@ is (Number n) (Numbered (Number k)) = eqb n k
 abbrev pub counted : SequenceNumber → List Entry → ℕ
 counted m [] = 0
 counted m (crashed ∷ h) = 0
-counted m (told b ∷ h) = cond (is m (waitsOf (b .sender))) (cond (is m (b .send)) 1 0 + counted m h) 0
+counted m (reported b ∷ h) = cond (is m (waitsOf (b .sender))) (cond (is m (b .send)) 1 0 + counted m h) 0
 
 abbrev pub countedOf : NumberedMessage → List Entry → ℕ
 countedOf Nothing h = 0
@@ -58,7 +54,7 @@ isAbandoned Abandoned = true
 isAbandoned Froze = false
 isAbandoned Dropped = false
 
--- "That is the message waiting after the act, or the one just given up; with neither, 0.": the sends to be told in the answer b,
+-- "That is the message waiting after the act, or the one just given up; with neither, 0.": the sends to be reported in the answer b,
 -- given in the state s with the history h
-abbrev pub sendsToTell : Sender → List Entry → Acted → ℕ
-sendsToTell s h b = cond (isAbandoned (b .event)) (countedOf (waitsOf s) h) (countedOf (waitsOf (b .sender)) (told b ∷ h))
+abbrev pub sendsToReport : Sender → List Entry → Acted → ℕ
+sendsToReport s h b = cond (isAbandoned (b .event)) (countedOf (waitsOf s) h) (countedOf (waitsOf (b .sender)) (reported b ∷ h))

@@ -3,3 +3,6 @@ pub mod Parts
 pub mod Search
 pub mod Put
 pub mod Over
+pub mod All
+pub mod Same
+pub mod Calls

@@ -6,7 +6,7 @@ use native.Mathlib.Numerals.{add-one}
 use native.Mathlib.Nat.{add-zero, add-assoc}
 use native.Mathlib.Omega.{arith}
 use lib.ListN.{length, take, drop, set, length-append, length-drop, take-append-drop}
-use lib.Seq.{drop-drop, take-all, take-at, drop-append-add, append-snoc, set-split, length-take-le}
+use lib.Seq.{drop-drop, take-all, take-at, take-append-seam, drop-append-add, append-snoc, set-split, length-take-le}
 use borrow.Rule.Slice.PartMut.{midOf, putMid}
 use Rattle.lists.proofs.Parts.{drop-none}
 use Rattle.lists.specs.Bytes.{put, overwritten}
@@ -23,6 +23,13 @@ back l vs last a h e =
     let m : take (length l - a) (drop a l) ≡ drop a l = take-all (length l - a) (drop a l) (simp length-drop (omega arith)) in
     let p : drop (length l - a) (drop a l) ≡ [] = drop-drop (length l - a) a l ∙ drop-none l (a + (length l - a)) (omega arith) in
     rw (e, p, m, append-nil, drop-drop (length vs) a l) (sym (append-assoc (take a l) vs (drop (a + length vs) l)))
+
+-- vs copied into the part from a on
+pub copied : (l vs last : List ℕ) (a : ℕ) → a + length vs ≤ length l → last ≡ overwritten (midOf a (length l - a) l) vs
+    → putMid a (length l - a) l last ≡ put l a vs
+copied l vs last a h e =
+    let m : length (midOf a (length l - a) l) ≡ length l - a = length-take-le (length l - a) (drop a l) (simp length-drop (omega arith)) in
+    back l vs last a (omega arith) (e ∙ over-fits (midOf a (length l - a) l) vs (omega arith))
 
 pub put-none : (l : List ℕ) (a : ℕ) → put l a [] ≡ l
 unfolding put
@@ -51,3 +58,15 @@ pub length-put : (l vs : List ℕ) (a : ℕ) → a + length vs ≤ length l → 
 unfolding put
 length-put l vs a h =
     simp (length-append, length-drop, length-take-le a l (omega arith)) (omega arith)
+
+-- what was written at the beginning of a longer list is its first bytes
+module _ (l vs m : List ℕ) (h : length vs ≤ length l) (e : m ≡ put l 0 vs) (n : ℕ) (q : n ≡ length vs) where
+  pub first-fits : n ≤ length m
+  first-fits = let z : length m ≡ length l = ap length e ∙ length-put l vs 0 (omega arith) in omega (arith, q, z)
+
+  pub first-size : n ≡ length (take n m)
+  first-size = sym (length-take-le n m first-fits)
+
+  pub first-part : take n m ≡ vs
+  unfolding put
+  first-part = rw (q, e) (take-append-seam vs (drop (0 + length vs) l))

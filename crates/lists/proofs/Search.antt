@@ -67,3 +67,10 @@ module _ (a b : ℕ) where
   clear-hit (x ∷ xs) =
       cond-ind (λ (n : ℕ). n < suc (length xs) → (eqb (getD (x ∷ xs) n 0) a || eqb (getD (x ∷ xs) n 0) b) ≡ true) (eqb x a || eqb x b) _ _
       (λ e l. e) (λ e l. clear-hit xs (omega arith))
+
+  -- neither is before the first of them
+  pub clear-free : (s : List ℕ) → hasAny a b (take (clear a b s) s) ≡ false
+  clear-free [] = refl
+  clear-free (x ∷ xs) =
+      let ih = clear-free xs in
+      cond-ind (λ (n : ℕ). hasAny a b (take n (x ∷ xs)) ≡ false) (eqb x a || eqb x b) 0 (suc (clear a b xs)) (λ e. refl) (λ e. rw (e, ih))

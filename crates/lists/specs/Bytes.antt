@@ -4,6 +4,17 @@ use mathlib.Core.Bool.{Bool, true, false, cond, _&&_, _||_}
 use Prim.Native.Nat.{ℕ, suc, _+_}
 use lib.ListN.{length, take, drop}
 use lib.Dec.{leb, eqb}
+use Prim.Native.Char.{Char, code}
+use Prim.Native.String.{String, [] as nil, _∷_ as _then_}
+
+-- the bytes of a text
+abbrev pub bytes : String → List ℕ
+bytes nil = []
+bytes (c then cs) = code c ∷ bytes cs
+
+-- 2^64 - 1
+abbrev pub greatestWord : ℕ
+greatestWord = 0xFFFFFFFFFFFFFFFF
 
 -- how many bytes come before the first a or b
 abbrev pub clear : ℕ → ℕ → List ℕ → ℕ
@@ -14,6 +25,11 @@ clear a b (x ∷ xs) = cond (eqb x a || eqb x b) 0 (suc (clear a b xs))
 abbrev pub hasAny : ℕ → ℕ → List ℕ → Bool
 hasAny a b [] = false
 hasAny a b (x ∷ xs) = (eqb x a || eqb x b) || hasAny a b xs
+
+-- whether the test holds of all bytes
+abbrev pub all : (ℕ → Bool) → List ℕ → Bool
+all test [] = true
+all test (x ∷ xs) = test x && all test xs
 
 -- whether two lists have the same bytes
 unfoldable pub same : List ℕ → List ℕ → Bool

@@ -1,9 +1,9 @@
 -- What gmv_field_next returns and leaves in the words, for every input (include/giamuvich.h).
 use mathlib.Core.List.{List, [], _∷_}
-use mathlib.Core.Bool.{cond}
 use Prim.Native.Nat.{ℕ}
 use lib.ListN.{length}
-use lib.Dec.{ltb}
+use lib.Dec.{leb}
+use Rattle.lists.specs.Outcome.{need, Called, called}
 use Rattle.lists.specs.Bytes.{over}
 use Rattle.fields.specs.declared.Field.{Field}
 use Rattle.field_reader.specs.FieldReader.{nextOf}
@@ -22,18 +22,10 @@ delimiterWord MessageEnd = 3
 abbrev pub fieldWords : ℕ → Field → ℕ → ℕ → List ℕ
 fieldWords found f delimiter position = found ∷ f .start ∷ f .length ∷ delimiter ∷ position ∷ []
 
--- the number, and what is left in the words
-pub record Called : Type 0 where
-  pub number : ℕ
-  pub words : List ℕ
-
-abbrev pub called : ℕ → List ℕ → Called
-called n ws = record { number = n; words = ws }
-
 -- no field is left: the position stays, and the other words are 0
 abbrev pub nextFinished : ℕ → List ℕ → NextField → Called
-nextFinished at ws NoField = called 0 (over ws (fieldWords 0 (record { start = 0; length = 0 }) 0 at))
-nextFinished at ws (Found f d after) = called 0 (over ws (fieldWords 1 f (delimiterWord d) after))
+nextFinished at ws NoField = called 0 [] [] (over ws (fieldWords 0 (record { start = 0; length = 0 }) 0 at))
+nextFinished at ws (Found f d after) = called 0 [] [] (over ws (fieldWords 1 f (delimiterWord d) after))
 
 unfoldable pub nextCall : List ℕ → ℕ → List ℕ → Called
-nextCall m at ws = cond (ltb (length ws) 5) (called 2 ws) (nextFinished at ws (nextOf m at))
+nextCall m at ws = need (leb 5 (length ws)) (called 2 [] [] ws) (nextFinished at ws (nextOf m at))

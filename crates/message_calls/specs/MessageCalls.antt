@@ -3,7 +3,7 @@ use mathlib.Core.List.{List, [], _∷_}
 use mathlib.Core.Bool.{cond}
 use Prim.Native.Nat.{ℕ}
 use lib.ListN.{length}
-use lib.Dec.{ltb, leb, eqb}
+use lib.Dec.{leb, eqb}
 use Rattle.fields.specs.Fields.{bytesOf}
 use Rattle.fields.specs.declared.Field.{Field}
 use Rattle.numbers.specs.Numbers.{numberField, greatestSent, greatestExpected}
@@ -19,26 +19,25 @@ use Rattle.header.specs.declared.Acknowledgment.the-variants.{Unreadable as NoA
 use Rattle.header.specs.declared.Code.{Code}
 use Rattle.header.specs.declared.Code.the-variants.{AA, AE, AR}
 use Rattle.header.specs.declared.CodeField.{CodeField}
-use Rattle.header.specs.declared.CodeField.the-variants.{Other, Known}
-use Rattle.messages.specs.Write.{Outcome, writeAnswerOf, writeControlOf, numberOf, forbiddenOffsetOf, lengthOf}
+use Rattle.header.specs.declared.CodeField.the-variants.{Other, Known as KnownCode}
+use Rattle.messages.specs.Write.{writeAnswerOf, writeControlOf}
 use Rattle.messages.specs.declared.Control.{Control}
 use Rattle.messages.specs.declared.Control.the-variants.{Resynchronize, Query}
-use Rattle.messages.specs.declared.MessageType.{MessageType}
-use Rattle.messages.specs.declared.MessageWritten.{MessageWritten}
-use Rattle.messages.specs.declared.MessageWritten.the-variants.{Setting, TooShort, Byte, Header as NoHeader, TooLarge, Message}
-use Rattle.lists.specs.Bytes.{over}
-use Rattle.words.specs.Words.{reportWords}
+use Rattle.lists.specs.Bytes.{greatestWord, over}
+use Rattle.lists.specs.Outcome.{need, Outcome, Called, called}
+use Rattle.refusal.specs.declared.Written.{Written}
+use Rattle.words.specs.Words.{writeFinished}
 use Rattle.message_calls.specs.declared.CodeMade.{CodeMade}
-use Rattle.message_calls.specs.declared.CodeMade.the-variants.{NoCode, ACode}
+use Rattle.message_calls.specs.declared.CodeMade.the-variants.{Unknown, Known}
 use Rattle.message_calls.specs.declared.ControlMade.{ControlMade}
-use Rattle.message_calls.specs.declared.ControlMade.the-variants.{NoControl, AControl}
+use Rattle.message_calls.specs.declared.ControlMade.the-variants.{Unknown as UnknownControl, Known as KnownControl}
 use Rattle.messages.specs.declared.TypeMade.{TypeMade}
-use Rattle.messages.specs.declared.TypeMade.the-variants.{Refused, Valid}
-use Rattle.messages.specs.Messages.{typeOf}
+use Rattle.messages.specs.declared.TypeMade.the-variants.{Unknown as UnknownType, Known as KnownType}
+use Rattle.messages.specs.Messages.{messageType}
 
 -- GMV_MINUS_ONE
 abbrev pub minusOne : ℕ
-minusOne = 18446744073709551615
+minusOne = greatestWord
 
 -- GMV_FIELD_MISSING, GMV_FIELD_NOT_NUMBER, GMV_FIELD_NUMBER
 abbrev pub kindOf : NumberField → ℕ
@@ -59,28 +58,20 @@ valueOf (Present n) = wordOf n
 -- GMV_CODE_OTHER, GMV_CODE_AA, GMV_CODE_AE, GMV_CODE_AR
 abbrev pub codeWord : CodeField → ℕ
 codeWord Other = 0
-codeWord (Known AA) = 1
-codeWord (Known AE) = 2
-codeWord (Known AR) = 3
-
--- a call that reads: the number, and what is left in the words
-pub record Called : Type 0 where
-  pub number : ℕ
-  pub words : List ℕ
-
-abbrev pub called : ℕ → List ℕ → Called
-called n ws = record { number = n; words = ws }
+codeWord (KnownCode AA) = 1
+codeWord (KnownCode AE) = 2
+codeWord (KnownCode AR) = 3
 
 -- GMV_HEADER_CONTROL_ID_OFFSET, _LENGTH, GMV_HEADER_SEQUENCE_OFFSET, _LENGTH, _FIELD, _NUMBER
 abbrev pub headerWords : Field → Field → NumberField → List ℕ
 headerWords id seq n = id .start ∷ id .length ∷ seq .start ∷ seq .length ∷ kindOf n ∷ valueOf n ∷ []
 
 abbrev pub headerFinished : List ℕ → List ℕ → Header → Called
-headerFinished m ws Unreadable = called 9 ws
-headerFinished m ws (Readable id seq) = called 0 (over ws (headerWords id seq (numberField greatestSent (bytesOf seq m))))
+headerFinished m ws Unreadable = called 9 [] [] ws
+headerFinished m ws (Readable id seq) = called 0 [] [] (over ws (headerWords id seq (numberField greatestSent (bytesOf seq m))))
 
 unfoldable pub headerCall : List ℕ → List ℕ → Called
-headerCall m ws = cond (ltb (length ws) 6) (called 2 ws) (headerFinished m ws (headerOf m))
+headerCall m ws = need (leb 6 (length ws)) (called 2 [] [] ws) (headerFinished m ws (headerOf m))
 
 -- GMV_ANSWER_CODE_OFFSET, _LENGTH, GMV_ANSWER_CODE, GMV_ANSWER_CONTROL_ID_OFFSET, _LENGTH, GMV_ANSWER_EXPECTED_OFFSET, _LENGTH, _FIELD, _NUMBER
 abbrev pub answerWords : Field → CodeField → Field → Field → NumberField → List ℕ
@@ -88,58 +79,38 @@ answerWords code c id expected n =
     code .start ∷ code .length ∷ codeWord c ∷ id .start ∷ id .length ∷ expected .start ∷ expected .length ∷ kindOf n ∷ valueOf n ∷ []
 
 abbrev pub answerFinished : List ℕ → List ℕ → Acknowledgment → Called
-answerFinished m ws NoAnswer = called 9 ws
+answerFinished m ws NoAnswer = called 9 [] [] ws
 answerFinished m ws (AnAnswer code id expected) =
-    called 0 (over ws (answerWords code (codeField (bytesOf code m)) id expected (numberField greatestExpected (bytesOf expected m))))
+    called 0 [] [] (over ws (answerWords code (codeField (bytesOf code m)) id expected (numberField greatestExpected (bytesOf expected m))))
 
 unfoldable pub answerCall : List ℕ → List ℕ → Called
-answerCall m ws = cond (ltb (length ws) 9) (called 2 ws) (answerFinished m ws (acknowledgmentOf m))
-
--- a call that writes: the number, and what is left in the buffer and the report
-pub record Wrote : Type 0 where
-  pub number : ℕ
-  pub buffer : List ℕ
-  pub report : List ℕ
-
-abbrev pub wrote : ℕ → List ℕ → List ℕ → Wrote
-wrote n b p = record { number = n; buffer = b; report = p }
-
-abbrev pub reported : List ℕ → List ℕ → MessageWritten → Wrote
-reported c p w = wrote (numberOf w) c (over p (reportWords (lengthOf w) (forbiddenOffsetOf w)))
-
--- 1 and 2 change nothing
-abbrev pub writeFinished : List ℕ → List ℕ → MessageWritten → Wrote
-writeFinished c p Setting = wrote (numberOf Setting) c p
-writeFinished c p TooShort = wrote (numberOf TooShort) c p
-writeFinished c p (Byte i) = reported c p (Byte i)
-writeFinished c p NoHeader = reported c p NoHeader
-writeFinished c p TooLarge = reported c p TooLarge
-writeFinished c p (Message n) = reported c p (Message n)
-
-abbrev pub finished : List ℕ → Outcome → Wrote
-finished p o = writeFinished (o .buffer) p (o .answer)
+answerCall m ws = need (leb 9 (length ws)) (called 2 [] [] ws) (answerFinished m ws (acknowledgmentOf m))
 
 -- numbers as they come from C
-abbrev pub codeOf : ℕ → CodeMade
-codeOf n = cond (eqb n 1) (ACode AA) (cond (eqb n 2) (ACode AE) (cond (eqb n 3) (ACode AR) NoCode))
+abbrev pub codeFrom : ℕ → CodeMade
+codeFrom n = cond (eqb n 1) (Known AA) (cond (eqb n 2) (Known AE) (cond (eqb n 3) (Known AR) Unknown))
 
 abbrev pub numberFrom : ℕ → SequenceNumber
 numberFrom n = cond (eqb n minusOne) MinusOne (Number n)
 
-abbrev pub controlOf : ℕ → ControlMade
-controlOf n = cond (eqb n 0) (AControl Query) (cond (eqb n minusOne) (AControl Resynchronize) NoControl)
+abbrev pub controlFrom : ℕ → ControlMade
+controlFrom n = cond (eqb n 0) (KnownControl Query) (cond (eqb n minusOne) (KnownControl Resynchronize) UnknownControl)
 
-abbrev pub answerWith : CodeMade → List ℕ → SequenceNumber → List ℕ → ℕ → List ℕ → Wrote
-answerWith NoCode id n b start p = wrote 1 b p
-answerWith (ACode c) id n b start p = cond (ltb (length p) 2) (wrote 2 b p) (finished p (writeAnswerOf id c n start b))
+-- 2 for the report, then what the writer answers
+abbrev pub reported : List ℕ → List ℕ → Outcome Written → Called
+reported b p o = need (leb 2 (length p)) (called 2 [] b p) (writeFinished (o .buffer) p (o .answer))
 
-unfoldable pub answerWriteCall : List ℕ → ℕ → ℕ → List ℕ → ℕ → List ℕ → Wrote
-answerWriteCall id code n b start p = answerWith (codeOf code) id (numberFrom n) b start p
+abbrev pub answerWith : CodeMade → List ℕ → SequenceNumber → List ℕ → ℕ → List ℕ → Called
+answerWith Unknown id n b start p = called 1 [] b p
+answerWith (Known c) id n b start p = reported b p (writeAnswerOf id c n start b)
 
-abbrev pub controlWith : TypeMade → ControlMade → List ℕ → ℕ → List ℕ → Wrote
-controlWith Refused c b start p = wrote 1 b p
-controlWith (Valid t) NoControl b start p = wrote 1 b p
-controlWith (Valid t) (AControl c) b start p = cond (ltb (length p) 2) (wrote 2 b p) (finished p (writeControlOf t c start b))
+unfoldable pub answerWriteCall : List ℕ → ℕ → ℕ → List ℕ → ℕ → List ℕ → Called
+answerWriteCall id code n b start p = answerWith (codeFrom code) id (numberFrom n) b start p
 
-unfoldable pub controlWriteCall : List ℕ → ℕ → List ℕ → ℕ → List ℕ → Wrote
-controlWriteCall type n b start p = controlWith (typeOf type) (controlOf n) b start p
+abbrev pub controlWith : TypeMade → ControlMade → List ℕ → ℕ → List ℕ → Called
+controlWith UnknownType c b start p = called 1 [] b p
+controlWith (KnownType t) UnknownControl b start p = called 1 [] b p
+controlWith (KnownType t) (KnownControl c) b start p = reported b p (writeControlOf t c start b)
+
+unfoldable pub controlWriteCall : List ℕ → ℕ → List ℕ → ℕ → List ℕ → Called
+controlWriteCall type n b start p = controlWith (messageType type) (controlFrom n) b start p

@@ -1,10 +1,13 @@
 // What the C functions for control blocks do, on slices and settings that are made.
 use crate::ControlMade;
+use crate::write::control_from;
 use messages::MessageType;
 use messages::TypeMade;
 use settings::Made;
+use words::report_written;
 ghost use mathlib.Core.Path.{_≡_};
-ghost use Rattle.block_calls.specs.WriteCalls.{writeCalled};
+ghost use mathlib.Core.List.{[]};
+ghost use Rattle.lists.specs.Outcome.{called};
 ghost use Rattle.message_calls.specs.ControlCalls.{controlBlockCall};
 
 // The sender's control message as a block.
@@ -16,23 +19,20 @@ pub fn control_block_words(
     start: usize,
     report: &mut [u64],
 ) -> u64
-    ensures { λ r. ⌜ writeCalled r (now (buffer .exit)) (now (report .exit)) ≡ controlBlockCall made (now (letters .entry)) number (now (buffer .entry)) start (now (report .entry)) ⌝ }
+    ensures { λ r. ⌜ called r [] (now (buffer .exit)) (now (report .exit)) ≡ controlBlockCall made (now (letters .entry)) number (now (buffer .entry)) start (now (report .entry)) ⌝ }
 {
     let Made::Valid(settings) = made else {
-        return 1;
+        return refusal::SETTING;
     };
-    let TypeMade::Valid(name) = MessageType::from_letters(letters) else {
-        return 1;
+    let TypeMade::Known(name) = MessageType::from_letters(letters) else {
+        return refusal::SETTING;
     };
-    let ControlMade::AControl(control) = crate::write::control_of(number) else {
-        return 1;
+    let ControlMade::Known(control) = control_from(number) else {
+        return refusal::SETTING;
     };
-    if !settings.is_link() {
-        return 1;
-    }
     if report.len() < 2 {
-        return 2;
+        return refusal::TOO_SHORT;
     }
     let written = control_block::write_control_block(settings, name, control, buffer, start);
-    block_calls::report_written(written, report)
+    report_written(written, report)
 }

@@ -4,10 +4,12 @@ use field_reader::Delimiter;
 use field_reader::NextField;
 use fields::Field;
 ghost use mathlib.Core.Path.{_≡_};
+ghost use mathlib.Core.List.{[]};
 ghost use Prim.Native.Nat.{_≤_};
 ghost use lib.ListN.{length};
 ghost use Rattle.lists.specs.Bytes.{over};
-ghost use Rattle.message_calls.specs.FieldCalls.{delimiterWord, fieldWords, called, nextCall};
+ghost use Rattle.lists.specs.Outcome.{called};
+ghost use Rattle.message_calls.specs.FieldCalls.{delimiterWord, fieldWords, nextCall};
 
 fn delimiter_word(delimiter: Delimiter) -> u64
     ensures { λ r. ⌜ r ≡ delimiterWord delimiter ⌝ }
@@ -33,10 +35,10 @@ fn write_field(words: &mut [u64], found: u64, field: Field, delimiter: u64, posi
 
 // The next field from `position` on.
 pub fn next_field_words(message: &[u8], position: usize, words: &mut [u64]) -> u64
-    ensures { λ r. ⌜ called r (now (words .exit)) ≡ nextCall (now (message .entry)) position (now (words .entry)) ⌝ }
+    ensures { λ r. ⌜ called r [] [] (now (words .exit)) ≡ nextCall (now (message .entry)) position (now (words .entry)) ⌝ }
 {
     if words.len() < 5 {
-        return 2;
+        return refusal::TOO_SHORT;
     }
     let NextField::Found(field, delimiter, after) = field_reader::next_field(message, position)
     else {

@@ -3,7 +3,6 @@
 mod control;
 mod field;
 mod read;
-mod report;
 mod write;
 
 pub use control::control_block_words;
@@ -17,11 +16,11 @@ pub use write::write_control_words;
 
 // What a number from C stands for.
 pub enum CodeMade {
-    NoCode,
-    ACode(Code),
+    Unknown,
+    Known(Code),
 }
 
 pub enum ControlMade {
-    NoControl,
-    AControl(Control),
+    Unknown,
+    Known(Control),
 }

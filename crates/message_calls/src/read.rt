@@ -9,10 +9,12 @@ use numbers::NumberField;
 use numbers::SequenceNumber;
 use numbers::read_number;
 ghost use mathlib.Core.Path.{_≡_};
+ghost use mathlib.Core.List.{[]};
 ghost use Prim.Native.Nat.{_≤_};
 ghost use lib.ListN.{length};
 ghost use Rattle.lists.specs.Bytes.{over};
-ghost use Rattle.message_calls.specs.MessageCalls.{kindOf, wordOf, valueOf, codeWord, headerWords, answerWords, called, headerCall, answerCall};
+ghost use Rattle.lists.specs.Outcome.{called};
+ghost use Rattle.message_calls.specs.MessageCalls.{kindOf, wordOf, valueOf, codeWord, headerWords, answerWords, headerCall, answerCall};
 
 fn kind_of(field: NumberField) -> u64
     ensures { λ r. ⌜ r ≡ kindOf field ⌝ }
@@ -28,7 +30,7 @@ fn word_of(number: SequenceNumber) -> u64
     ensures { λ r. ⌜ r ≡ wordOf number ⌝ }
 {
     match number {
-        SequenceNumber::MinusOne => 18446744073709551615,
+        SequenceNumber::MinusOne => u64::MAX,
         SequenceNumber::Number(n) => n,
     }
 }
@@ -76,13 +78,13 @@ fn write_header(words: &mut [u64], control_id: Field, sequence: Field, number: N
 
 // MSH-10 and MSH-13.
 pub fn read_header_words(message: &[u8], words: &mut [u64]) -> u64
-    ensures { λ r. ⌜ called r (now (words .exit)) ≡ headerCall (now (message .entry)) (now (words .entry)) ⌝ }
+    ensures { λ r. ⌜ called r [] [] (now (words .exit)) ≡ headerCall (now (message .entry)) (now (words .entry)) ⌝ }
 {
     if words.len() < 6 {
-        return 2;
+        return refusal::TOO_SHORT;
     }
     let Header::Readable(control_id, sequence) = header::read_header(message) else {
-        return 9;
+        return refusal::HEADER;
     };
     let number = read_number(
         field_content(message, sequence),
@@ -116,14 +118,14 @@ fn write_acknowledgment(
 
 // MSA-1, MSA-2 and MSA-4.
 pub fn read_answer_words(message: &[u8], words: &mut [u64]) -> u64
-    ensures { λ r. ⌜ called r (now (words .exit)) ≡ answerCall (now (message .entry)) (now (words .entry)) ⌝ }
+    ensures { λ r. ⌜ called r [] [] (now (words .exit)) ≡ answerCall (now (message .entry)) (now (words .entry)) ⌝ }
 {
     if words.len() < 9 {
-        return 2;
+        return refusal::TOO_SHORT;
     }
     let Acknowledgment::Readable(code, control_id, expected) = header::read_acknowledgment(message)
     else {
-        return 9;
+        return refusal::HEADER;
     };
     let read = header::read_code(field_content(message, code));
     let number = read_number(

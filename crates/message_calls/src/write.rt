@@ -1,49 +1,51 @@
 // Writing a message.
 use crate::CodeMade;
 use crate::ControlMade;
-use crate::report::report_written;
 use header::Code;
 use messages::Control;
 use messages::MessageType;
 use messages::TypeMade;
 use numbers::SequenceNumber;
+use words::report_written;
 ghost use mathlib.Core.Path.{_≡_};
-ghost use Rattle.message_calls.specs.MessageCalls.{codeOf, numberFrom, controlOf, wrote, answerWriteCall, controlWriteCall};
+ghost use mathlib.Core.List.{[]};
+ghost use Rattle.lists.specs.Outcome.{called};
+ghost use Rattle.message_calls.specs.MessageCalls.{codeFrom, numberFrom, controlFrom, answerWriteCall, controlWriteCall};
 
-fn code_of(code: u64) -> CodeMade
-    ensures { λ r. ⌜ r ≡ codeOf code ⌝ }
+fn code_from(code: u64) -> CodeMade
+    ensures { λ r. ⌜ r ≡ codeFrom code ⌝ }
 {
     if code == 1 {
-        return CodeMade::ACode(Code::AA);
+        return CodeMade::Known(Code::AA);
     }
     if code == 2 {
-        return CodeMade::ACode(Code::AE);
+        return CodeMade::Known(Code::AE);
     }
     if code == 3 {
-        return CodeMade::ACode(Code::AR);
+        return CodeMade::Known(Code::AR);
     }
-    CodeMade::NoCode
+    CodeMade::Unknown
 }
 
 fn number_from(number: u64) -> SequenceNumber
     ensures { λ r. ⌜ r ≡ numberFrom number ⌝ }
 {
-    if number == 18446744073709551615 {
+    if number == u64::MAX {
         return SequenceNumber::MinusOne;
     }
     SequenceNumber::Number(number)
 }
 
-pub(crate) fn control_of(number: u64) -> ControlMade
-    ensures { λ r. ⌜ r ≡ controlOf number ⌝ }
+pub(crate) fn control_from(number: u64) -> ControlMade
+    ensures { λ r. ⌜ r ≡ controlFrom number ⌝ }
 {
     if number == 0 {
-        return ControlMade::AControl(Control::Query);
+        return ControlMade::Known(Control::Query);
     }
-    if number == 18446744073709551615 {
-        return ControlMade::AControl(Control::Resynchronize);
+    if number == u64::MAX {
+        return ControlMade::Known(Control::Resynchronize);
     }
-    ControlMade::NoControl
+    ControlMade::Unknown
 }
 
 // The answer to a request.
@@ -55,13 +57,13 @@ pub fn write_answer_words(
     start: usize,
     report: &mut [u64],
 ) -> u64
-    ensures { λ r. ⌜ wrote r (now (buffer .exit)) (now (report .exit)) ≡ answerWriteCall (now («control_id» .entry)) code number (now (buffer .entry)) start (now (report .entry)) ⌝ }
+    ensures { λ r. ⌜ called r [] (now (buffer .exit)) (now (report .exit)) ≡ answerWriteCall (now («control_id» .entry)) code number (now (buffer .entry)) start (now (report .entry)) ⌝ }
 {
-    let CodeMade::ACode(made) = code_of(code) else {
-        return 1;
+    let CodeMade::Known(made) = code_from(code) else {
+        return refusal::SETTING;
     };
     if report.len() < 2 {
-        return 2;
+        return refusal::TOO_SHORT;
     }
     let written = messages::write_answer(control_id, made, number_from(number), buffer, start);
     report_written(written, report)
@@ -75,16 +77,16 @@ pub fn write_control_words(
     start: usize,
     report: &mut [u64],
 ) -> u64
-    ensures { λ r. ⌜ wrote r (now (buffer .exit)) (now (report .exit)) ≡ controlWriteCall (now (letters .entry)) number (now (buffer .entry)) start (now (report .entry)) ⌝ }
+    ensures { λ r. ⌜ called r [] (now (buffer .exit)) (now (report .exit)) ≡ controlWriteCall (now (letters .entry)) number (now (buffer .entry)) start (now (report .entry)) ⌝ }
 {
-    let TypeMade::Valid(name) = MessageType::from_letters(letters) else {
-        return 1;
+    let TypeMade::Known(name) = MessageType::from_letters(letters) else {
+        return refusal::SETTING;
     };
-    let ControlMade::AControl(control) = control_of(number) else {
-        return 1;
+    let ControlMade::Known(control) = control_from(number) else {
+        return refusal::SETTING;
     };
     if report.len() < 2 {
-        return 2;
+        return refusal::TOO_SHORT;
     }
     let written = messages::write_control(name, control, buffer, start);
     report_written(written, report)

@@ -1,24 +1,26 @@
 -- What the writer of control messages wrote reads back, and is data that fits into a block.
 use mathlib.Core.Path.{_≡_, refl, ap, _∙_}
-use mathlib.Core.List.{List, [], _∷_, _++_}
-use mathlib.Core.Bool.{true, false, _&&_}
+use mathlib.Core.List.{List, [], _∷_, _++_, append-assoc}
+use mathlib.Core.Bool.{true, false}
 use Prim.Native.Nat.{ℕ, _≤_}
+use Prim.Native.Char.{code}
 use native.Mathlib.Omega.{arith}
 use lib.ListN.{length}
 use lib.Dec.{leb, eqb}
 use borrow.Author.Tests.{leb-true, le-leb, ne-eqb}
-use Rattle.lists.specs.Bytes.{hasAny}
+use Rattle.lists.specs.Bytes.{bytes, hasAny, all, same}
 use Rattle.lists.proofs.Tests.{and-left, and-right}
 use Rattle.settings.specs.Settings.{allowed}
 use Rattle.settings.specs.DataBytes.{allAllowed}
-use Rattle.fields.specs.Fields.{joined}
+use Rattle.fields.specs.Fields.{bar}
+use Rattle.fields.specs.Joined.{joinedFields}
 use Rattle.fields.proofs.Joined.{Each}
-use Rattle.header.specs.Header.{controlIdField, sequenceField, headerOf}
+use Rattle.header.specs.Header.{begins, controlIdField, sequenceField, headerOf}
 use Rattle.header.specs.declared.Header.the-variants.{Readable}
 use Rattle.numbers.specs.Numbers.{numberField, greatestSent, textOf}
 use Rattle.numbers.specs.declared.SequenceNumber.{SequenceNumber}
 use Rattle.numbers.proofs.Reading.{isWithin, text-back, text-no-end, text-least, text-allowed, number-most}
-use Rattle.messages.specs.Messages.{mshText, typeText, controlNumber, controlMessage, isCapital, validType}
+use Rattle.messages.specs.Messages.{typeText, numberedMessage, controlNumber, controlMessage, isCapital, validType}
 use Rattle.messages.specs.declared.Control.{Control}
 use Rattle.messages.specs.declared.Control.the-variants.{Resynchronize, Query}
 use Rattle.messages.specs.declared.MessageType.{MessageType}
@@ -29,41 +31,34 @@ use Rattle.message_theorems.specs.ReadBack.{ReadsControl}
 
 -- what a capital letter is: neither bar nor CR, and allowed
 record Letter (x : ℕ) : Type 0 where
-  not-bar : eqb x 124 ≡ false
-  not-return : eqb x 13 ≡ false
+  not-bar : eqb x bar ≡ false
+  not-return : eqb x 0x0D ≡ false
   permitted : allowed x ≡ true
 
 letter : (x : ℕ) → isCapital x ≡ true → Letter x
 letter x h =
-    let l : 65 ≤ x = leb-true 65 x (and-left (leb 65 x) (leb x 90) h) in
-    let m : x ≤ 90 = leb-true x 90 (and-right (leb 65 x) (leb x 90) h) in
+    let l : code "A" ≤ x = leb-true (code "A") x (and-left (leb (code "A") x) (leb x (code "Z")) h) in
+    let m : x ≤ code "Z" = leb-true x (code "Z") (and-right (leb (code "A") x) (leb x (code "Z")) h) in
     record {
-      not-bar = ne-eqb x 124 (λ (e : x ≡ 124). omega arith);
-      not-return = ne-eqb x 13 (λ (e : x ≡ 13). omega arith);
-      permitted = rw (le-leb 32 x (omega arith), le-leb x 126 (omega arith));
+      not-bar = ne-eqb x bar (λ (e : x ≡ 124). omega arith);
+      not-return = ne-eqb x 0x0D (λ (e : x ≡ 13). omega arith);
+      permitted = rw (le-leb 0x20 x (omega arith), le-leb x 0x7E (omega arith));
     }
 
-module _ (t : MessageType) (v : validType t ≡ true) where
-  first-letter : Letter (t .first)
-  unfolding validType
-  first-letter = letter (t .first) (and-left (isCapital (t .first)) (isCapital (t .second) && isCapital (t .third)) v)
+letters-free : (s : List ℕ) → all isCapital s ≡ true → hasAny bar 0x0D s ≡ false
+letters-free [] h = refl
+letters-free (x ∷ xs) h =
+    let l = letter x (and-left (isCapital x) (all isCapital xs) h) in
+    rw (l .not-bar, l .not-return, letters-free xs (and-right (isCapital x) (all isCapital xs) h))
 
-  other-letters : (isCapital (t .second) && isCapital (t .third)) ≡ true
-  unfolding validType
-  other-letters = and-right (isCapital (t .first)) (isCapital (t .second) && isCapital (t .third)) v
+letters-allowed : (s : List ℕ) → all isCapital s ≡ true → allAllowed s ≡ true
+letters-allowed [] h = refl
+letters-allowed (x ∷ xs) h =
+    rw (letter x (and-left (isCapital x) (all isCapital xs) h) .permitted, letters-allowed xs (and-right (isCapital x) (all isCapital xs) h))
 
-  second-letter : Letter (t .second)
-  second-letter = letter (t .second) (and-left (isCapital (t .second)) (isCapital (t .third)) other-letters)
-
-  third-letter : Letter (t .third)
-  third-letter = letter (t .third) (and-right (isCapital (t .second)) (isCapital (t .third)) other-letters)
-
-  type-free : hasAny 124 13 (typeText t) ≡ false
-  type-free =
-      rw (first-letter .not-bar, first-letter .not-return, second-letter .not-bar, second-letter .not-return, third-letter .not-bar, third-letter .not-return)
-
-  type-allowed : allAllowed (typeText t) ≡ true
-  type-allowed = rw (first-letter .permitted, second-letter .permitted, third-letter .permitted)
+type-letters : (t : MessageType) → validType t ≡ true → all isCapital (typeText t) ≡ true
+unfolding validType
+type-letters t v = v
 
 number-sent : (c : Control) → isWithin greatestSent (controlNumber c) ≡ true
 number-sent Resynchronize = refl
@@ -73,37 +68,49 @@ number-few : (c : Control) → length (textOf (controlNumber c)) ≤ 20
 number-few Resynchronize = omega arith
 number-few Query = let h = number-most 0 (omega arith) in omega (arith, h)
 
+-- the message after its type, put together of fields
+fields-of : (i : List ℕ) → i ++ bytes "|P|2.3.1|" ++ i ++ bytes "\r" ≡ (i ++ (bytes "|P|2.3.1|" ++ i)) ++ bytes "\r"
+fields-of i = simp append-assoc
+
 module _ (t : MessageType) (n : SequenceNumber) (v : validType t ≡ true) where
   -- the fields after MSH, and the whole message
-  abbrev pub fields : List (List ℕ)
+  abbrev fields : List (List ℕ)
   fields = headerFields (typeText t) (textOf n) (textOf n ∷ [])
 
-  abbrev pub whole : List ℕ
-  whole = joined 124 mshText fields ++ 13 ∷ []
+  abbrev whole : List ℕ
+  whole = joinedFields bar (bytes "MSH") fields ++ 0x0D ∷ []
 
-  each : Each 124 (mshText ∷ fields)
-  each = each-of (mshText ∷ fields) (rw (type-free t v, text-no-end n))
+  whole-is : numberedMessage t n ≡ whole
+  whole-is = ap (λ (z : List ℕ). bytes "MSH|^~\\&|||||||" ++ (typeText t ++ (bytes "|" ++ z))) (fields-of (textOf n))
 
-  pub whole-reads : isWithin greatestSent n ≡ true → length (textOf n) ≤ 20 → ReadsControl whole n
+  each : Each bar (bytes "MSH" ∷ fields)
+  each = each-of (bytes "MSH" ∷ fields) (rw (letters-free (typeText t) (type-letters t v), text-no-end n))
+
+  whole-reads : isWithin greatestSent n ≡ true → length (textOf n) ≤ 20 → ReadsControl whole n
+  unfolding begins same
   whole-reads s l =
       record {
-        readable = header-readable whole (textOf n) refl (first-ended mshText fields [] each) (first-field mshText fields [] each 9) (text-least n) l;
-        id-read = first-field mshText fields [] each 9;
-        number-read = ap (λ (z : List ℕ). numberField greatestSent z) (first-field mshText fields [] each 12) ∙ text-back greatestSent (omega arith) n s;
+        readable = header-readable whole (textOf n) refl (first-ended (bytes "MSH") fields [] each) (first-field (bytes "MSH") fields [] each 9) (text-least n) l;
+        id-read = first-field (bytes "MSH") fields [] each 9;
+        number-read = ap (λ (z : List ℕ). numberField greatestSent z) (first-field (bytes "MSH") fields [] each 12) ∙ text-back greatestSent (omega arith) n s;
       }
 
-  pub whole-allowed : allAllowed whole ≡ true
-  whole-allowed = segment-allowed mshText fields [] (rw (type-allowed t v, text-allowed n)) refl
+  pub numbered-reads : isWithin greatestSent n ≡ true → length (textOf n) ≤ 20 → ReadsControl (numberedMessage t n) n
+  numbered-reads s l = rw whole-is (whole-reads s l)
+
+  pub numbered-allowed : allAllowed (numberedMessage t n) ≡ true
+  numbered-allowed =
+      ap allAllowed whole-is ∙ segment-allowed (bytes "MSH") fields [] (rw (letters-allowed (typeText t) (type-letters t v), text-allowed n)) refl
 
 -- "The sender's control message for 0 .. For -1, both fields with 0 read -1"
 pub control-reads-back : (t : MessageType) (c : Control) → validType t ≡ true → ReadsControl (controlMessage t c) (controlNumber c)
 unfolding controlMessage
-control-reads-back t c v = whole-reads t (controlNumber c) v (number-sent c) (number-few c)
+control-reads-back t c v = numbered-reads t (controlNumber c) v (number-sent c) (number-few c)
 
 -- "Data bytes are 20 to 7E and CR."
 pub control-allowed : (t : MessageType) (c : Control) → validType t ≡ true → allAllowed (controlMessage t c) ≡ true
 unfolding controlMessage
-control-allowed t c v = whole-allowed t (controlNumber c) v
+control-allowed t c v = numbered-allowed t (controlNumber c) v
 
 -- "31 bytes", "33 bytes"
 pub control-length : (t : MessageType) (c : Control) → length (controlMessage t c) ≤ 33

@@ -7,33 +7,36 @@ use native.Mathlib.Omega.{arith}
 use lib.ListN.{length, drop}
 use lib.Dec.{leb}
 use borrow.Author.Tests.{le-leb}
-use Rattle.lists.specs.Bytes.{hasAny}
+use Rattle.lists.specs.Bytes.{bytes, hasAny}
+use Rattle.lists.proofs.All.{all-take, all-drop}
+use Rattle.lists.proofs.Search.{clear-free}
+use Rattle.settings.specs.Settings.{allowed}
 use Rattle.lists.proofs.Tests.{and-right, cond-ind}
 use Rattle.settings.specs.DataBytes.{allAllowed}
-use Rattle.fields.specs.Fields.{fieldOf, bytesOf}
+use Rattle.fields.specs.Fields.{bar, fieldOf, bytesOf}
 use Rattle.fields.specs.declared.Field.{Field}
 use Rattle.header.specs.Header.{begins, ended, controlIdField, sequenceField, readableHeader, headerOf}
 use Rattle.header.specs.declared.Code.{Code}
 use Rattle.header.specs.declared.Header.{Header}
 use Rattle.header.specs.declared.Header.the-variants.{Unreadable, Readable}
 use Rattle.numbers.specs.declared.SequenceNumber.{SequenceNumber}
-use Rattle.messages.specs.Messages.{answerMessage, validControlId, validExpected}
-use Rattle.messages.specs.Write.{wrote, writeAnswerOf}
-use Rattle.message_theorems.proofs.Bytes.{before-clear, all-take, all-drop}
+use Rattle.messages.specs.Messages.{answerMessage, validControlId, answerable}
+use Rattle.messages.specs.Write.{writeAnswerOf}
+use Rattle.writer.specs.Write.{wrote}
 use Rattle.message_theorems.proofs.Segments.{bytes-length}
 use Rattle.message_theorems.proofs.Answer.{answer-reads-back}
 use Rattle.message_theorems.specs.ReadBack.{ReadsAnswer}
 
 -- neither bar nor CR is in a field
-field-free : (m : List ℕ) (from k : ℕ) → hasAny 124 13 (bytesOf (fieldOf 124 from k m) m) ≡ false
+field-free : (m : List ℕ) (from k : ℕ) → hasAny bar 0x0D (bytesOf (fieldOf bar from k m) m) ≡ false
 unfolding bytesOf fieldOf
-field-free m from k = before-clear 124 13 (drop (fieldOf 124 from k m .start) m)
+field-free m from k = clear-free bar 0x0D (drop (fieldOf bar from k m .start) m)
 
 id-length : (m : List ℕ) → readableHeader m ≡ true → (leb 1 (controlIdField m .length) && leb (controlIdField m .length) 20) ≡ true
 unfolding readableHeader
 id-length m h =
     let l = leb 1 (controlIdField m .length) && leb (controlIdField m .length) 20 in
-    and-right (ended m) l (and-right (begins 77 83 72 m) (ended m && l) h)
+    and-right (ended m) l (and-right (begins (bytes "MSH|") m) (ended m && l) h)
 
 -- "MSH-10 has 1 to 20 bytes"; "prove that whatever the reader hands out is such a control ID"
 pub handed-out : (m : List ℕ) → readableHeader m ≡ true → validControlId (bytesOf (controlIdField m) m) ≡ true
@@ -55,16 +58,16 @@ handed-out-read m id sequence =
 -- "Data bytes are 20 to 7E and CR.": and so are the bytes of every field of data
 pub handed-out-allowed : (m : List ℕ) (f : Field) → allAllowed m ≡ true → allAllowed (bytesOf f m) ≡ true
 unfolding bytesOf
-handed-out-allowed m f a = all-take (f .length) (drop (f .start) m) (all-drop (f .start) m a)
+handed-out-allowed m f a = all-take allowed (f .length) (drop (f .start) m) (all-drop allowed (f .start) m a)
 
 -- "An answer's MSH-10 and MSA-2 are both the request's MSH-10"
-pub answer-to-request : (m : List ℕ) (code : Code) (n : SequenceNumber) → readableHeader m ≡ true → validExpected n ≡ true
+pub answer-to-request : (m : List ℕ) (code : Code) (n : SequenceNumber) → readableHeader m ≡ true → answerable n ≡ true
     → ReadsAnswer (answerMessage (bytesOf (controlIdField m) m) code n) code (bytesOf (controlIdField m) m) n
 answer-to-request m code n h v = answer-reads-back (bytesOf (controlIdField m) m) code n (handed-out m h) v
 
 -- the answer writer never refuses, by 3 or 9, a control ID that was read from the data of an accepted block
 pub answer-taken : (m : List ℕ) (code : Code) (n : SequenceNumber) (start : ℕ) (b : List ℕ)
-    → allAllowed m ≡ true → readableHeader m ≡ true → validExpected n ≡ true
+    → allAllowed m ≡ true → readableHeader m ≡ true → answerable n ≡ true
     → start + length (answerMessage (bytesOf (controlIdField m) m) code n) ≤ length b
     → writeAnswerOf (bytesOf (controlIdField m) m) code n start b ≡ wrote b start (answerMessage (bytesOf (controlIdField m) m) code n)
 unfolding writeAnswerOf

@@ -1,12 +1,13 @@
--- Document 01, 'Header fields': the two messages that the library writes, field by field.
+-- Document 01, 'Header fields': the two messages that the library writes, byte for byte.
 use mathlib.Core.List.{List, [], _∷_, _++_}
-use mathlib.Core.Bool.{Bool, true, cond, not, _&&_}
+use mathlib.Core.Bool.{Bool, true, not, _&&_}
 use Prim.Native.Nat.{ℕ}
-use lib.ListN.{length}
-use lib.Dec.{leb}
-use Rattle.lists.specs.Bytes.{hasAny}
-use Rattle.fields.specs.Fields.{segment}
-use Rattle.header.specs.Header.{bar}
+use Prim.Native.Char.{code}
+use lib.ListN.{length, getD}
+use lib.Dec.{leb, eqb}
+use Rattle.lists.specs.Bytes.{bytes, all, hasAny}
+use Rattle.lists.specs.Outcome.{need}
+use Rattle.fields.specs.Fields.{bar}
 use Rattle.header.specs.declared.Code.{Code}
 use Rattle.header.specs.declared.Code.the-variants.{AA, AE, AR}
 use Rattle.numbers.specs.Numbers.{textOf, greatestExpected}
@@ -16,77 +17,51 @@ use Rattle.messages.specs.declared.Control.{Control}
 use Rattle.messages.specs.declared.Control.the-variants.{Resynchronize, Query}
 use Rattle.messages.specs.declared.MessageType.{MessageType}
 use Rattle.messages.specs.declared.TypeMade.{TypeMade}
-use Rattle.messages.specs.declared.TypeMade.the-variants.{Refused, Valid}
-
--- MSH ^~\& P 2.3.1
-abbrev pub mshText : List ℕ
-mshText = 77 ∷ 83 ∷ 72 ∷ []
-
-abbrev pub encodingText : List ℕ
-encodingText = 94 ∷ 126 ∷ 92 ∷ 38 ∷ []
-
-abbrev pub processingText : List ℕ
-processingText = 80 ∷ []
-
-abbrev pub versionText : List ℕ
-versionText = 50 ∷ 46 ∷ 51 ∷ 46 ∷ 49 ∷ []
-
--- MSA, ACK
-abbrev pub msaText : List ℕ
-msaText = 77 ∷ 83 ∷ 65 ∷ []
-
-abbrev pub ackText : List ℕ
-ackText = 65 ∷ 67 ∷ 75 ∷ []
+use Rattle.messages.specs.declared.TypeMade.the-variants.{Unknown, Known}
 
 abbrev pub codeText : Code → List ℕ
-codeText AA = 65 ∷ 65 ∷ []
-codeText AE = 65 ∷ 69 ∷ []
-codeText AR = 65 ∷ 82 ∷ []
+codeText AA = bytes "AA"
+codeText AE = bytes "AE"
+codeText AR = bytes "AR"
 
--- MSH|^~\&|||||||TYPE|ID|P|2.3.1 and further fields
-abbrev pub headerSegment : List ℕ → List ℕ → List (List ℕ) → List ℕ
-headerSegment type id more =
-    segment bar mshText (encodingText ∷ [] ∷ [] ∷ [] ∷ [] ∷ [] ∷ [] ∷ type ∷ id ∷ processingText ∷ versionText ∷ more)
-
--- MSH|^~\&|||||||ACK|17|P|2.3.1<CR>MSA|AA|17||17<CR>
+-- MSH|^~\&|||||||ACK|17|P|2.3.1<CR>MSA|AA|17||17<CR>: "MSH-10 and MSA-2 are both the request's MSH-10; only these, MSA-1 and MSA-4 vary."
 unfoldable pub answerMessage : List ℕ → Code → SequenceNumber → List ℕ
-answerMessage id code n = headerSegment ackText id [] ++ segment bar msaText (codeText code ∷ id ∷ [] ∷ textOf n ∷ [])
+answerMessage id c n =
+    bytes "MSH|^~\\&|||||||ACK|" ++ id ++ bytes "|P|2.3.1\rMSA|" ++ codeText c ++ bytes "|" ++ id ++ bytes "||" ++ textOf n ++ bytes "\r"
+
+abbrev pub typeText : MessageType → List ℕ
+typeText t = t .first ∷ t .second ∷ t .third ∷ []
+
+-- MSH|^~\&|||||||ADT|0|P|2.3.1|0<CR>: a message of one segment whose MSH-10 and MSH-13 are one number
+abbrev pub numberedMessage : MessageType → SequenceNumber → List ℕ
+numberedMessage t n =
+    bytes "MSH|^~\\&|||||||" ++ typeText t ++ bytes "|" ++ textOf n ++ bytes "|P|2.3.1|" ++ textOf n ++ bytes "\r"
 
 -- "The sender's control message for 0 .. For -1, both fields with 0 read -1"
 abbrev pub controlNumber : Control → SequenceNumber
 controlNumber Resynchronize = MinusOne
 controlNumber Query = Number 0
 
-abbrev pub typeText : MessageType → List ℕ
-typeText t = t .first ∷ t .second ∷ t .third ∷ []
-
--- MSH|^~\&|||||||ADT|0|P|2.3.1|0<CR>
 unfoldable pub controlMessage : MessageType → Control → List ℕ
-controlMessage t c = headerSegment (typeText t) (textOf (controlNumber c)) (textOf (controlNumber c) ∷ [])
+controlMessage t c = numberedMessage t (controlNumber c)
 
 -- "type setting ADT (three capital letters)"
 abbrev pub isCapital : ℕ → Bool
-isCapital x = leb 65 x && leb x 90
+isCapital x = leb (code "A") x && leb x (code "Z")
 
 unfoldable pub validType : MessageType → Bool
-validType t = isCapital (t .first) && (isCapital (t .second) && isCapital (t .third))
+validType t = all isCapital (typeText t)
 
 -- what is made of letters that come from outside
-abbrev pub madeType : MessageType → TypeMade
-madeType t = cond (validType t) (Valid t) Refused
-
-unfoldable pub typeOf : List ℕ → TypeMade
-typeOf [] = Refused
-typeOf (x ∷ []) = Refused
-typeOf (x ∷ y ∷ []) = Refused
-typeOf (x ∷ y ∷ z ∷ []) = madeType (record { first = x; second = y; third = z })
-typeOf (x ∷ y ∷ z ∷ w ∷ r) = Refused
+unfoldable pub messageType : List ℕ → TypeMade
+messageType s =
+    need (eqb (length s) 3 && all isCapital s) Unknown (Known (record { first = getD s 0 0; second = getD s 1 0; third = getD s 2 0 }))
 
 -- which control IDs can stand in MSH-10 and MSA-2 and be read back: 1 to 20 bytes, and among them neither bar nor CR
 unfoldable pub validControlId : List ℕ → Bool
-validControlId id = (leb 1 (length id) && leb (length id) 20) && not (hasAny bar 13 id)
+validControlId id = (leb 1 (length id) && leb (length id) 20) && not (hasAny bar 0x0D id)
 
 -- which numbers MSA-4 may have
-unfoldable pub validExpected : SequenceNumber → Bool
-validExpected MinusOne = true
-validExpected (Number n) = leb n greatestExpected
+unfoldable pub answerable : SequenceNumber → Bool
+answerable MinusOne = true
+answerable (Number n) = leb n greatestExpected

@@ -1,18 +1,19 @@
 // The answer to a request: MSH|^~\&|||||||ACK|17|P|2.3.1<CR>MSA|AA|17||17<CR>
-use crate::MessageWritten;
 use crate::pieces::put_code;
 use crate::pieces::put_header;
 use crate::pieces::put_number;
 use crate::pieces::put_piece;
 use header::Code;
 use numbers::SequenceNumber;
+use refusal::Written;
 ghost use mathlib.Core.Path.{_≡_};
 ghost use Prim.Native.Nat.{_+_, _≤_};
 ghost use lib.Dec.{leb};
 ghost use lib.ListN.{length};
+ghost use Rattle.lists.specs.Outcome.{outcome};
 ghost use Rattle.numbers.specs.Numbers.{textOf};
-ghost use Rattle.messages.specs.Messages.{validControlId, validExpected, answerMessage};
-ghost use Rattle.messages.specs.Write.{outcome, writeAnswerOf};
+ghost use Rattle.messages.specs.Messages.{validControlId, answerable};
+ghost use Rattle.messages.specs.Write.{writeAnswerOf};
 ghost use Rattle.messages.specs.Internal.{Puts, answerPieces};
 
 // Whether an answer fits from the offset on: 38 bytes, the control ID twice, the number.
@@ -41,15 +42,15 @@ fn is_control_id(control_id: &[u8]) -> bool
     if 20 < control_id.len() {
         return false;
     }
-    fields::field_end(control_id, 0, 124) == control_id.len()
+    fields::field_end(control_id, 0, fields::BAR) == control_id.len()
 }
 
-fn is_expected(number: SequenceNumber) -> bool
-    ensures { λ r. ⌜ r ≡ validExpected number ⌝ }
+fn is_answerable(number: SequenceNumber) -> bool
+    ensures { λ r. ⌜ r ≡ answerable number ⌝ }
 {
     match number {
         SequenceNumber::MinusOne => true,
-        SequenceNumber::Number(n) => n <= 999999999999999,
+        SequenceNumber::Number(n) => n <= SequenceNumber::GREATEST_EXPECTED,
     }
 }
 
@@ -80,23 +81,23 @@ pub fn write_answer(
     number: SequenceNumber,
     buffer: &mut [u8],
     start: usize,
-) -> MessageWritten
+) -> Written
     ensures { λ r. ⌜ outcome r (now (buffer .exit)) ≡ writeAnswerOf (now («control_id» .entry)) code number start (now (buffer .entry)) ⌝ }
 {
     let digits = numbers::text_length(number);
     if !is_long_enough(buffer.len(), start, control_id.len(), digits) {
-        return MessageWritten::TooShort;
+        return Written::Refused(refusal::TOO_SHORT, 0);
     }
     if !settings::are_allowed(control_id) {
-        return MessageWritten::Byte(settings::first_forbidden(control_id));
+        return Written::Refused(refusal::BYTE, settings::first_forbidden(control_id));
     }
     if !is_control_id(control_id) {
-        return MessageWritten::Header;
+        return Written::Refused(refusal::HEADER, 0);
     }
-    if !is_expected(number) {
-        return MessageWritten::TooLarge;
+    if !is_answerable(number) {
+        return Written::Refused(refusal::SEQUENCE_NUMBER, 0);
     }
     let next = put_header(buffer, start, b"ACK", control_id);
     let end = put_acknowledgment(buffer, next, control_id, code, number);
-    MessageWritten::Message(end - start)
+    Written::Done(end - start)
 }

@@ -1,21 +1,22 @@
 // The sender's control message: MSH|^~\&|||||||ADT|0|P|2.3.1|0<CR>
 use crate::Control;
 use crate::MessageType;
-use crate::MessageWritten;
-use crate::pieces::put_header;
 use crate::pieces::put_piece;
+use refusal::Written;
 ghost use mathlib.Core.Path.{_≡_};
 ghost use Prim.Native.Nat.{_+_, _≤_};
 ghost use lib.Dec.{leb};
 ghost use lib.ListN.{length};
-ghost use Rattle.messages.specs.Messages.{isCapital, validType, controlMessage, typeText};
-ghost use Rattle.messages.specs.Write.{outcome, writeControlOf};
-ghost use Rattle.messages.specs.Internal.{Puts, controlPieces};
+ghost use Rattle.lists.specs.Outcome.{outcome};
+ghost use Rattle.messages.specs.Messages.{isCapital, validType, controlMessage};
+ghost use Rattle.messages.specs.Write.{writeControlOf};
+ghost use Rattle.messages.specs.declared.Control.the-variants.{Resynchronize, Query};
+ghost use Rattle.messages.specs.Internal.{Puts};
 
 fn is_capital(x: u8) -> bool
     ensures { λ r. ⌜ r ≡ isCapital x ⌝ }
 {
-    (65 <= x) & (x <= 90)
+    (b'A' <= x) & (x <= b'Z')
 }
 
 // Whether it is three capital letters.
@@ -35,16 +36,28 @@ fn is_long_enough(have: usize, start: usize, size: usize) -> bool
     size <= have - start
 }
 
-// Writes the control message whose number is written as `text`.
-fn put_control(out: &mut [u8], at: usize, name: MessageType, text: &[u8]) -> usize
-    requires { ⌜ at + (29 + (length (now text) + length (now text))) ≤ length (now out) ⌝ }
-    ensures { λ r. ⌜ Puts (now (out .entry)) at (controlPieces (typeText name) (now (text .entry))) r (now (out .exit)) ⌝ }
+// The message for 0.
+fn put_query(out: &mut [u8], at: usize, name: MessageType) -> usize
+    requires { ⌜ at + 31 ≤ length (now out) ⌝ }
+    ensures { λ r. ⌜ Puts (now (out .entry)) at (controlMessage name Query) r (now (out .exit)) ⌝ }
 {
-    let letters = [name.first, name.second, name.third];
-    let bar_at = put_header(out, at, &letters, text);
-    let number_at = put_piece(out, bar_at, b"|");
-    let end = put_piece(out, number_at, text);
-    put_piece(out, end, b"\r")
+    let mut message = *b"MSH|^~\\&|||||||ADT|0|P|2.3.1|0\r";
+    message[15] = name.first;
+    message[16] = name.second;
+    message[17] = name.third;
+    put_piece(out, at, &message)
+}
+
+// The message for -1.
+fn put_resynchronize(out: &mut [u8], at: usize, name: MessageType) -> usize
+    requires { ⌜ at + 33 ≤ length (now out) ⌝ }
+    ensures { λ r. ⌜ Puts (now (out .entry)) at (controlMessage name Resynchronize) r (now (out .exit)) ⌝ }
+{
+    let mut message = *b"MSH|^~\\&|||||||ADT|-1|P|2.3.1|-1\r";
+    message[15] = name.first;
+    message[16] = name.second;
+    message[17] = name.third;
+    put_piece(out, at, &message)
 }
 
 // Writes the control message into the buffer from an offset on. A refusal writes nothing.
@@ -53,26 +66,26 @@ pub fn write_control(
     control: Control,
     buffer: &mut [u8],
     start: usize,
-) -> MessageWritten
+) -> Written
     ensures { λ r. ⌜ outcome r (now (buffer .exit)) ≡ writeControlOf name control start (now (buffer .entry)) ⌝ }
 {
     if !is_type(name) {
-        return MessageWritten::Setting;
+        return Written::Refused(refusal::SETTING, 0);
     }
     match control {
         Control::Resynchronize => {
             if !is_long_enough(buffer.len(), start, 33) {
-                return MessageWritten::TooShort;
+                return Written::Refused(refusal::TOO_SHORT, 0);
             }
-            let end = put_control(buffer, start, name, b"-1");
-            MessageWritten::Message(33)
+            let end = put_resynchronize(buffer, start, name);
+            Written::Done(33)
         }
         Control::Query => {
             if !is_long_enough(buffer.len(), start, 31) {
-                return MessageWritten::TooShort;
+                return Written::Refused(refusal::TOO_SHORT, 0);
             }
-            let end = put_control(buffer, start, name, b"0");
-            MessageWritten::Message(31)
+            let end = put_query(buffer, start, name);
+            Written::Done(31)
         }
     }
 }

@@ -4,8 +4,7 @@ mod control_message;
 mod pieces;
 
 ghost use mathlib.Core.Path.{_≡_};
-ghost use Rattle.messages.specs.Messages.{typeOf};
-ghost use Rattle.messages.specs.Write.{lengthOf};
+ghost use Rattle.messages.specs.Messages.{messageType};
 pub use answer_message::write_answer;
 pub use control_message::is_type;
 pub use control_message::write_control;
@@ -27,17 +26,17 @@ pub struct MessageType {
 
 // A message type made of letters, or a refusal (1).
 pub enum TypeMade {
-    Refused,
-    Valid(MessageType),
+    Unknown,
+    Known(MessageType),
 }
 
 impl MessageType {
     // Exactly three capital letters.
     pub fn from_letters(letters: &[u8]) -> TypeMade
-        ensures { λ r. ⌜ r ≡ typeOf (now (letters .entry)) ⌝ }
+        ensures { λ r. ⌜ r ≡ messageType (now (letters .entry)) ⌝ }
     {
         if letters.len() != 3 {
-            return TypeMade::Refused;
+            return TypeMade::Unknown;
         }
         let name = MessageType {
             first: letters[0],
@@ -45,37 +44,9 @@ impl MessageType {
             third: letters[2],
         };
         if control_message::is_type(name) {
-            TypeMade::Valid(name)
+            TypeMade::Known(name)
         } else {
-            TypeMade::Refused
-        }
-    }
-}
-
-// What a writer of messages answers.
-pub enum MessageWritten {
-    // Refused by 1, 2, 3 with the offset of the first forbidden byte in the control ID, 9 and 10.
-    Setting,
-    TooShort,
-    Byte(usize),
-    Header,
-    TooLarge,
-    // The length of the message.
-    Message(usize),
-}
-
-impl MessageWritten {
-    // The length of the message, 0 where it was refused.
-    pub fn message_length(self) -> usize
-        ensures { λ r. ⌜ r ≡ lengthOf self ⌝ }
-    {
-        match self {
-            MessageWritten::Setting => 0,
-            MessageWritten::TooShort => 0,
-            MessageWritten::Byte(_) => 0,
-            MessageWritten::Header => 0,
-            MessageWritten::TooLarge => 0,
-            MessageWritten::Message(size) => size,
+            TypeMade::Unknown
         }
     }
 }

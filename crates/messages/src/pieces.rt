@@ -1,11 +1,8 @@
 // Messages are written piece by piece.
 use header::Code;
 use numbers::SequenceNumber;
-ghost use mathlib.Core.Path.{_≡_};
-ghost use mathlib.Core.List.{_++_};
 ghost use Prim.Native.Nat.{_+_, _≤_};
 ghost use lib.ListN.{length};
-ghost use Rattle.lists.specs.Bytes.{put};
 ghost use Rattle.numbers.specs.Numbers.{textOf};
 ghost use Rattle.messages.specs.Messages.{codeText};
 ghost use Rattle.messages.specs.Internal.{Puts, headerPieces};
@@ -24,7 +21,7 @@ pub(crate) fn put_number(out: &mut [u8], at: usize, number: SequenceNumber) -> u
     ensures { λ r. ⌜ Puts (now (out .entry)) at (textOf number) r (now (out .exit)) ⌝ }
 {
     let size = numbers::text_length(number);
-    numbers::write_number(out, at, number);
+    numbers::write_number(&mut out[at..], number);
     at + size
 }
 

@@ -1,58 +1,51 @@
 -- Laws by which the functions on numbers go: what one digit more does to each definition, and what a decimal is.
-use mathlib.Core.Path.{_≡_, refl, sym, ap, _∙_}
+use mathlib.Core.Path.{_≡_, refl, ap, _∙_}
 use mathlib.Core.List.{List, [], _∷_, _++_, append-assoc}
-use mathlib.Core.Bool.{Bool, true, false, cond, _&&_, and-assoc, and-true, true≢false}
+use mathlib.Core.Bool.{Bool, true, false, cond, _&&_}
 use Prim.Native.Nat.{ℕ, zero, suc, _+_, _-_, _*_, _/_, _^_, _≤_, _<_}
-use native.Mathlib.Nat.{pow-suc, pow-le-pow-right}
+use Prim.Native.Char.{code}
+use native.Mathlib.Nat.{zero-add, pow-suc, pow-le-pow-right}
 use native.Mathlib.Numerals.{add-one}
 use native.Mathlib.Decide.{decLe}
 use native.Mathlib.Omega.{arith}
 use lib.ListN.{length, take, drop, getD, set, length-append, length-set}
 use lib.Seq.{take-set-le, drop-set-lt, getD-set-same}
-use lib.Dec.{leb, ltb, eqb}
+use lib.Dec.{leb, ltb}
 use borrow.Author.Tests.{leb-true, lt-ltb, le-ltb, ltb-false, le-leb, lt-leb}
-use Rattle.lists.specs.Bytes.{put}
+use Rattle.lists.specs.Bytes.{bytes, all, same, put, over}
 use Rattle.lists.proofs.Tests.{and-left, and-right}
 use Rattle.lists.proofs.Parts.{drop-more, drop-none}
-use Rattle.lists.proofs.Put.{set-put, put-set}
+use Rattle.lists.proofs.Put.{set-put}
 use Rattle.settings.specs.DataBytes.{digit}
-use Rattle.numbers.specs.Numbers.{isDigit, allDigits, valueFrom, value, isMinusOne, digitsField, numberField, decimalOf, decimal, written}
+use Rattle.numbers.specs.Numbers.{isDigit, valueFrom, value, numberField, decimalOf, decimal}
 use Rattle.numbers.specs.declared.SequenceNumber.the-variants.{MinusOne, Number}
 use Rattle.numbers.specs.declared.NumberField.the-variants.{Missing, NotNumber, Present}
 
--- one byte more is tested
-pub digits-more : (s : List ℕ) (i : ℕ) (g : Bool) → i < length s
-    → ((g && isDigit (getD s i 0)) && allDigits (drop (i + 1) s)) ≡ (g && allDigits (drop i s))
-digits-more s i g h = rw (drop-more s i h) (and-assoc g (isDigit (getD s i 0)) (allDigits (drop (i + 1) s)))
-
-pub digits-none : (s : List ℕ) (i : ℕ) (g : Bool) → length s ≤ i → (g && allDigits (drop i s)) ≡ g
-digits-none s i g h = rw (drop-none s i h) (and-true g)
-
 -- one digit more is read
 module _ (s : List ℕ) (i : ℕ) (h : i < length s) where
-  both : allDigits (drop i s) ≡ true → (isDigit (getD s i 0) && allDigits (drop (i + 1) s)) ≡ true
+  both : all isDigit (drop i s) ≡ true → (isDigit (getD s i 0) && all isDigit (drop (i + 1) s)) ≡ true
   both e = rw (drop-more s i h) at e
 
-  here : allDigits (drop i s) ≡ true → isDigit (getD s i 0) ≡ true
-  here e = and-left (isDigit (getD s i 0)) (allDigits (drop (i + 1) s)) (both e)
+  here : all isDigit (drop i s) ≡ true → isDigit (getD s i 0) ≡ true
+  here e = and-left (isDigit (getD s i 0)) (all isDigit (drop (i + 1) s)) (both e)
 
-  pub digit-least : allDigits (drop i s) ≡ true → 48 ≤ getD s i 0
-  digit-least e = leb-true 48 (getD s i 0) (and-left (leb 48 (getD s i 0)) (leb (getD s i 0) 57) (here e))
+  pub digit-least : all isDigit (drop i s) ≡ true → code "0" ≤ getD s i 0
+  digit-least e = leb-true (code "0") (getD s i 0) (and-left (leb (code "0") (getD s i 0)) (leb (getD s i 0) (code "9")) (here e))
 
-  pub digit-most : allDigits (drop i s) ≡ true → getD s i 0 ≤ 57
-  digit-most e = leb-true (getD s i 0) 57 (and-right (leb 48 (getD s i 0)) (leb (getD s i 0) 57) (here e))
+  pub digit-most : all isDigit (drop i s) ≡ true → getD s i 0 ≤ code "9"
+  digit-most e = leb-true (getD s i 0) (code "9") (and-right (leb (code "0") (getD s i 0)) (leb (getD s i 0) (code "9")) (here e))
 
-  pub digits-after : allDigits (drop i s) ≡ true → allDigits (drop (i + 1) s) ≡ true
-  digits-after e = and-right (isDigit (getD s i 0)) (allDigits (drop (i + 1) s)) (both e)
+  pub digits-after : all isDigit (drop i s) ≡ true → all isDigit (drop (i + 1) s) ≡ true
+  digits-after e = and-right (isDigit (getD s i 0)) (all isDigit (drop (i + 1) s)) (both e)
 
-  pub value-more : (sum : ℕ) → valueFrom (sum * 10 + (getD s i 0 - 48)) (drop (i + 1) s) ≡ valueFrom sum (drop i s)
+  pub value-more : (sum : ℕ) → valueFrom (sum * 10 + (getD s i 0 - code "0")) (drop (i + 1) s) ≡ valueFrom sum (drop i s)
   value-more sum = rw (drop-more s i h)
 
 pub value-none : (s : List ℕ) (i sum : ℕ) → length s ≤ i → valueFrom sum (drop i s) ≡ sum
 value-none s i sum h = rw (drop-none s i h)
 
 -- as many digits as that stand for less than that power of ten
-pub power-more : (sum x i : ℕ) → sum < 10 ^ i → x ≤ 57 → sum * 10 + (x - 48) < 10 ^ (i + 1)
+pub power-more : (sum x i : ℕ) → sum < 10 ^ i → x ≤ code "9" → sum * 10 + (x - code "0") < 10 ^ (i + 1)
 power-more sum x i h l = rw (add-one i, pow-suc 10 i) (omega arith)
 
 pub power-most : (sum i : ℕ) → sum < 10 ^ i → i < 15 → sum < 100000000000000
@@ -60,58 +53,34 @@ power-most sum i h l =
     let p : 10 ^ i ≤ 100000000000000 = pow-le-pow-right {n = 10} (omega arith) {i = i} {j = 14} (omega arith) in
     omega arith
 
--- whether bytes are -1
-pub minus-not : (s : List ℕ) → (length s ≡ 2 → ⊥) → false ≡ isMinusOne s
-minus-not [] h = refl
-minus-not (x ∷ []) h = refl
-minus-not (x ∷ y ∷ []) h = absurd (h refl)
-minus-not (x ∷ y ∷ z ∷ r) h = refl
-
-pub minus-two : (s : List ℕ) → length s ≡ 2 → (eqb (getD s 0 0) 45 && eqb (getD s 1 0) 49) ≡ isMinusOne s
-minus-two [] h = absurd (omega arith)
-minus-two (x ∷ []) h = absurd (omega arith)
-minus-two (x ∷ y ∷ []) h = refl
-minus-two (x ∷ y ∷ z ∷ r) h = absurd (omega arith)
-
 -- what a field is, by its tests in order
 module _ (most : ℕ) (s : List ℕ) where
   pub field-missing : length s ≡ 0 → Missing ≡ numberField most s
   unfolding numberField
-  field-missing h = by s h
-    where
-      by : (t : List ℕ) → length t ≡ 0 → Missing ≡ numberField most t
-      by [] e = refl
-      by (x ∷ xs) e = absurd (omega arith)
+  field-missing h = rw (lt-leb 1 (length s) (omega arith))
 
-  pub field-minus : isMinusOne s ≡ true → Present MinusOne ≡ numberField most s
-  unfolding numberField
-  field-minus h = by s h
-    where
-      by : (t : List ℕ) → isMinusOne t ≡ true → Present MinusOne ≡ numberField most t
-      by [] e = absurd (true≢false (sym e))
-      by (x ∷ xs) e = rw e
-
-  module _ (some : length s ≡ 0 → ⊥) (other : isMinusOne s ≡ false) where
-    pub field-plain : numberField most s ≡ digitsField most s
+  module _ (some : length s ≡ 0 → ⊥) where
+    pub field-minus : same s (bytes "-1") ≡ true → Present MinusOne ≡ numberField most s
     unfolding numberField
-    field-plain = by s some other
-      where
-        by : (t : List ℕ) → (length t ≡ 0 → ⊥) → isMinusOne t ≡ false → numberField most t ≡ digitsField most t
-        by [] n e = absurd (n refl)
-        by (x ∷ xs) n e = rw e
+    field-minus e = rw (le-leb 1 (length s) (omega arith), e)
 
-    pub field-long : 15 < length s → NotNumber ≡ numberField most s
-    field-long h = rw (field-plain, lt-leb (length s) 15 h)
+    module _ (other : same s (bytes "-1") ≡ false) where
+      pub field-plain : numberField most s ≡ cond (leb (length s) 15 && (all isDigit s && leb (value s) most)) (Present (Number (value s))) NotNumber
+      unfolding numberField
+      field-plain = rw (le-leb 1 (length s) (omega arith), other)
 
-    module _ (short : length s ≤ 15) where
-      pub field-other : allDigits s ≡ false → NotNumber ≡ numberField most s
-      field-other e = rw (field-plain, le-leb (length s) 15 short, e)
+      pub field-long : 15 < length s → NotNumber ≡ numberField most s
+      field-long h = rw (field-plain, lt-leb (length s) 15 h)
 
-      pub field-over : allDigits s ≡ true → most < value s → NotNumber ≡ numberField most s
-      field-over e h = rw (field-plain, le-leb (length s) 15 short, e, lt-leb (value s) most h)
+      module _ (short : length s ≤ 15) where
+        pub field-other : all isDigit s ≡ false → NotNumber ≡ numberField most s
+        field-other e = rw (field-plain, le-leb (length s) 15 short, e)
 
-      pub field-number : allDigits s ≡ true → value s ≤ most → Present (Number (value s)) ≡ numberField most s
-      field-number e h = rw (field-plain, le-leb (length s) 15 short, e, le-leb (value s) most h)
+        pub field-over : all isDigit s ≡ true → most < value s → NotNumber ≡ numberField most s
+        field-over e h = rw (field-plain, le-leb (length s) 15 short, e, lt-leb (value s) most h)
+
+        pub field-number : all isDigit s ≡ true → value s ≤ most → Present (Number (value s)) ≡ numberField most s
+        field-number e h = rw (field-plain, le-leb (length s) 15 short, e, le-leb (value s) most h)
 
 -- a decimal does not depend on how many digits are allowed for, if they are enough
 fuel : (f g n : ℕ) → n < f → n < g → decimalOf f n ≡ decimalOf g n
@@ -187,26 +156,18 @@ put-behind l vs a x h =
     rw (t, d, n) (regroup (take a l) vs (drop (a + length (vs ++ x ∷ [])) l) x)
 
 -- the last digit of what is left of a number is written, and its others are still to come
-module _ (l : List ℕ) (a i n x : ℕ) (h : i ≡ a + length (decimal n)) (fit : i ≤ length l) (e : x ≡ digit n) where
-  pub put-digit : 10 ≤ n → put (set l (i - 1) x) a (decimal (n / 10)) ≡ put l a (decimal n)
+module _ (l : List ℕ) (i n x : ℕ) (h : i ≡ length (decimal n)) (fit : i ≤ length l) (e : x ≡ digit n) where
+  pub put-digit : 10 ≤ n → put (set l (i - 1) x) 0 (decimal (n / 10)) ≡ put l 0 (decimal n)
   put-digit m =
-      let g : i - 1 ≡ a + length (decimal (n / 10)) = omega (arith, h, length-more n m) in
-      rw (g, e, decimal-more n m) (put-behind l (decimal (n / 10)) a (digit n) (omega (arith, h, length-more n m)))
+      let g : i - 1 ≡ 0 + length (decimal (n / 10)) = omega (arith, h, length-more n m) in
+      rw (g, e, decimal-more n m) (put-behind l (decimal (n / 10)) 0 (digit n) (omega (arith, h, length-more n m)))
 
-  pub put-last : n < 10 → set l (i - 1) x ≡ put l a (decimal n)
+  pub put-last : n < 10 → set l (i - 1) x ≡ put l 0 (decimal n)
   put-last m =
-      let g : i - 1 ≡ a = omega (arith, h, length-one n m) in
-      rw (g, e, decimal-one n m) (set-put l a (digit n) (omega (arith, h, length-one n m)))
+      let g : i - 1 ≡ 0 = omega (arith, h, length-one n m) in
+      rw (g, e, decimal-one n m) (set-put l 0 (digit n) (omega (arith, h, length-one n m)))
 
--- the two bytes of -1
-pub put-two : (l : List ℕ) (a x y : ℕ) → a + 2 ≤ length l → set (set l a x) (a + 1) y ≡ put l a (x ∷ y ∷ [])
-put-two l a x y h = set-put (set l a x) (a + 1) y (simp length-set (omega arith)) ∙ put-set l (y ∷ []) a x (omega arith)
-
--- what fits is written, and nothing else is
-pub fits : (b vs : List ℕ) (start : ℕ) → start + length vs ≤ length b → put b start vs ≡ written b start vs
-unfolding written
-fits b vs start h = rw (le-leb (start + length vs) (length b) h)
-
-pub fits-not : (b vs : List ℕ) (start : ℕ) → length b < start + length vs → b ≡ written b start vs
-unfolding written
-fits-not b vs start h = rw (lt-leb (start + length vs) (length b) h)
+-- what fits is written
+pub fits : (b vs : List ℕ) → length vs ≤ length b → put b 0 vs ≡ over b vs
+unfolding put over
+fits b vs h = rw (le-leb (length vs) (length b) h, zero-add (length vs))

@@ -1,17 +1,20 @@
 -- Numbers as they are written read back as they were, two numbers are never written alike, and no byte of a number ends a field.
 use mathlib.Core.Path.{_≡_, refl, sym, ap, _∙_}
 use mathlib.Core.List.{List, [], _∷_, _++_}
-use mathlib.Core.Bool.{Bool, true, false, cond, true≢false}
+use mathlib.Core.Bool.{Bool, true, false, _&&_, true≢false}
 use Prim.Native.Nat.{ℕ, suc, _+_, _-_, _*_, _/_, _^_, _≤_, _<_}
+use Prim.Native.Char.{code}
 use native.Mathlib.Omega.{arith}
 use lib.ListN.{length}
 use lib.Dec.{leb, eqb}
-use borrow.Author.Tests.{leb-true, le-leb, ne-eqb, eqb-true}
-use Rattle.lists.specs.Bytes.{hasAny}
+use borrow.Author.Tests.{leb-true, le-leb, ne-eqb}
+use Rattle.lists.specs.Bytes.{bytes, hasAny, all, same}
 use Rattle.lists.proofs.Tests.{and-left, and-right, cond-ind}
+use Rattle.lists.proofs.All.{all-append}
+use Rattle.lists.proofs.Same.{same-is}
 use Rattle.settings.specs.Settings.{allowed}
 use Rattle.settings.specs.DataBytes.{digit, allAllowed}
-use Rattle.numbers.specs.Numbers.{isDigit, allDigits, valueFrom, value, isMinusOne, digitsField, numberField, greatestExpected, decimal, textOf}
+use Rattle.numbers.specs.Numbers.{isDigit, valueFrom, value, numberField, greatestExpected, decimal, textOf}
 use Rattle.numbers.specs.declared.SequenceNumber.{SequenceNumber}
 use Rattle.numbers.specs.declared.SequenceNumber.the-variants.{MinusOne, Number}
 use Rattle.numbers.specs.declared.NumberField.{NumberField}
@@ -21,25 +24,20 @@ use Rattle.numbers.proofs.Laws.{decimal-one, decimal-more, by-digits, l
 -- ---- digits
 
 digit-is : (n : ℕ) → isDigit (digit n) ≡ true
-digit-is n = rw (le-leb 48 (digit n) (omega arith), le-leb (digit n) 57 (omega arith))
-
-digits-behind : (s : List ℕ) (x : ℕ) → allDigits s ≡ true → isDigit x ≡ true → allDigits (s ++ x ∷ []) ≡ true
-digits-behind [] x e d = rw d
-digits-behind (y ∷ ys) x e d =
-    rw (and-left (isDigit y) (allDigits ys) e, digits-behind ys x (and-right (isDigit y) (allDigits ys) e) d)
+digit-is n = rw (le-leb (code "0") (digit n) (omega arith), le-leb (digit n) (code "9") (omega arith))
 
 -- a decimal is digits and nothing else
-pub decimal-digits : (n : ℕ) → allDigits (decimal n) ≡ true
+pub decimal-digits : (n : ℕ) → all isDigit (decimal n) ≡ true
 decimal-digits =
-    by-digits (λ (n : ℕ). allDigits (decimal n) ≡ true)
+    by-digits (λ (n : ℕ). all isDigit (decimal n) ≡ true)
     (λ n h. rw (decimal-one n h, digit-is n))
-    (λ n h r. rw (decimal-more n h) (digits-behind (decimal (n / 10)) (digit n) r (digit-is n)))
+    (λ n h r. rw (decimal-more n h) (all-append isDigit (decimal (n / 10)) (digit n ∷ []) r (rw (digit-is n))))
 
 -- ---- what a decimal stands for
 
-value-behind : (s : List ℕ) (a x : ℕ) → valueFrom a (s ++ x ∷ []) ≡ valueFrom a s * 10 + (x - 48)
+value-behind : (s : List ℕ) (a x : ℕ) → valueFrom a (s ++ x ∷ []) ≡ valueFrom a s * 10 + (x - code "0")
 value-behind [] a x = refl
-value-behind (y ∷ ys) a x = value-behind ys (a * 10 + (y - 48)) x
+value-behind (y ∷ ys) a x = value-behind ys (a * 10 + (y - code "0")) x
 
 -- the decimal of a number stands for that number
 pub value-back : (n : ℕ) → value (decimal n) ≡ n
@@ -54,16 +52,15 @@ decimal-one-to-one n m e = sym (value-back n) ∙ ap value e ∙ value-back m
 
 -- ---- reading back
 
-digits-not-minus : (s : List ℕ) → allDigits s ≡ true → isMinusOne s ≡ false
+digits-not-minus : (s : List ℕ) → all isDigit s ≡ true → same s (bytes "-1") ≡ false
+unfolding same
 digits-not-minus [] e = refl
-digits-not-minus (x ∷ []) e = refl
-digits-not-minus (x ∷ y ∷ []) e =
-    let h : 48 ≤ x = leb-true 48 x (and-left (leb 48 x) (leb x 57) (and-left (isDigit x) (allDigits (y ∷ [])) e)) in
-    rw (ne-eqb x 45 (λ (z : x ≡ 45). omega arith))
-digits-not-minus (x ∷ y ∷ z ∷ r) e = refl
+digits-not-minus (x ∷ xs) e =
+    let h : code "0" ≤ x = leb-true (code "0") x (and-left (leb (code "0") x) (leb x (code "9")) (and-left (isDigit x) (all isDigit xs) e)) in
+    rw (ne-eqb x (code "-") (λ (z : x ≡ code "-"). omega arith))
 
 -- digits, few enough and for no more than the bound, are the number that they stand for
-digits-read : (most : ℕ) (s : List ℕ) → allDigits s ≡ true → 1 ≤ length s → length s ≤ 15 → value s ≤ most
+digits-read : (most : ℕ) (s : List ℕ) → all isDigit s ≡ true → 1 ≤ length s → length s ≤ 15 → value s ≤ most
     → numberField most s ≡ Present (Number (value s))
 digits-read most s e l m h = sym (field-number most s (λ z. omega arith) (digits-not-minus s e) m e h)
 
@@ -75,7 +72,7 @@ reads-back most n h l =
 
 -- -1 reads back as -1
 pub minus-one-back : (most : ℕ) → numberField most (textOf MinusOne) ≡ Present MinusOne
-unfolding numberField
+unfolding numberField same
 minus-one-back most = refl
 
 -- whether a number is -1 or within the bound
@@ -97,10 +94,10 @@ reading-one-to-one most n m h k l r e =
     ap decimal q
 
 -- "leading zeros allowed": one in front changes nothing, where there is a place for it
-pub leading-zero : (most : ℕ) (s : List ℕ) → allDigits s ≡ true → 1 ≤ length s → length s < 15
-    → numberField most (48 ∷ s) ≡ numberField most s
+pub leading-zero : (most : ℕ) (s : List ℕ) → all isDigit s ≡ true → 1 ≤ length s → length s < 15
+    → numberField most (code "0" ∷ s) ≡ numberField most s
 leading-zero most s e l m =
-    field-plain most (48 ∷ s) (λ z. omega arith) (digits-not-minus (48 ∷ s) e)
+    field-plain most (code "0" ∷ s) (λ z. omega arith) (digits-not-minus (code "0" ∷ s) e)
     ∙ (rw (le-leb (suc (length s)) 15 (omega arith), le-leb (length s) 15 (omega arith)))
     ∙ sym (field-plain most s (λ z. omega arith) (digits-not-minus s e))
 
@@ -110,7 +107,7 @@ leading-zero most s e l m =
 pub record Digits (most : ℕ) (s : List ℕ) (n : ℕ) : Type 0 where
   pub some : 1 ≤ length s
   pub few : length s ≤ 15
-  pub digits : allDigits s ≡ true
+  pub digits : all isDigit s ≡ true
   pub worth : value s ≡ n
   pub bound : n ≤ most
 
@@ -123,83 +120,62 @@ other-not v e = let z : _≡_ {A = ℕ} 0 1 = cc in omega arith
 minus-not-number : (n : ℕ) → Present MinusOne ≡ Present (Number n) → ⊥
 minus-not-number n e = let z : _≡_ {A = ℕ} 0 1 = cc in omega arith
 
-digits-only : (most n : ℕ) (s : List ℕ) → 1 ≤ length s → digitsField most s ≡ Present (Number n) → Digits most s n
-digits-only most n s l =
-    cond-ind (λ (r : NumberField). r ≡ Present (Number n) → Digits most s n) (leb (length s) 15)
-    (cond (allDigits s) (cond (leb (value s) most) (Present (Number (value s))) NotNumber) NotNumber) NotNumber
-    (λ few.
-    cond-ind (λ (r : NumberField). r ≡ Present (Number n) → Digits most s n) (allDigits s)
-    (cond (leb (value s) most) (Present (Number (value s))) NotNumber) NotNumber
-    (λ all.
-    cond-ind (λ (r : NumberField). r ≡ Present (Number n) → Digits most s n) (leb (value s) most)
-    (Present (Number (value s))) NotNumber
-    (λ low e. last few all low e)
-    (λ low e. absurd (other-not (Number n) e)))
-    (λ all e. absurd (other-not (Number n) e)))
-    (λ few e. absurd (other-not (Number n) e))
-  where
-    last : leb (length s) 15 ≡ true → allDigits s ≡ true → leb (value s) most ≡ true → Present (Number (value s)) ≡ Present (Number n) → Digits most s n
-    last few all low e =
-        let q : value s ≡ n = cc in
-        record { some = l; few = leb-true (length s) 15 few; digits = all; worth = q; bound = rw q at (leb-true (value s) most low) }
+-- whether a field is plain digits, few enough and for no more than the bound
+abbrev plain : ℕ → List ℕ → Bool
+plain most s = leb (length s) 15 && (all isDigit s && leb (value s) most)
+
+digits-only : (most n : ℕ) (s : List ℕ) → 1 ≤ length s → plain most s ≡ true → value s ≡ n → Digits most s n
+digits-only most n s l p q =
+    let r : (all isDigit s && leb (value s) most) ≡ true = and-right (leb (length s) 15) (all isDigit s && leb (value s) most) p in
+    record {
+      some = l;
+      few = leb-true (length s) 15 (and-left (leb (length s) 15) (all isDigit s && leb (value s) most) p);
+      digits = and-left (all isDigit s) (leb (value s) most) r;
+      worth = q;
+      bound = rw q at (leb-true (value s) most (and-right (all isDigit s) (leb (value s) most) r));
+    }
 
 -- a field that reads as a number is its digits and nothing else
 pub field-digits : (most n : ℕ) (s : List ℕ) → numberField most s ≡ Present (Number n) → Digits most s n
 unfolding numberField
-field-digits most n [] = λ e. absurd (missing-not (Number n) e)
-field-digits most n (x ∷ xs) =
-    cond-ind (λ (r : NumberField). r ≡ Present (Number n) → Digits most (x ∷ xs) n) (isMinusOne (x ∷ xs))
-    (Present MinusOne) (digitsField most (x ∷ xs))
+field-digits most n s =
+    cond-ind (λ (r : NumberField). r ≡ Present (Number n) → Digits most s n) (leb 1 (length s)) _ Missing
+    (λ l. cond-ind (λ (r : NumberField). r ≡ Present (Number n) → Digits most s n) (same s (bytes "-1")) (Present MinusOne) _
     (λ m e. absurd (minus-not-number n e))
-    (λ m e. digits-only most n (x ∷ xs) (omega arith) e)
+    (λ m. cond-ind (λ (r : NumberField). r ≡ Present (Number n) → Digits most s n) (plain most s) (Present (Number (value s))) NotNumber
+    (λ p e. let q : value s ≡ n = cc in digits-only most n s (leb-true 1 (length s) l) p q)
+    (λ p e. absurd (other-not (Number n) e))))
+    (λ l e. absurd (missing-not (Number n) e))
 
 -- no number over the bound is read
 pub field-number-bound : (most n : ℕ) (s : List ℕ) → numberField most s ≡ Present (Number n) → n ≤ most
 field-number-bound most n s e = field-digits most n s e .bound
 
-minus-bytes : (s : List ℕ) → isMinusOne s ≡ true → s ≡ textOf MinusOne
-minus-bytes [] e = absurd (true≢false (sym e))
-minus-bytes (x ∷ []) e = absurd (true≢false (sym e))
-minus-bytes (x ∷ y ∷ []) e =
-    rw (eqb-true x 45 (and-left (eqb x 45) (eqb y 49) e), eqb-true y 49 (and-right (eqb x 45) (eqb y 49) e))
-minus-bytes (x ∷ y ∷ z ∷ r) e = absurd (true≢false (sym e))
-
-digits-no-minus : (most : ℕ) (s : List ℕ) → digitsField most s ≡ Present MinusOne → ⊥
-digits-no-minus most s =
-    cond-ind (λ (r : NumberField). r ≡ Present MinusOne → ⊥) (leb (length s) 15)
-    (cond (allDigits s) (cond (leb (value s) most) (Present (Number (value s))) NotNumber) NotNumber) NotNumber
-    (λ few.
-    cond-ind (λ (r : NumberField). r ≡ Present MinusOne → ⊥) (allDigits s)
-    (cond (leb (value s) most) (Present (Number (value s))) NotNumber) NotNumber
-    (λ all.
-    cond-ind (λ (r : NumberField). r ≡ Present MinusOne → ⊥) (leb (value s) most) (Present (Number (value s))) NotNumber
-    (λ low e. minus-not-number (value s) (sym e)) (λ low e. other-not MinusOne e))
-    (λ all e. other-not MinusOne e))
-    (λ few e. other-not MinusOne e)
-
 -- no bytes but -1 read as -1
 pub field-minus-one : (most : ℕ) (s : List ℕ) → numberField most s ≡ Present MinusOne → s ≡ textOf MinusOne
 unfolding numberField
-field-minus-one most [] = λ e. absurd (missing-not MinusOne e)
-field-minus-one most (x ∷ xs) =
-    cond-ind (λ (r : NumberField). r ≡ Present MinusOne → (x ∷ xs) ≡ textOf MinusOne) (isMinusOne (x ∷ xs))
-    (Present MinusOne) (digitsField most (x ∷ xs))
-    (λ m e. minus-bytes (x ∷ xs) m)
-    (λ m e. absurd (digits-no-minus most (x ∷ xs) e))
+field-minus-one most s =
+    cond-ind (λ (r : NumberField). r ≡ Present MinusOne → s ≡ textOf MinusOne) (leb 1 (length s)) _ Missing
+    (λ l. cond-ind (λ (r : NumberField). r ≡ Present MinusOne → s ≡ textOf MinusOne) (same s (bytes "-1")) (Present MinusOne) _
+    (λ m e. same-is s (bytes "-1") m)
+    (λ m. cond-ind (λ (r : NumberField). r ≡ Present MinusOne → s ≡ textOf MinusOne) (plain most s) (Present (Number (value s))) NotNumber
+    (λ p e. absurd (minus-not-number (value s) (sym e)))
+    (λ p e. absurd (other-not MinusOne e))))
+    (λ l e. absurd (missing-not MinusOne e))
 
 -- ---- the bytes of a number
 
 -- a digit is an allowed data byte
 digit-allowed : (x : ℕ) → isDigit x ≡ true → allowed x ≡ true
 digit-allowed x e =
-    let l : 48 ≤ x = leb-true 48 x (and-left (leb 48 x) (leb x 57) e) in
-    let m : x ≤ 57 = leb-true x 57 (and-right (leb 48 x) (leb x 57) e) in
-    rw (le-leb 32 x (omega arith), le-leb x 126 (omega arith))
+    let l : code "0" ≤ x = leb-true (code "0") x (and-left (leb (code "0") x) (leb x (code "9")) e) in
+    let m : x ≤ code "9" = leb-true x (code "9") (and-right (leb (code "0") x) (leb x (code "9")) e) in
+    rw (le-leb 0x20 x (omega arith), le-leb x 0x7E (omega arith))
 
-digits-allowed : (s : List ℕ) → allDigits s ≡ true → allAllowed s ≡ true
+digits-allowed : (s : List ℕ) → all isDigit s ≡ true → allAllowed s ≡ true
 digits-allowed [] e = refl
 digits-allowed (x ∷ xs) e =
-    rw (digit-allowed x (and-left (isDigit x) (allDigits xs) e), digits-allowed xs (and-right (isDigit x) (allDigits xs) e))
+    rw (digit-allowed x (and-left (isDigit x) (all isDigit xs) e), digits-allowed xs (and-right (isDigit x) (all isDigit xs) e))
 
 -- every byte of a number is an allowed data byte
 pub text-allowed : (v : SequenceNumber) → allAllowed (textOf v) ≡ true
@@ -211,19 +187,19 @@ module _ (a b : ℕ) (p : isDigit a ≡ false) (q : isDigit b ≡ false) where
   digit-other : (x c : ℕ) → isDigit x ≡ true → isDigit c ≡ false → eqb x c ≡ false
   digit-other x c e d = ne-eqb x c (λ (z : x ≡ c). true≢false (sym e ∙ ap isDigit z ∙ d))
 
-  digits-without : (s : List ℕ) → allDigits s ≡ true → hasAny a b s ≡ false
+  digits-without : (s : List ℕ) → all isDigit s ≡ true → hasAny a b s ≡ false
   digits-without [] e = refl
   digits-without (x ∷ xs) e =
-      let d : isDigit x ≡ true = and-left (isDigit x) (allDigits xs) e in
-      rw (digit-other x a d p, digit-other x b d q, digits-without xs (and-right (isDigit x) (allDigits xs) e))
+      let d : isDigit x ≡ true = and-left (isDigit x) (all isDigit xs) e in
+      rw (digit-other x a d p, digit-other x b d q, digits-without xs (and-right (isDigit x) (all isDigit xs) e))
 
-  pub text-without : (45 ≡ a → ⊥) → (45 ≡ b → ⊥) → (v : SequenceNumber) → hasAny a b (textOf v) ≡ false
-  text-without k l MinusOne = rw (ne-eqb 45 a k, ne-eqb 45 b l, digit-other 49 a refl p, digit-other 49 b refl q)
+  pub text-without : (code "-" ≡ a → ⊥) → (code "-" ≡ b → ⊥) → (v : SequenceNumber) → hasAny a b (textOf v) ≡ false
+  text-without k l MinusOne = rw (ne-eqb (code "-") a k, ne-eqb (code "-") b l, digit-other (code "1") a refl p, digit-other (code "1") b refl q)
   text-without k l (Number n) = digits-without (decimal n) (decimal-digits n)
 
 -- neither a bar nor CR is in a number, so it ends no field and no segment
-pub text-no-end : (v : SequenceNumber) → hasAny 124 13 (textOf v) ≡ false
-text-no-end v = text-without 124 13 refl refl (λ z. omega arith) (λ z. omega arith) v
+pub text-no-end : (v : SequenceNumber) → hasAny (code "|") 0x0D (textOf v) ≡ false
+text-no-end v = text-without (code "|") 0x0D refl refl (λ z. omega arith) (λ z. omega arith) v
 
 -- ---- how long a number is
 

@@ -8,7 +8,7 @@ ghost use lib.ListN.{length};
 ghost use Rattle.lists.specs.Bytes.{same};
 ghost use Rattle.numbers.specs.Numbers.{decimal, textOf};
 
-fn are_same(a: &[u8], b: &[u8]) -> bool
+pub(crate) fn are_same(a: &[u8], b: &[u8]) -> bool
     ensures { λ r. ⌜ r ≡ same (now (a .entry)) (now (b .entry)) ⌝ }
 {
     if a.len() != b.len() {
@@ -32,7 +32,7 @@ fn is_decimal(field: &[u8], n: u64, text: &mut [u8]) -> bool
     ensures { λ r. ⌜ r ≡ same (now (field .entry)) (decimal n) ⌝ }
 {
     let size = digit_count(n);
-    write_digits(text, 0, n);
+    write_digits(text, n);
     are_same(field, &text[..size])
 }
 

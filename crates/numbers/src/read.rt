@@ -1,31 +1,23 @@
 // Reading a number.
 use crate::NumberField;
 use crate::SequenceNumber;
+use crate::compare::are_same;
 ghost use mathlib.Core.Path.{_≡_};
 ghost use mathlib.Core.Bool.{true};
 ghost use Prim.Native.Nat.{_≤_};
 ghost use lib.ListN.{length};
-ghost use Rattle.numbers.specs.Numbers.{allDigits, value, isMinusOne, numberField};
-
-// Whether the bytes are -1.
-fn is_minus_one(s: &[u8]) -> bool
-    ensures { λ r. ⌜ r ≡ isMinusOne (now (s .entry)) ⌝ }
-{
-    if s.len() != 2 {
-        return false;
-    }
-    (s[0] == 45) & (s[1] == 49)
-}
+ghost use Rattle.lists.specs.Bytes.{all};
+ghost use Rattle.numbers.specs.Numbers.{isDigit, value, numberField};
 
 // Whether the bytes are digits.
 fn are_digits(s: &[u8]) -> bool
-    ensures { λ r. ⌜ r ≡ allDigits (now (s .entry)) ⌝ }
+    ensures { λ r. ⌜ r ≡ all isDigit (now (s .entry)) ⌝ }
 {
     let mut good = true;
     let mut i = 0;
     while i < s.len() {
         let x = s[i];
-        good = good & ((48 <= x) & (x <= 57));
+        good = good & ((b'0' <= x) & (x <= b'9'));
         i += 1;
     }
     good
@@ -34,14 +26,14 @@ fn are_digits(s: &[u8]) -> bool
 // The number that at most fifteen digits stand for.
 fn value_of(s: &[u8]) -> u64
     requires { ⌜ length (now s) ≤ 15 ⌝ }
-    requires { ⌜ allDigits (now s) ≡ true ⌝ }
+    requires { ⌜ all isDigit (now s) ≡ true ⌝ }
     ensures { λ r. ⌜ r ≡ value (now (s .entry)) ⌝ }
 {
     let mut sum: u64 = 0;
     let mut i = 0;
     while i < s.len() {
         let x = s[i];
-        sum = sum * 10 + (x - 48) as u64;
+        sum = sum * 10 + (x - b'0') as u64;
         i += 1;
     }
     sum
@@ -54,7 +46,7 @@ pub fn read_number(field: &[u8], most: u64) -> NumberField
     if field.len() == 0 {
         return NumberField::Missing;
     }
-    if is_minus_one(field) {
+    if are_same(field, b"-1") {
         return NumberField::Present(SequenceNumber::MinusOne);
     }
     if 15 < field.len() {

@@ -2,10 +2,10 @@
 use crate::SequenceNumber;
 use settings::digit_of;
 ghost use mathlib.Core.Path.{_≡_};
-ghost use Prim.Native.Nat.{_+_, _≤_};
+ghost use Prim.Native.Nat.{_≤_};
 ghost use lib.ListN.{length};
-ghost use Rattle.lists.specs.Bytes.{put};
-ghost use Rattle.numbers.specs.Numbers.{decimal, textOf, written};
+ghost use Rattle.lists.specs.Bytes.{put, over};
+ghost use Rattle.numbers.specs.Numbers.{decimal, textOf};
 
 // How many digits n has.
 pub(crate) fn digit_count(n: u64) -> usize
@@ -21,11 +21,11 @@ pub(crate) fn digit_count(n: u64) -> usize
 }
 
 // Writes the digits of n, the last one first.
-pub(crate) fn write_digits(out: &mut [u8], start: usize, n: u64)
-    requires { ⌜ start + length (decimal n) ≤ length (now out) ⌝ }
-    ensures { λ r. ⌜ now (out .exit) ≡ put (now (out .entry)) start (decimal n) ⌝ }
+pub(crate) fn write_digits(out: &mut [u8], n: u64)
+    requires { ⌜ length (decimal n) ≤ length (now out) ⌝ }
+    ensures { λ r. ⌜ now (out .exit) ≡ put (now (out .entry)) 0 (decimal n) ⌝ }
 {
-    let mut i = start + digit_count(n);
+    let mut i = digit_count(n);
     let mut rest = n;
     while 9 < rest {
         i -= 1;
@@ -45,21 +45,18 @@ pub fn text_length(number: SequenceNumber) -> usize
     }
 }
 
-// Writes a number into the buffer from the offset on; nothing where it does not fit.
-pub fn write_number(out: &mut [u8], start: usize, number: SequenceNumber)
-    ensures { λ r. ⌜ now (out .exit) ≡ written (now (out .entry)) start (textOf number) ⌝ }
+// Writes a number over the beginning of the buffer; nothing where it does not fit.
+pub fn write_number(out: &mut [u8], number: SequenceNumber)
+    ensures { λ r. ⌜ now (out .exit) ≡ over (now (out .entry)) (textOf number) ⌝ }
 {
-    if out.len() < start {
-        return;
-    }
-    if out.len() - start < text_length(number) {
+    if out.len() < text_length(number) {
         return;
     }
     match number {
         SequenceNumber::MinusOne => {
-            out[start] = 45;
-            out[start + 1] = 49;
+            out[0] = b'-';
+            out[1] = b'1';
         }
-        SequenceNumber::Number(n) => write_digits(out, start, n),
+        SequenceNumber::Number(n) => write_digits(out, n),
     }
 }

@@ -1,57 +1,41 @@
--- The ways in which the receiver's functions return, held against the definitions.
-use mathlib.Core.Path.{_≡_, refl, sym, ap, _∙_}
-use mathlib.Core.List.{List, [], _∷_, _++_}
-use mathlib.Core.Bool.{Bool, true, false, cond, _&&_}
+-- Which decisions the receiver makes, and that each reply can be written.
+use mathlib.Core.Path.{_≡_, refl, sym, _∙_}
+use mathlib.Core.List.{List, [], _∷_}
+use mathlib.Core.Bool.{true, false}
 use Prim.Native.Nat.{ℕ, _+_, _-_, _≤_, _<_}
+use Prim.Native.Char.{code}
 use native.Mathlib.Omega.{arith}
 use native.Mathlib.Decide.{decLe}
-use lib.ListN.{length, take, drop}
-use lib.Seq.{take-append-seam}
 use lib.Dec.{leb, eqb}
 use borrow.Author.Tests.{le-leb, lt-leb, leb-true}
-use Rattle.lists.specs.Bytes.{put}
-use Rattle.lists.proofs.Tests.{and-left, and-right, cond-ind}
-use Rattle.settings.specs.Settings.{byKind, valid}
+use Rattle.lists.proofs.Tests.{and-right, cond-ind}
 use Rattle.settings.specs.declared.Kind.{Kind}
 use Rattle.settings.specs.declared.Kind.the-variants.{Hybrid, Minimal}
 use Rattle.settings.specs.declared.Settings.{Settings}
-use Rattle.numbers.specs.Numbers.{numberField, greatestSent}
-use Rattle.numbers.specs.declared.SequenceNumber.{SequenceNumber}
+use Rattle.settings.specs.DataBytes.{allAllowed}
+use Rattle.refusal.specs.declared.Verdict.{Verdict}
+use Rattle.refusal.specs.declared.Verdict.the-variants.{Accepted, Refused}
+use Rattle.block.specs.Judge.{isReason}
+use Rattle.fields.specs.Fields.{bytesOf}
+use Rattle.fields.specs.declared.Field.{Field}
+use Rattle.numbers.specs.Numbers.{numberField, greatestSent, greatestExpected}
 use Rattle.numbers.specs.declared.SequenceNumber.the-variants.{MinusOne, Number}
 use Rattle.numbers.specs.declared.NumberField.{NumberField}
 use Rattle.numbers.specs.declared.NumberField.the-variants.{Missing, NotNumber, Present}
 use Rattle.numbers.proofs.Reading.{field-number-bound}
-use Rattle.settings.specs.DataBytes.{allAllowed}
-use Rattle.block.specs.Judge.{isReason}
-use Rattle.fields.specs.Fields.{bytesOf}
-use Rattle.fields.specs.declared.Field.{Field}
 use Rattle.header.specs.Header.{headerOf}
 use Rattle.header.specs.declared.Header.{Header}
 use Rattle.header.specs.declared.Header.the-variants.{Unreadable, Readable}
-use Rattle.header.specs.declared.Code.the-variants.{AA, AR}
-use Rattle.messages.specs.Messages.{validExpected as answerable}
+use Rattle.messages.specs.Messages.{answerable}
 use Rattle.message_theorems.proofs.HandedOut.{handed-out-read}
-use Rattle.verdict.specs.declared.Verdict.{Verdict}
-use Rattle.verdict.specs.declared.Verdict.the-variants.{Accepted, Byte, Long, Shape, Count, Check, Interrupted}
-use Rattle.receiver.specs.Receiver.{replySpace, validExpected, expectedNumber, row, stores, unknownRow, nextRow, rowOf, refusedBy, headerDecision, isNak, decisionOf}
+use Rattle.receiver.specs.Receiver.{replySpace, validExpected, expectedNumber, rowOf, reasonOf, refusedBy, headerDecision, isNak, decisionOf}
+use Rattle.receiver.specs.Internal.{fieldFits, Possible}
 use Rattle.receiver.specs.declared.Application.{Application}
 use Rattle.receiver.specs.declared.Expected.{Expected}
 use Rattle.receiver.specs.declared.Expected.the-variants.{Unknown, Next}
-use Rattle.receiver.specs.declared.Transaction.the-variants.{NoTransaction}
 use Rattle.receiver.specs.declared.Row.{Row}
 use Rattle.receiver.specs.declared.Decision.{Decision}
-use Rattle.receiver.specs.declared.Decision.the-variants.{Drops, Naks, Answers}
-use Rattle.receiver.specs.Internal.{numberFits, fieldFits, Answerable, Possible}
-
--- what MSH-13 holds has a number after it
-pub field-fits : (s : List ℕ) → fieldFits (numberField greatestSent s) ≡ true
-field-fits s = go (numberField greatestSent s) refl
-  where
-    go : (f : NumberField) → numberField greatestSent s ≡ f → fieldFits f ≡ true
-    go Missing e = refl
-    go NotNumber e = refl
-    go (Present MinusOne) e = refl
-    go (Present (Number n)) e = le-leb n 999999999999998 (field-number-bound greatestSent n s e)
+use Rattle.receiver.specs.declared.Decision.the-variants.{Answers}
 
 pub space : (d n have start : ℕ) → start ≤ have → leb (d + n) (have - start) ≡ leb (start + (d + n)) have
 space d n have start h = go (decLe (start + (d + n)) have)
@@ -63,68 +47,79 @@ space d n have start h = go (decLe (start + (d + n)) have)
 pub space-short : (g : Settings) (have start : ℕ) → have < start → false ≡ leb (start + replySpace g) have
 space-short g have start h = sym (lt-leb (start + replySpace g) have (omega arith))
 
-module _ (k : Kind) (a : Application) (s : Expected) (d : List ℕ) (id seq : Field) where
-  pub header-forbidden : allAllowed (bytesOf id d) ≡ false → refusedBy k 9 71 ≡ headerDecision k a s d (Readable id seq)
-  header-forbidden h = rw h
+-- what holds of B, C, X and G holds of every reason
+reason-any : (P : ℕ → Type 0) → P (code "B") → P (code "C") → P (code "X") → P (code "G") → (n : ℕ) → P (reasonOf n)
+reason-any P b c x g n =
+    cond-ind P (eqb n 4) _ _ (λ e. b) (λ e. cond-ind P (eqb n 6) _ _ (λ f. c) (λ f. cond-ind P (eqb n 7) _ _ (λ i. x) (λ i. g)))
 
-  pub header-answers : allAllowed (bytesOf id d) ≡ true
-      → Answers id (rowOf a s (numberField greatestSent (bytesOf seq d))) ≡ headerDecision k a s d (Readable id seq)
-  header-answers h = rw h
+pub reason-is : (n : ℕ) → isReason (reasonOf n ∷ []) ≡ true
+reason-is n = reason-any (λ (r : ℕ). isReason (r ∷ []) ≡ true) refl refl refl refl n
 
--- which decisions there are
-reason-good : (k : Kind) (n r : ℕ) (d : List ℕ) → isReason (r ∷ []) ≡ true → Possible (refusedBy k n r) d
-reason-good Hybrid n r d h = h
-reason-good Minimal n r d h = refl
+pub reason-allowed : (n : ℕ) → allAllowed (reasonOf n ∷ []) ≡ true
+reason-allowed n = reason-any (λ (r : ℕ). allAllowed (r ∷ []) ≡ true) refl refl refl refl n
 
-expected-good : (s : Expected) → validExpected s ≡ true → answerable (expectedNumber s) ≡ true
+-- what MSH-13 holds has a number after it
+pub field-fits : (s : List ℕ) → fieldFits (numberField greatestSent s) ≡ true
+field-fits s = go (numberField greatestSent s) refl
+  where
+    go : (f : NumberField) → numberField greatestSent s ≡ f → fieldFits f ≡ true
+    go Missing e = refl
+    go NotNumber e = refl
+    go (Present MinusOne) e = refl
+    go (Present (Number n)) e = le-leb n greatestSent (field-number-bound greatestSent n s e)
+
+-- the numbers that MSA-4 has in the table's rows
+pub expected-answerable : (s : Expected) → validExpected s ≡ true → answerable (expectedNumber s) ≡ true
 unfolding validExpected answerable
-expected-good Unknown h = refl
-expected-good (Next e) h = and-right (leb 1 e) (leb e 999999999999999) h
+expected-answerable Unknown h = refl
+expected-answerable (Next e) h = and-right (leb 1 e) (leb e greatestExpected) h
 
-number-good : (n : ℕ) → leb n 999999999999998 ≡ true → answerable (Number n) ≡ true
+pub sent-answerable : (n : ℕ) → leb n greatestSent ≡ true → answerable (Number n) ≡ true
 unfolding answerable
-number-good n h = let l = leb-true n 999999999999998 h in le-leb n 999999999999999 (omega (arith, l))
+sent-answerable n h = let l = leb-true n greatestSent h in le-leb n greatestExpected (omega (arith, l))
 
-next-good : (a : Application) (e n : ℕ) → answerable (Number e) ≡ true → answerable (Number n) ≡ true → answerable (nextRow a e n .number) ≡ true
-next-good a e n g h =
-    cond-ind (λ (r : Row). answerable (r .number) ≡ true) (eqb n 0) (row AA (Number e) NoTransaction (Next e))
-    (cond (eqb n e) (stores a n) (row AR (Number e) NoTransaction (Next e))) (λ (z : eqb n 0 ≡ true). g)
-    (λ (z : eqb n 0 ≡ false). cond-ind (λ (r : Row). answerable (r .number) ≡ true) (eqb n e) (stores a n) (row AR (Number e) NoTransaction (Next e)) (λ (y : eqb n e ≡ true). h) (λ (y : eqb n e ≡ false). g))
-
-unknown-good : (a : Application) (n : ℕ) → answerable (Number n) ≡ true → answerable (unknownRow a n .number) ≡ true
-unfolding answerable
-unknown-good a n h =
-    cond-ind (λ (r : Row). answerable (r .number) ≡ true) (eqb n 0) (row AA MinusOne NoTransaction Unknown) (stores a n) (λ (z : eqb n 0 ≡ true). refl)
-    (λ (z : eqb n 0 ≡ false). h)
-
-row-good : (a : Application) (s : Expected) (f : NumberField) → validExpected s ≡ true → fieldFits f ≡ true → answerable (rowOf a s f .number) ≡ true
+pub row-answerable : (a : Application) (s : Expected) (f : NumberField) → validExpected s ≡ true → fieldFits f ≡ true
+    → answerable (rowOf a s f .number) ≡ true
 unfolding rowOf answerable
-row-good a s Missing v h = expected-good s v
-row-good a s NotNumber v h = expected-good s v
-row-good a s (Present MinusOne) v h = refl
-row-good a Unknown (Present (Number n)) v h = unknown-good a n (number-good n h)
-row-good a (Next e) (Present (Number n)) v h = next-good a e n (expected-good (Next e) v) (number-good n h)
+row-answerable a s Missing v h = expected-answerable s v
+row-answerable a s NotNumber v h = expected-answerable s v
+row-answerable a s (Present MinusOne) v h = refl
+row-answerable a Unknown (Present (Number n)) v h =
+    cond-ind (λ (r : Row). answerable (r .number) ≡ true) (eqb n 0) _ _ (λ e. refl) (λ e. sent-answerable n h)
+row-answerable a (Next e) (Present (Number n)) v h =
+    let expected = expected-answerable (Next e) v in
+    cond-ind (λ (r : Row). answerable (r .number) ≡ true) (eqb n 0) _ _ (λ z. expected)
+    (λ z. cond-ind (λ (r : Row). answerable (r .number) ≡ true) (eqb n e) _ _ (λ y. sent-answerable n h) (λ y. expected))
 
-header-good : (k : Kind) (a : Application) (s : Expected) (d : List ℕ) (h : Header) → validExpected s ≡ true → headerOf d ≡ h
-    → Possible (headerDecision k a s d h) d
-header-good k a s d Unreadable v e = reason-good k 9 71 d refl
-header-good k a s d (Readable id seq) v e =
-    cond-ind (λ (z : Decision). Possible z d) (allAllowed (bytesOf id d)) (Answers id (rowOf a s (numberField greatestSent (bytesOf seq d)))) (refusedBy k 9 71)
-    (λ (w : allAllowed (bytesOf id d) ≡ true). record {
-      allowed = w;
-      control = handed-out-read d id seq e;
-      number = row-good a s (numberField greatestSent (bytesOf seq d)) v (field-fits (bytesOf seq d));
-    })
-    (λ (w : allAllowed (bytesOf id d) ≡ false). reason-good k 9 71 d refl)
+module _ (k : Kind) (a : Application) (s : Expected) (d : List ℕ) where
+  module _ (id seq : Field) where
+    pub header-forbidden : allAllowed (bytesOf id d) ≡ false → refusedBy k 9 ≡ headerDecision k a s d (Readable id seq)
+    header-forbidden h = rw h
 
-pub possible : (k : Kind) (a : Application) (s : Expected) (v : Verdict) (d : List ℕ) → validExpected s ≡ true → Possible (decisionOf k a s v d) d
-unfolding decisionOf
-possible k a s (Accepted t n) d h =
-    cond-ind (λ (z : Decision). Possible z d) (isNak k t) (Drops 0) (headerDecision k a s d (headerOf d)) (λ (w : isNak k t ≡ true). refl)
-    (λ (w : isNak k t ≡ false). header-good k a s d (headerOf d) h refl)
-possible k a s (Byte p) d h = reason-good k 3 71 d refl
-possible k a s Long d h = reason-good k 4 66 d refl
-possible k a s Shape d h = reason-good k 5 71 d refl
-possible k a s Count d h = reason-good k 6 67 d refl
-possible k a s Check d h = reason-good k 7 88 d refl
-possible k a s Interrupted d h = reason-good k 8 71 d refl
+    pub header-answers : allAllowed (bytesOf id d) ≡ true
+        → Answers id (rowOf a s (numberField greatestSent (bytesOf seq d))) ≡ headerDecision k a s d (Readable id seq)
+    header-answers h = rw h
+
+  refused-possible : (n : ℕ) → Possible (refusedBy k n) d
+  refused-possible n = go k
+    where
+      go : (j : Kind) → Possible (refusedBy j n) d
+      go Hybrid = refl
+      go Minimal = refl
+
+  header-possible : (h : Header) → validExpected s ≡ true → headerOf d ≡ h → Possible (headerDecision k a s d h) d
+  header-possible Unreadable v e = refused-possible 9
+  header-possible (Readable id seq) v e =
+      cond-ind (λ (z : Decision). Possible z d) (allAllowed (bytesOf id d)) _ _
+      (λ w. record {
+        allowed = w;
+        control = handed-out-read d id seq e;
+        number = row-answerable a s (numberField greatestSent (bytesOf seq d)) v (field-fits (bytesOf seq d));
+      })
+      (λ w. refused-possible 9)
+
+  pub possible : (v : Verdict) → validExpected s ≡ true → Possible (decisionOf k a s v d) d
+  unfolding decisionOf
+  possible (Refused n i) h = refused-possible n
+  possible (Accepted t n) h =
+      cond-ind (λ (z : Decision). Possible z d) (isNak k t) _ _ (λ w. refl) (λ w. header-possible (headerOf d) h refl)

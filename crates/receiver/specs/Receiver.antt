@@ -1,17 +1,19 @@
--- Document 01, 'Receiver of sequence numbers' (001, 002), and the reply column of 'Numbers that say no': what the receiver decides, stores and replies.
+-- Document 01, 'Receiver of sequence numbers' (001, 002), and the reply column of 'Numbers that say no': what the receiver decides, persists and replies.
 use mathlib.Core.List.{List, [], _∷_}
 use mathlib.Core.Bool.{Bool, true, false, cond, _&&_}
 use Prim.Native.Nat.{ℕ, _+_}
+use Prim.Native.Char.{code}
 use lib.ListN.{length}
 use lib.Dec.{leb, eqb}
+use Rattle.lists.specs.Bytes.{put}
+use Rattle.lists.specs.Outcome.{need, Outcome, outcome}
 use Rattle.settings.specs.Settings.{byKind, validLink}
 use Rattle.settings.specs.declared.Kind.{Kind}
 use Rattle.settings.specs.declared.Settings.{Settings}
 use Rattle.settings.specs.DataBytes.{allAllowed}
-use Rattle.verdict.specs.declared.Verdict.{Verdict}
-use Rattle.verdict.specs.declared.Verdict.the-variants.{Accepted, Byte, Long, Shape, Count, Check, Interrupted}
+use Rattle.refusal.specs.declared.Verdict.{Verdict}
+use Rattle.refusal.specs.declared.Verdict.the-variants.{Accepted, Refused}
 use Rattle.block.specs.Format.{blockOf}
-use Rattle.lists.specs.Bytes.{put}
 use Rattle.fields.specs.Fields.{bytesOf}
 use Rattle.numbers.specs.Numbers.{numberField, greatestSent, greatestExpected}
 use Rattle.numbers.specs.declared.SequenceNumber.{SequenceNumber}
@@ -55,93 +57,86 @@ expectedNumber (Next e) = Number e
 abbrev pub row : Code → SequenceNumber → Transaction → Expected → Row
 row c n t e = record { code = c; number = n; persisted = record { transaction = t; expected = e } }
 
--- n | NONE, or E = n | AA or AE, n | transaction n, and n + 1
+-- AA or AE, n | transaction n, and n + 1
 abbrev pub stores : Application → ℕ → Row
 stores a n = row (applicationCode a) (Number n) (Numbered n) (Next (n + 1))
 
--- 0 | NONE | AA, -1 | NONE;  n | NONE | as above
-abbrev pub unknownRow : Application → ℕ → Row
-unknownRow a n = cond (eqb n 0) (row AA MinusOne NoTransaction Unknown) (stores a n)
-
--- 0 | E | AA, E | E;  n | E = n | as above;  n | E not n | AR, E | E
-abbrev pub nextRow : Application → ℕ → ℕ → Row
-nextRow a e n =
-    cond (eqb n 0) (row AA (Number e) NoTransaction (Next e)) (cond (eqb n e) (stores a n) (row AR (Number e) NoTransaction (Next e)))
-
--- -1 | any | AA, -1 | NONE
-abbrev pub numberRow : Application → Expected → SequenceNumber → Row
-numberRow a s MinusOne = row AA MinusOne NoTransaction Unknown
-numberRow a Unknown (Number n) = unknownRow a n
-numberRow a (Next e) (Number n) = nextRow a e n
-
--- missing, empty or not a number | any | AR, E or -1 | as before
+-- the table: what MSH-13 holds and the state | MSA-1, MSA-4 | stored then
 unfoldable pub rowOf : Application → Expected → NumberField → Row
-rowOf a s (Present n) = numberRow a s n
+-- -1 | any | AA, -1 | NONE
+rowOf a s (Present MinusOne) = row AA MinusOne NoTransaction Unknown
+-- 0 | NONE | AA, -1 | NONE
+-- n | NONE | AA or AE, n | transaction n, and n + 1
+rowOf a Unknown (Present (Number n)) = cond (eqb n 0) (row AA MinusOne NoTransaction Unknown) (stores a n)
+-- 0 | E | AA, E | E
+-- n | E = n | AA or AE, n | transaction n, and n + 1
+-- n | E not n | AR, E | E
+rowOf a (Next e) (Present (Number n)) =
+    cond (eqb n 0) (row AA (Number e) NoTransaction (Next e))
+    (cond (eqb n e) (stores a n)
+    (row AR (Number e) NoTransaction (Next e)))
+-- missing, empty or not a number | any | AR, E or -1 | as before
 rowOf a s Missing = row AR (expectedNumber s) NoTransaction s
 rowOf a s NotNumber = row AR (expectedNumber s) NoTransaction s
 
--- the reply column: N with G, B, C or X; "A receiver drops a refused minimal block, also by 9, without reply"
-abbrev pub reasonOf : Verdict → ℕ
-reasonOf (Accepted t n) = 71
-reasonOf (Byte p) = 71
-reasonOf Long = 66
-reasonOf Shape = 71
-reasonOf Count = 67
-reasonOf Check = 88
-reasonOf Interrupted = 71
+-- the reply column: N with B, C, X or G
+abbrev pub reasonOf : ℕ → ℕ
+reasonOf n = cond (eqb n 4) (code "B") (cond (eqb n 6) (code "C") (cond (eqb n 7) (code "X") (code "G")))
 
-abbrev pub refusedBy : Kind → ℕ → ℕ → Decision
-refusedBy k n reason = byKind k (Naks n reason) (Drops n)
+abbrev pub nakBlock : Settings → ℕ → List ℕ
+nakBlock g n = blockOf g (code "N") (reasonOf n ∷ [])
+
+-- the answer to a control ID, as a data block
+abbrev pub answerBlock : Settings → List ℕ → Row → List ℕ
+answerBlock g id r = blockOf g (code "D") (answerMessage id (r .code) (r .number))
+
+-- "A receiver drops a refused minimal block, also by 9, without reply"
+abbrev pub refusedBy : Kind → ℕ → Decision
+refusedBy k n = byKind k (Naks n) (Drops n)
 
 -- a data block: 9, or the row for its MSH-13. A control ID that no block could hold is no readable one.
 abbrev pub headerDecision : Kind → Application → Expected → List ℕ → Header → Decision
-headerDecision k a s d Unreadable = refusedBy k 9 71
+headerDecision k a s d Unreadable = refusedBy k 9
 headerDecision k a s d (Readable id seq) =
-    cond (allAllowed (bytesOf id d)) (Answers id (rowOf a s (numberField greatestSent (bytesOf seq d)))) (refusedBy k 9 71)
+    need (allAllowed (bytesOf id d)) (refusedBy k 9) (Answers id (rowOf a s (numberField greatestSent (bytesOf seq d))))
 
 -- "a receiver drops an accepted N block"; a minimal block has no type
 abbrev pub isNak : Kind → ℕ → Bool
-isNak k t = byKind k (eqb t 78) false
+isNak k t = byKind k (eqb t (code "N")) false
 
 unfoldable pub decisionOf : Kind → Application → Expected → Verdict → List ℕ → Decision
+decisionOf k a s (Refused n i) d = refusedBy k n
 decisionOf k a s (Accepted t n) d = cond (isNak k t) (Drops 0) (headerDecision k a s d (headerOf d))
-decisionOf k a s (Byte p) d = refusedBy k 3 (reasonOf (Byte p))
-decisionOf k a s Long d = refusedBy k 4 (reasonOf Long)
-decisionOf k a s Shape d = refusedBy k 5 (reasonOf Shape)
-decisionOf k a s Count d = refusedBy k 6 (reasonOf Count)
-decisionOf k a s Check d = refusedBy k 7 (reasonOf Check)
-decisionOf k a s Interrupted d = refusedBy k 8 (reasonOf Interrupted)
 
--- what the act answers, and the buffer then
-pub record Outcome : Type 0 where
-  pub answer : Received
-  pub buffer : List ℕ
+-- what the act answers: the number that refuses the act, or 0; the block's number, 0 or 3 to 9; what is to be persisted; the reply's length
+abbrev pub received : ℕ → ℕ → Persisted → ℕ → Received
+received k n p size = record { refusal = k; number = n; persisted = p; «reply_length» = size }
 
-abbrev pub outcome : Received → List ℕ → Outcome
-outcome r b = record { answer = r; buffer = b }
+-- no transaction, and the state as before
+abbrev pub unchanged : Expected → Persisted
+unchanged s = record { transaction = NoTransaction; expected = s }
 
--- nothing to store: "A refused act leaves the state equal"
-abbrev pub unchanged : ℕ → Expected → ℕ → Received
-unchanged n s size = record { number = n; persisted = record { transaction = NoTransaction; expected = s }; «reply_length» = size }
+-- "A refused act leaves the state equal"
+abbrev pub refused : ℕ → Expected → List ℕ → Outcome Received
+refused k s b = outcome (received k 0 (unchanged s) 0) b
 
 -- the reply block is written from an offset on; "of which only the reply's bytes change"
-abbrev pub repliedOf : Settings → Expected → List ℕ → ℕ → List ℕ → Decision → Outcome
-repliedOf g s d start b (Drops n) = outcome (unchanged n s 0) b
-repliedOf g s d start b (Naks n reason) =
-    outcome (unchanged n s (length (blockOf g 78 (reason ∷ [])))) (put b start (blockOf g 78 (reason ∷ [])))
-repliedOf g s d start b (Answers id r) =
-    outcome (record { number = 0; persisted = r .persisted; «reply_length» = length (blockOf g 68 (answerMessage (bytesOf id d) (r .code) (r .number))) })
-    (put b start (blockOf g 68 (answerMessage (bytesOf id d) (r .code) (r .number))))
+abbrev pub replied : ℕ → Persisted → List ℕ → ℕ → List ℕ → Outcome Received
+replied n p block start b = outcome (received 0 n p (length block)) (put b start block)
+
+abbrev pub repliedOf : Settings → Expected → List ℕ → ℕ → List ℕ → Decision → Outcome Received
+repliedOf g s d start b (Drops n) = outcome (received 0 n (unchanged s) 0) b
+repliedOf g s d start b (Naks n) = replied n (unchanged s) (nakBlock g n) start b
+repliedOf g s d start b (Answers id r) = replied 0 (r .persisted) (answerBlock g (bytesOf id d) r) start b
 
 -- "Room needed .. for a receiver's reply D + 15 (minimal D + 3)"
 abbrev pub replySpace : Settings → ℕ
 replySpace g = g .«data_limit» + byKind (g .kind) 15 3
 
 -- the act on a block: 1, 2, 11 (a state that is none), then the decision and its reply
-unfoldable pub receiveOf : Settings → Application → Expected → Verdict → List ℕ → ℕ → List ℕ → Outcome
+unfoldable pub receiveOf : Settings → Application → Expected → Verdict → List ℕ → ℕ → List ℕ → Outcome Received
 receiveOf g a s v d start b =
-    cond (validLink g)
-    (cond (leb (start + replySpace g) (length b))
-    (cond (validExpected s) (repliedOf g s d start b (decisionOf (g .kind) a s v d)) (outcome (unchanged 11 s 0) b))
-    (outcome (unchanged 2 s 0) b))
-    (outcome (unchanged 1 s 0) b)
+    need (validLink g) (refused 1 s b)
+    (need (leb (start + replySpace g) (length b)) (refused 2 s b)
+    (need (validExpected s) (refused 11 s b)
+    (repliedOf g s d start b (decisionOf (g .kind) a s v d))))

@@ -7,18 +7,18 @@ use fields::field_content;
 use header::Header;
 use numbers::SequenceNumber;
 use numbers::read_number;
+use refusal::Verdict;
 use settings::Kind;
-use verdict::Verdict;
 ghost use mathlib.Core.Path.{_≡_};
 ghost use Rattle.header.specs.Header.{headerOf};
 ghost use Rattle.receiver.specs.Receiver.{refusedBy, headerDecision, isNak, decisionOf};
 
 // The reply to a refused block: an N block, or nothing on a minimal link.
-fn refused_by(kind: Kind, number: u64, reason: u8) -> Decision
-    ensures { λ r. ⌜ r ≡ refusedBy kind number reason ⌝ }
+fn refused_by(kind: Kind, number: u64) -> Decision
+    ensures { λ r. ⌜ r ≡ refusedBy kind number ⌝ }
 {
     match kind {
-        Kind::Hybrid => Decision::Naks(number, reason),
+        Kind::Hybrid => Decision::Naks(number),
         Kind::Minimal => Decision::Drops(number),
     }
 }
@@ -27,7 +27,7 @@ fn is_nak(kind: Kind, t: u8) -> bool
     ensures { λ r. ⌜ r ≡ isNak kind t ⌝ }
 {
     match kind {
-        Kind::Hybrid => t == 78,
+        Kind::Hybrid => t == b'N',
         Kind::Minimal => false,
     }
 }
@@ -36,10 +36,10 @@ fn decide_data(kind: Kind, application: Application, expected: Expected, content
     ensures { λ r. ⌜ r ≡ headerDecision kind application expected (now (content .entry)) (headerOf (now (content .entry))) ⌝ }
 {
     let Header::Readable(control_id, sequence) = header::read_header(content) else {
-        return refused_by(kind, 9, 71);
+        return refused_by(kind, refusal::HEADER);
     };
     if !settings::are_allowed(field_content(content, control_id)) {
-        return refused_by(kind, 9, 71);
+        return refused_by(kind, refusal::HEADER);
     }
     let number = read_number(
         field_content(content, sequence),
@@ -64,11 +64,6 @@ pub(crate) fn decide(
             }
             decide_data(kind, application, expected, content)
         }
-        Verdict::Byte(_) => refused_by(kind, 3, 71),
-        Verdict::Long => refused_by(kind, 4, 66),
-        Verdict::Shape => refused_by(kind, 5, 71),
-        Verdict::Count => refused_by(kind, 6, 67),
-        Verdict::Check => refused_by(kind, 7, 88),
-        Verdict::Interrupted => refused_by(kind, 8, 71),
+        Verdict::Refused(number, _) => refused_by(kind, number),
     }
 }

@@ -39,19 +39,21 @@ pub struct Row {
     pub persisted: Persisted,
 }
 
-// What is done with a block.
+// What is done with a block that has this number, 0 or 3 to 9.
 pub enum Decision {
-    // Nothing, with its number.
+    // No reply.
     Drops(u64),
-    // An N block, with the block's number and the reason.
-    Naks(u64, u8),
+    // An N block.
+    Naks(u64),
     // An answer to the control ID in this field.
     Answers(Field, Row),
 }
 
 // What the act answers.
 pub struct Received {
-    // 0, 1, 2 or 11 for the act, or the number 3 to 9 of a refused block.
+    // The number that refuses the act: 1, 2 or 11; otherwise 0.
+    pub refusal: u64,
+    // The block's number: 0, or 3 to 9.
     pub number: u64,
     pub persisted: Persisted,
     // The reply block's length; 0 where there is none.

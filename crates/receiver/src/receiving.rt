@@ -8,35 +8,32 @@ use crate::Row;
 use crate::Transaction;
 use crate::deciding::decide;
 use fields::field_content;
+use numbers::SequenceNumber;
+use refusal::Verdict;
 use settings::Kind;
 use settings::Settings;
-use verdict::Verdict;
-use writer::Written;
 ghost use mathlib.Core.Path.{_≡_};
-ghost use mathlib.Core.List.{[], _∷_};
 ghost use mathlib.Core.Bool.{true};
 ghost use Prim.Native.Nat.{_+_, _≤_};
 ghost use lib.Dec.{leb};
 ghost use lib.ListN.{length};
-ghost use Rattle.receiver.specs.Receiver.{validExpected, unchanged, outcome, repliedOf, replySpace, receiveOf};
-ghost use Rattle.block.specs.Format.{blockOf};
-ghost use Rattle.block.specs.Judge.{isReason};
-ghost use Rattle.writer.specs.Write.{lengthOf as blockLength};
-ghost use Rattle.messages.specs.Messages.{answerMessage};
-ghost use Rattle.receiver.specs.Internal.{Linked, Replies, Answerable, Possible};
+ghost use Rattle.lists.specs.Outcome.{outcome};
+ghost use Rattle.settings.specs.Settings.{validLink};
+ghost use Rattle.receiver.specs.Receiver.{validExpected, reasonOf, nakBlock, answerBlock, received, unchanged, repliedOf, replySpace, receiveOf};
+ghost use Rattle.receiver.specs.Internal.{Linked, framed, Answerable, Possible};
 
 fn is_expected(expected: Expected) -> bool
     ensures { λ r. ⌜ r ≡ validExpected expected ⌝ }
 {
     match expected {
         Expected::Unknown => true,
-        Expected::Next(e) => (1 <= e) & (e <= 999999999999999),
+        Expected::Next(e) => (1 <= e) & (e <= SequenceNumber::GREATEST_EXPECTED),
     }
 }
 
-// Whether a reply of D data bytes would fit from the offset on. D is at most 99,994.
+// Whether a reply of D data bytes would fit from the offset on.
 fn is_long_enough(settings: Settings, have: usize, start: usize) -> bool
-    requires { ⌜ settings .«data_limit» ≤ 99994 ⌝ }
+    requires { ⌜ validLink settings ≡ true ⌝ }
     ensures { λ r. ⌜ r ≡ leb (start + replySpace settings) have ⌝ }
 {
     if have < start {
@@ -49,10 +46,12 @@ fn is_long_enough(settings: Settings, have: usize, start: usize) -> bool
     }
 }
 
-fn nothing_new(number: u64, expected: Expected, reply_length: usize) -> Received
-    ensures { λ r. ⌜ r ≡ unchanged number expected «reply_length» ⌝ }
+// An answer with nothing new to persist.
+fn nothing_new(refusal: u64, number: u64, expected: Expected, reply_length: usize) -> Received
+    ensures { λ r. ⌜ r ≡ received refusal number (unchanged expected) «reply_length» ⌝ }
 {
     Received {
+        refusal,
         number,
         persisted: Persisted {
             transaction: Transaction::NoTransaction,
@@ -62,27 +61,28 @@ fn nothing_new(number: u64, expected: Expected, reply_length: usize) -> Received
     }
 }
 
-// The length of what the block writer wrote, 0 where it refused.
-fn block_length(written: Written) -> usize
-    ensures { λ r. ⌜ r ≡ blockLength written ⌝ }
+// The reason that an N block gives for the number of a refused one.
+fn reason_of(number: u64) -> u8
+    ensures { λ r. ⌜ r ≡ reasonOf number ⌝ }
 {
-    match written {
-        Written::Setting => 0,
-        Written::TooShort => 0,
-        Written::Long => 0,
-        Written::Shape => 0,
-        Written::Byte(_) => 0,
-        Written::Block(size) => size,
+    if number == refusal::LONG {
+        return b'B';
     }
+    if number == refusal::COUNT {
+        return b'C';
+    }
+    if number == refusal::CHECKSUM {
+        return b'X';
+    }
+    b'G'
 }
 
-fn write_nak(settings: Settings, reason: u8, buffer: &mut [u8], start: usize) -> usize
+fn write_nak(settings: Settings, number: u64, buffer: &mut [u8], start: usize) -> usize
     requires { ⌜ Linked settings start (length (now buffer)) ⌝ }
-    requires { ⌜ isReason (reason ∷ []) ≡ true ⌝ }
-    ensures { λ r. ⌜ Replies (now (buffer .entry)) start (blockOf settings 78 (reason ∷ [])) r (now (buffer .exit)) ⌝ }
+    ensures { λ r. ⌜ outcome r (now (buffer .exit)) ≡ framed (nakBlock settings number) start (now (buffer .entry)) ⌝ }
 {
-    let content = [reason];
-    block_length(writer::write(settings, 78, &content, buffer, start))
+    let content = [reason_of(number)];
+    writer::frame(settings, b'N', &content, buffer, start).length()
 }
 
 // Makes the answer in the first bytes of `message`, and frames it as a block.
@@ -97,12 +97,12 @@ fn frame_answer(
     requires { ⌜ Linked settings start (length (now buffer)) ⌝ }
     requires { ⌜ Answerable (now «control_id») (row .number) ⌝ }
     requires { ⌜ 93 ≤ length (now message) ⌝ }
-    ensures { λ r. ⌜ Replies (now (buffer .entry)) start (blockOf settings 68 (answerMessage (now («control_id» .entry)) (row .code) (row .number))) r (now (buffer .exit)) ⌝ }
+    ensures { λ r. ⌜ outcome r (now (buffer .exit)) ≡ framed (answerBlock settings (now («control_id» .entry)) row) start (now (buffer .entry)) ⌝ }
 {
     let code = row.code;
     let number = row.number;
-    let size = messages::write_answer(control_id, code, number, message, 0).message_length();
-    block_length(writer::write(settings, 68, &message[..size], buffer, start))
+    let size = messages::write_answer(control_id, code, number, message, 0).length();
+    writer::frame(settings, b'D', &message[..size], buffer, start).length()
 }
 
 // An answer has at most 93 bytes.
@@ -115,7 +115,7 @@ fn write_answer(
 ) -> usize
     requires { ⌜ Linked settings start (length (now buffer)) ⌝ }
     requires { ⌜ Answerable (now «control_id») (row .number) ⌝ }
-    ensures { λ r. ⌜ Replies (now (buffer .entry)) start (blockOf settings 68 (answerMessage (now («control_id» .entry)) (row .code) (row .number))) r (now (buffer .exit)) ⌝ }
+    ensures { λ r. ⌜ outcome r (now (buffer .exit)) ≡ framed (answerBlock settings (now («control_id» .entry)) row) start (now (buffer .entry)) ⌝ }
 {
     let mut message = [0u8; 93];
     frame_answer(settings, control_id, row, &mut message, buffer, start)
@@ -135,10 +135,10 @@ fn reply(
     ensures { λ r. ⌜ outcome r (now (buffer .exit)) ≡ repliedOf settings expected (now (content .entry)) start (now (buffer .entry)) decision ⌝ }
 {
     match decision {
-        Decision::Drops(number) => nothing_new(number, expected, 0),
-        Decision::Naks(number, reason) => {
-            let size = write_nak(settings, reason, buffer, start);
-            nothing_new(number, expected, size)
+        Decision::Drops(number) => nothing_new(0, number, expected, 0),
+        Decision::Naks(number) => {
+            let size = write_nak(settings, number, buffer, start);
+            nothing_new(0, number, expected, size)
         }
         Decision::Answers(control_id, row) => {
             let persisted = row.persisted;
@@ -150,6 +150,7 @@ fn reply(
                 start,
             );
             Received {
+                refusal: 0,
                 number: 0,
                 persisted,
                 reply_length: size,
@@ -172,13 +173,13 @@ pub fn receive(
     ensures { λ r. ⌜ outcome r (now (buffer .exit)) ≡ receiveOf settings application expected verdict (now (content .entry)) start (now (buffer .entry)) ⌝ }
 {
     if !settings.is_link() {
-        return nothing_new(1, expected, 0);
+        return nothing_new(refusal::SETTING, 0, expected, 0);
     }
     if !is_long_enough(settings, buffer.len(), start) {
-        return nothing_new(2, expected, 0);
+        return nothing_new(refusal::TOO_SHORT, 0, expected, 0);
     }
     if !is_expected(expected) {
-        return nothing_new(11, expected, 0);
+        return nothing_new(refusal::STATE, 0, expected, 0);
     }
     let kind = settings.kind;
     let decision = decide(kind, application, expected, verdict, content);

@@ -10,7 +10,8 @@ use numbers::SequenceNumber;
 ghost use mathlib.Core.Path.{_≡_};
 ghost use mathlib.Core.Bool.{true};
 ghost use Prim.Native.Nat.{_≤_};
-ghost use Rattle.receiver.specs.Receiver.{applicationCode, expectedNumber, row, stores, unknownRow, nextRow, numberRow, rowOf};
+ghost use Rattle.numbers.specs.Numbers.{greatestSent};
+ghost use Rattle.receiver.specs.Receiver.{applicationCode, expectedNumber, row, stores, rowOf};
 ghost use Rattle.receiver.specs.Internal.{numberFits, fieldFits};
 
 fn application_code(application: Application) -> Code
@@ -47,7 +48,7 @@ fn row_without(code: Code, number: SequenceNumber, expected: Expected) -> Row
 
 // The row that stores a transaction and expects the one after it.
 fn row_storing(application: Application, n: u64) -> Row
-    requires { ⌜ n ≤ 999999999999998 ⌝ }
+    requires { ⌜ n ≤ greatestSent ⌝ }
     ensures { λ r. ⌜ r ≡ stores application n ⌝ }
 {
     Row {
@@ -61,8 +62,8 @@ fn row_storing(application: Application, n: u64) -> Row
 }
 
 fn unknown_row(application: Application, n: u64) -> Row
-    requires { ⌜ n ≤ 999999999999998 ⌝ }
-    ensures { λ r. ⌜ r ≡ unknownRow application n ⌝ }
+    requires { ⌜ n ≤ greatestSent ⌝ }
+    ensures { λ r. ⌜ r ≡ rowOf application Expected.Unknown (NumberField.Present (SequenceNumber.Number n)) ⌝ }
 {
     if n == 0 {
         return row_without(Code::AA, SequenceNumber::MinusOne, Expected::Unknown);
@@ -71,8 +72,8 @@ fn unknown_row(application: Application, n: u64) -> Row
 }
 
 fn next_row(application: Application, e: u64, n: u64) -> Row
-    requires { ⌜ n ≤ 999999999999998 ⌝ }
-    ensures { λ r. ⌜ r ≡ nextRow application e n ⌝ }
+    requires { ⌜ n ≤ greatestSent ⌝ }
+    ensures { λ r. ⌜ r ≡ rowOf application (Expected.Next e) (NumberField.Present (SequenceNumber.Number n)) ⌝ }
 {
     if n == 0 {
         return row_without(Code::AA, SequenceNumber::Number(e), Expected::Next(e));
@@ -85,7 +86,7 @@ fn next_row(application: Application, e: u64, n: u64) -> Row
 
 fn number_row(application: Application, expected: Expected, number: SequenceNumber) -> Row
     requires { ⌜ numberFits number ≡ true ⌝ }
-    ensures { λ r. ⌜ r ≡ numberRow application expected number ⌝ }
+    ensures { λ r. ⌜ r ≡ rowOf application expected (NumberField.Present number) ⌝ }
 {
     match number {
         SequenceNumber::MinusOne => {

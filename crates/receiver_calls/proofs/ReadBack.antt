@@ -9,9 +9,9 @@ use Rattle.lists.proofs.Tests.{and-left}
 use Rattle.receiver.specs.Receiver.{validExpected}
 use Rattle.receiver.specs.declared.Expected.{Expected}
 use Rattle.receiver.specs.declared.Expected.the-variants.{Unknown, Next}
-use Rattle.receiver_calls.specs.ReceiverCalls.{expectedWord, expectedOf}
+use Rattle.receiver_calls.specs.ReceiverCalls.{expectedWord, expectedFrom}
 
-pub expected-back : (e : Expected) → validExpected e ≡ true → expectedOf (expectedWord e) ≡ e
+pub expected-back : (e : Expected) → validExpected e ≡ true → expectedFrom (expectedWord e) ≡ e
 unfolding validExpected
 expected-back Unknown v = refl
-expected-back (Next n) v = let l = leb-true 1 n (and-left (leb 1 n) (leb n 999999999999999) v) in rw (ne-eqb n 0 (λ (e : n ≡ 0). omega arith))
+expected-back (Next n) v = let l = leb-true 1 n (and-left (leb 1 n) _ v) in rw (ne-eqb n 0 (λ (e : n ≡ 0). omega arith))

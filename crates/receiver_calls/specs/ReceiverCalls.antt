@@ -1,87 +1,67 @@
 -- What the C functions of the receiver return and leave in what was passed, for every input (include/giamuvich.h).
 use mathlib.Core.List.{List, [], _∷_}
-use mathlib.Core.Bool.{Bool, cond, _||_}
+use mathlib.Core.Bool.{cond, _&&_}
 use Prim.Native.Nat.{ℕ}
 use lib.ListN.{length, getD}
-use lib.Dec.{ltb, eqb}
+use lib.Dec.{leb, eqb}
 use Rattle.lists.specs.Bytes.{over}
-use Rattle.settings.specs.Settings.{validLink}
+use Rattle.lists.specs.Outcome.{need, Outcome, Called, called}
 use Rattle.settings.specs.declared.Made.{Made}
 use Rattle.settings.specs.declared.Made.the-variants.{Valid, Refused}
-use Rattle.words.specs.Words.{verdictOf}
+use Rattle.words.specs.Words.{verdictFrom}
 use Rattle.words.specs.declared.VerdictMade.{VerdictMade}
-use Rattle.words.specs.declared.VerdictMade.the-variants.{NoVerdict, AVerdict}
-use Rattle.receiver.specs.Receiver.{Outcome, receiveOf}
-use Rattle.receiver.specs.declared.Application.{Application}
+use Rattle.words.specs.declared.VerdictMade.the-variants.{Unknown as UnknownVerdict, Known as KnownVerdict}
+use Rattle.receiver.specs.Receiver.{receiveOf}
 use Rattle.receiver.specs.declared.Application.the-variants.{Accepts, Errs}
 use Rattle.receiver.specs.declared.Expected.{Expected}
-use Rattle.receiver.specs.declared.Expected.the-variants.{Unknown, Next}
+use Rattle.receiver.specs.declared.Expected.the-variants.{Unknown as NoneExpected, Next}
 use Rattle.receiver.specs.declared.Transaction.{Transaction}
 use Rattle.receiver.specs.declared.Transaction.the-variants.{NoTransaction, Numbered}
 use Rattle.receiver.specs.declared.Received.{Received}
 use Rattle.receiver_calls.specs.declared.ApplicationMade.{ApplicationMade}
-use Rattle.receiver_calls.specs.declared.ApplicationMade.the-variants.{NoApplication, AnApplication}
+use Rattle.receiver_calls.specs.declared.ApplicationMade.the-variants.{Unknown, Known}
 
 -- GMV_RECEIVER_EXPECTED: 0 is none
 abbrev pub expectedWord : Expected → ℕ
-expectedWord Unknown = 0
+expectedWord NoneExpected = 0
 expectedWord (Next e) = e
 
-abbrev pub expectedOf : ℕ → Expected
-expectedOf w = cond (eqb w 0) Unknown (Next w)
+abbrev pub expectedFrom : ℕ → Expected
+expectedFrom w = cond (eqb w 0) NoneExpected (Next w)
 
 -- GMV_CODE_AA, GMV_CODE_AE
-abbrev pub applicationOf : ℕ → ApplicationMade
-applicationOf n = cond (eqb n 1) (AnApplication Accepts) (cond (eqb n 2) (AnApplication Errs) NoApplication)
+abbrev pub applicationFrom : ℕ → ApplicationMade
+applicationFrom n = cond (eqb n 1) (Known Accepts) (cond (eqb n 2) (Known Errs) Unknown)
 
--- GMV_RECEIVED_TRANSACTION
+-- GMV_RECEIVED_TRANSACTION: 0 is none
 abbrev pub transactionWord : Transaction → ℕ
 transactionWord NoTransaction = 0
 transactionWord (Numbered n) = n
 
 -- gmv_receiver_fresh
-pub record Fresh : Type 0 where
-  pub number : ℕ
-  pub state : List ℕ
+unfoldable pub freshCall : List ℕ → Called
+freshCall st = need (leb 1 (length st)) (called 2 st [] []) (called 0 (over st (expectedWord NoneExpected ∷ [])) [] [])
 
-abbrev pub fresh : ℕ → List ℕ → Fresh
-fresh n st = record { number = n; state = st }
+-- GMV_RECEIVED_TRANSACTION, GMV_RECEIVED_REPLY_LENGTH, GMV_RECEIVED_BLOCK
+abbrev pub receivedWords : Received → List ℕ
+receivedWords r = transactionWord (r .persisted .transaction) ∷ r .«reply_length» ∷ r .number ∷ []
 
-unfoldable pub freshCall : List ℕ → Fresh
-freshCall st = cond (ltb (length st) 1) (fresh 2 st) (fresh 0 (over st (expectedWord Unknown ∷ [])))
+-- a refused act changes nothing
+abbrev pub finished : List ℕ → List ℕ → Outcome Received → Called
+finished st p o =
+    need (eqb (o .answer .refusal) 0) (called (o .answer .refusal) st (o .buffer) p)
+    (called 0 (over st (expectedWord (o .answer .persisted .expected) ∷ [])) (o .buffer) (over p (receivedWords (o .answer))))
 
--- the number, and what is left in the state, the buffer and the report
-pub record Called : Type 0 where
-  pub number : ℕ
-  pub state : List ℕ
-  pub buffer : List ℕ
-  pub report : List ℕ
-
-abbrev pub called : ℕ → List ℕ → List ℕ → List ℕ → Called
-called n st b p = record { number = n; state = st; buffer = b; report = p }
-
--- the act's own refusals change nothing; else the state, and GMV_RECEIVED_TRANSACTION, GMV_RECEIVED_REPLY_LENGTH, GMV_RECEIVED_BLOCK
-abbrev pub isRefusal : ℕ → Bool
-isRefusal n = eqb n 1 || (eqb n 2 || eqb n 11)
-
-abbrev pub finished : List ℕ → List ℕ → Received → List ℕ → Called
-finished st p r b =
-    cond (isRefusal (r .number)) (called (r .number) st b p)
-    (called 0 (over st (expectedWord (r .persisted .expected) ∷ [])) b
-    (over p (transactionWord (r .persisted .transaction) ∷ r .«reply_length» ∷ r .number ∷ [])))
-
-abbrev pub outcomeFinished : List ℕ → List ℕ → Outcome → Called
-outcomeFinished st p o = finished st p (o .answer) (o .buffer)
-
+-- numbers from C that stand for nothing are refused as settings are; then the words' lengths
 abbrev pub receiveWith : Made → ApplicationMade → VerdictMade → List ℕ → List ℕ → List ℕ → ℕ → List ℕ → Called
 receiveWith Refused a v st d b start p = called 1 st b p
-receiveWith (Valid g) NoApplication v st d b start p = called 1 st b p
-receiveWith (Valid g) (AnApplication a) NoVerdict st d b start p = called 1 st b p
-receiveWith (Valid g) (AnApplication a) (AVerdict v) st d b start p =
-    cond (validLink g)
-    (cond (ltb (length st) 1) (called 2 st b p)
-    (cond (ltb (length p) 3) (called 2 st b p) (outcomeFinished st p (receiveOf g a (expectedOf (getD st 0 0)) v d start b))))
-    (called 1 st b p)
+receiveWith (Valid g) Unknown v st d b start p = called 1 st b p
+receiveWith (Valid g) (Known a) UnknownVerdict st d b start p = called 1 st b p
+receiveWith (Valid g) (Known a) (KnownVerdict v) st d b start p =
+    need (leb 1 (length st) && leb 3 (length p)) (called 2 st b p)
+    (finished st p (receiveOf g a (expectedFrom (getD st 0 0)) v d start b))
 
+-- gmv_hybrid_receive and gmv_minimal_receive
 unfoldable pub receiveCall : Made → ℕ → List ℕ → ℕ → ℕ → List ℕ → List ℕ → ℕ → List ℕ → Called
-receiveCall m application st number t d b start p = receiveWith m (applicationOf application) (verdictOf number t) st d b start p
+receiveCall m application st number t d b start p =
+    receiveWith m (applicationFrom application) (verdictFrom number t) st d b start p

@@ -4,7 +4,7 @@ use receiver::Application;
 use receiver::Expected;
 use receiver::Transaction;
 ghost use mathlib.Core.Path.{_≡_};
-ghost use Rattle.receiver_calls.specs.ReceiverCalls.{expectedWord, expectedOf, applicationOf, transactionWord, isRefusal};
+ghost use Rattle.receiver_calls.specs.ReceiverCalls.{expectedWord, expectedFrom, applicationFrom, transactionWord};
 
 pub(crate) fn expected_word(expected: Expected) -> u64
     ensures { λ r. ⌜ r ≡ expectedWord expected ⌝ }
@@ -15,8 +15,8 @@ pub(crate) fn expected_word(expected: Expected) -> u64
     }
 }
 
-pub(crate) fn expected_of(word: u64) -> Expected
-    ensures { λ r. ⌜ r ≡ expectedOf word ⌝ }
+pub(crate) fn expected_from(word: u64) -> Expected
+    ensures { λ r. ⌜ r ≡ expectedFrom word ⌝ }
 {
     if word == 0 {
         return Expected::Unknown;
@@ -33,21 +33,14 @@ pub(crate) fn transaction_word(transaction: Transaction) -> u64
     }
 }
 
-pub(crate) fn application_of(code: u64) -> ApplicationMade
-    ensures { λ r. ⌜ r ≡ applicationOf code ⌝ }
+pub(crate) fn application_from(code: u64) -> ApplicationMade
+    ensures { λ r. ⌜ r ≡ applicationFrom code ⌝ }
 {
     if code == 1 {
-        return ApplicationMade::AnApplication(Application::Accepts);
+        return ApplicationMade::Known(Application::Accepts);
     }
     if code == 2 {
-        return ApplicationMade::AnApplication(Application::Errs);
+        return ApplicationMade::Known(Application::Errs);
     }
-    ApplicationMade::NoApplication
-}
-
-// Whether the act itself was refused.
-pub(crate) fn is_refusal(number: u64) -> bool
-    ensures { λ r. ⌜ r ≡ isRefusal number ⌝ }
-{
-    (number == 1) | ((number == 2) | (number == 11))
+    ApplicationMade::Unknown
 }

@@ -7,8 +7,8 @@ pub use receive_words::fresh_receiver_words;
 pub use receive_words::received_words;
 use receiver::Application;
 
-// What numbers from C stand for.
+// What a number from C stands for.
 pub enum ApplicationMade {
-    NoApplication,
-    AnApplication(Application),
+    Unknown,
+    Known(Application),
 }

@@ -1,9 +1,8 @@
 // The receiver's acts on words.
 use crate::ApplicationMade;
-use crate::inputs::application_of;
-use crate::inputs::expected_of;
+use crate::inputs::application_from;
+use crate::inputs::expected_from;
 use crate::inputs::expected_word;
-use crate::inputs::is_refusal;
 use crate::inputs::transaction_word;
 use receiver::Received;
 use settings::Made;
@@ -12,14 +11,15 @@ ghost use mathlib.Core.Path.{_≡_};
 ghost use mathlib.Core.List.{[]};
 ghost use Prim.Native.Nat.{_≤_};
 ghost use lib.ListN.{length};
-ghost use Rattle.receiver_calls.specs.ReceiverCalls.{fresh, freshCall, called, finished, receiveCall};
+ghost use Rattle.lists.specs.Outcome.{outcome, called};
+ghost use Rattle.receiver_calls.specs.ReceiverCalls.{freshCall, finished, receiveCall};
 
 // No number expected.
 pub fn fresh_receiver_words(state: &mut [u64]) -> u64
-    ensures { λ r. ⌜ fresh r (now (state .exit)) ≡ freshCall (now (state .entry)) ⌝ }
+    ensures { λ r. ⌜ called r (now (state .exit)) [] [] ≡ freshCall (now (state .entry)) ⌝ }
 {
     if state.len() < 1 {
-        return 2;
+        return refusal::TOO_SHORT;
     }
     state[0] = 0;
     0
@@ -29,11 +29,10 @@ pub fn fresh_receiver_words(state: &mut [u64]) -> u64
 fn finish(received: Received, state: &mut [u64], report: &mut [u64]) -> u64
     requires { ⌜ 1 ≤ length (now state) ⌝ }
     requires { ⌜ 3 ≤ length (now report) ⌝ }
-    ensures { λ r. ⌜ called r (now (state .exit)) [] (now (report .exit)) ≡ finished (now (state .entry)) (now (report .entry)) received [] ⌝ }
+    ensures { λ r. ⌜ called r (now (state .exit)) [] (now (report .exit)) ≡ finished (now (state .entry)) (now (report .entry)) (outcome received []) ⌝ }
 {
-    let number = received.number;
-    if is_refusal(number) {
-        return number;
+    if received.refusal != 0 {
+        return received.refusal;
     }
     let persisted = received.persisted;
     let expected = persisted.expected;
@@ -41,11 +40,11 @@ fn finish(received: Received, state: &mut [u64], report: &mut [u64]) -> u64
     state[0] = expected_word(expected);
     report[0] = transaction_word(transaction);
     report[1] = received.reply_length as u64;
-    report[2] = number;
+    report[2] = received.number;
     0
 }
 
-// The receiver's act on a block.
+// The receiver's act on a block, for a link's settings.
 pub fn received_words(
     made: Made,
     application: u64,
@@ -60,27 +59,22 @@ pub fn received_words(
     ensures { λ r. ⌜ called r (now (state .exit)) (now (buffer .exit)) (now (report .exit)) ≡ receiveCall made application (now (state .entry)) number t (now (content .entry)) (now (buffer .entry)) start (now (report .entry)) ⌝ }
 {
     let Made::Valid(settings) = made else {
-        return 1;
+        return refusal::SETTING;
     };
-    let ApplicationMade::AnApplication(verdict_of_application) = application_of(application) else {
-        return 1;
+    let ApplicationMade::Known(application_verdict) = application_from(application) else {
+        return refusal::SETTING;
     };
-    let VerdictMade::AVerdict(verdict) = words::verdict_of(number, t) else {
-        return 1;
+    let VerdictMade::Known(verdict) = words::verdict_from(number, t) else {
+        return refusal::SETTING;
     };
-    if !settings.is_link() {
-        return 1;
+    let enough = (1 <= state.len()) & (3 <= report.len());
+    if !enough {
+        return refusal::TOO_SHORT;
     }
-    if state.len() < 1 {
-        return 2;
-    }
-    if report.len() < 3 {
-        return 2;
-    }
-    let expected = expected_of(state[0]);
+    let expected = expected_from(state[0]);
     let received = receiver::receive(
         settings,
-        verdict_of_application,
+        application_verdict,
         expected,
         verdict,
         content,

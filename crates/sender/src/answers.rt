@@ -1,199 +1,128 @@
 // What an answer to the waiting message brings.
 use crate::Acted;
 use crate::Event;
+use crate::NumberedMessage;
 use crate::Persisted;
 use crate::Sender;
 use crate::Waiting;
+use crate::state::act;
 use crate::state::begin;
-use crate::state::close;
-use crate::state::stay;
+use crate::state::end_circuit;
 use header::Code;
 use header::CodeField;
 use numbers::NumberField;
 use numbers::SequenceNumber;
 ghost use mathlib.Core.Path.{_≡_};
 ghost use Prim.Native.Nat.{_≤_};
-ghost use Rattle.sender.specs.Sender.{nextOf, goesOn, frozenOf, freezes, resynchronizedOf, deliveredOf, hearResynchronizing, queryNone, queryNumber, hearQuerying, knownNumber, rejectNumber, hearSending, hearWith, heardOf};
+ghost use Rattle.numbers.specs.Numbers.{greatestSent, greatestExpected};
+ghost use Rattle.sender.specs.Sender.{proceeds, freezes, deliveredOf, answerResynchronizing, answerQuery, answerTransaction, answerOf};
 ghost use Rattle.sender.specs.Internal.{Bounded};
 
-fn next_waiting(p: Persisted) -> Waiting
-    ensures { λ r. ⌜ r ≡ nextOf p ⌝ }
+// The next transaction waits, if it has been submitted.
+fn proceed(p: Persisted, event: Event) -> Acted
+    requires { ⌜ p .delivered ≤ greatestExpected ⌝ }
+    ensures { λ r. ⌜ r ≡ proceeds p event ⌝ }
 {
     if p.delivered < p.last {
-        return Waiting::Sending;
+        return begin(p, Waiting::Sending, event);
     }
-    Waiting::Idle
+    begin(p, Waiting::Idle, event)
 }
 
-// The next transaction waits, if it has been submitted.
-fn go_on(p: Persisted, event: Event) -> Acted
-    requires { ⌜ p .delivered ≤ 999999999999999 ⌝ }
-    requires { ⌜ p .last ≤ 999999999999998 ⌝ }
-    ensures { λ r. ⌜ r ≡ goesOn p event ⌝ }
+// One more transaction is delivered.
+fn deliver(p: Persisted, event: Event) -> Acted
+    requires { ⌜ p .delivered ≤ greatestSent ⌝ }
+    ensures { λ r. ⌜ r ≡ proceeds (deliveredOf p) event ⌝ }
 {
-    begin(p, next_waiting(p), event)
+    let mut next = p;
+    next.delivered += 1;
+    proceed(next, event)
 }
 
-fn freeze(sender: Sender) -> Acted
-    ensures { λ r. ⌜ r ≡ freezes sender ⌝ }
+fn freeze(p: Persisted) -> Acted
+    ensures { λ r. ⌜ r ≡ freezes p ⌝ }
 {
-    let p = sender.persisted;
-    let frozen = Persisted {
-        first: p.first,
-        delivered: p.delivered,
-        last: p.last,
-        resynchronized: p.resynchronized,
-        frozen: true,
+    let mut frozen = p;
+    frozen.frozen = true;
+    end_circuit(frozen, Event::Froze)
+}
+
+fn answer_resynchronizing(p: Persisted, code: Code, number: SequenceNumber) -> Acted
+    requires { ⌜ p .delivered ≤ greatestSent ⌝ }
+    ensures { λ r. ⌜ r ≡ answerResynchronizing p code number ⌝ }
+{
+    let Code::AA = code else {
+        return freeze(p);
     };
-    close(frozen, 0, Event::Froze)
+    let SequenceNumber::MinusOne = number else {
+        return freeze(p);
+    };
+    let mut synchronized = p;
+    synchronized.resynchronized = true;
+    proceed(synchronized, Event::NoEvent)
 }
 
-fn resynchronize(p: Persisted) -> Persisted
-    ensures { λ r. ⌜ r ≡ resynchronizedOf p ⌝ }
+fn answer_query(p: Persisted, code: Code, number: SequenceNumber) -> Acted
+    requires { ⌜ 1 ≤ p .first ⌝ }
+    requires { ⌜ p .delivered ≤ greatestSent ⌝ }
+    ensures { λ r. ⌜ r ≡ answerQuery p code number ⌝ }
 {
-    Persisted {
-        first: p.first,
-        delivered: p.delivered,
-        last: p.last,
-        resynchronized: true,
-        frozen: p.frozen,
+    let Code::AA = code else {
+        return freeze(p);
+    };
+    let SequenceNumber::Number(e) = number else {
+        if p.delivered == p.first - 1 {
+            return proceed(p, Event::NoEvent);
+        }
+        return freeze(p);
+    };
+    let waiting = p.delivered + 1;
+    if e == waiting {
+        return proceed(p, Event::NoEvent);
     }
+    if (e == waiting + 1) & (p.delivered < p.last) {
+        return deliver(p, Event::DeliveredUnknown(waiting));
+    }
+    freeze(p)
 }
 
-fn deliver(p: Persisted) -> Persisted
-    requires { ⌜ p .delivered ≤ 999999999999998 ⌝ }
-    ensures { λ r. ⌜ r ≡ deliveredOf p ⌝ }
-{
-    Persisted {
-        first: p.first,
-        delivered: p.delivered + 1,
-        last: p.last,
-        resynchronized: p.resynchronized,
-        frozen: p.frozen,
-    }
-}
-
-fn hear_resynchronizing(sender: Sender, code: Code, number: SequenceNumber) -> Acted
-    requires { ⌜ Bounded sender ⌝ }
-    ensures { λ r. ⌜ r ≡ hearResynchronizing sender code number ⌝ }
-{
-    let persisted = sender.persisted;
-    match code {
-        Code::AA => match number {
-            SequenceNumber::MinusOne => go_on(resynchronize(persisted), Event::NoEvent),
-            SequenceNumber::Number(_) => freeze(sender),
-        },
-        Code::AE => freeze(sender),
-        Code::AR => freeze(sender),
-    }
-}
-
-fn query_none(sender: Sender) -> Acted
-    requires { ⌜ Bounded sender ⌝ }
-    ensures { λ r. ⌜ r ≡ queryNone sender ⌝ }
-{
-    let persisted = sender.persisted;
-    if persisted.delivered + 1 == persisted.first {
-        return go_on(persisted, Event::NoEvent);
-    }
-    freeze(sender)
-}
-
-fn query_number(sender: Sender, e: u64) -> Acted
-    requires { ⌜ Bounded sender ⌝ }
-    ensures { λ r. ⌜ r ≡ queryNumber sender e ⌝ }
-{
-    let persisted = sender.persisted;
-    let next = persisted.delivered + 1;
-    if e == next {
-        return go_on(persisted, Event::NoEvent);
-    }
-    if e != next + 1 {
-        return freeze(sender);
-    }
-    if persisted.delivered < persisted.last {
-        return go_on(deliver(persisted), Event::DeliveredUnknown(next));
-    }
-    freeze(sender)
-}
-
-fn hear_querying(sender: Sender, code: Code, number: SequenceNumber) -> Acted
-    requires { ⌜ Bounded sender ⌝ }
-    ensures { λ r. ⌜ r ≡ hearQuerying sender code number ⌝ }
-{
-    match code {
-        Code::AA => match number {
-            SequenceNumber::MinusOne => query_none(sender),
-            SequenceNumber::Number(e) => query_number(sender, e),
-        },
-        Code::AE => freeze(sender),
-        Code::AR => freeze(sender),
-    }
-}
-
-fn known_number(sender: Sender, code: Code, e: u64) -> Acted
-    requires { ⌜ Bounded sender ⌝ }
-    ensures { λ r. ⌜ r ≡ knownNumber sender code e ⌝ }
-{
-    let persisted = sender.persisted;
-    let next = persisted.delivered + 1;
-    if e == next {
-        return go_on(deliver(persisted), Event::Delivered(next, code));
-    }
-    freeze(sender)
-}
-
-fn reject_number(sender: Sender, e: u64) -> Acted
-    requires { ⌜ Bounded sender ⌝ }
-    ensures { λ r. ⌜ r ≡ rejectNumber sender e ⌝ }
-{
-    let persisted = sender.persisted;
-    let next = persisted.delivered + 1;
-    if e == next + 1 {
-        return go_on(deliver(persisted), Event::DeliveredUnknown(next));
-    }
-    freeze(sender)
-}
-
-fn hear_sending(sender: Sender, code: Code, number: SequenceNumber) -> Acted
-    requires { ⌜ Bounded sender ⌝ }
-    ensures { λ r. ⌜ r ≡ hearSending sender code number ⌝ }
+fn answer_transaction(p: Persisted, code: Code, number: SequenceNumber) -> Acted
+    requires { ⌜ p .delivered ≤ greatestSent ⌝ }
+    ensures { λ r. ⌜ r ≡ answerTransaction p code number ⌝ }
 {
     let SequenceNumber::Number(e) = number else {
-        return freeze(sender);
+        return freeze(p);
     };
-    match code {
-        Code::AA => known_number(sender, Code::AA, e),
-        Code::AE => known_number(sender, Code::AE, e),
-        Code::AR => reject_number(sender, e),
+    let waiting = p.delivered + 1;
+    let Code::AR = code else {
+        if e == waiting {
+            return deliver(p, Event::Delivered(waiting, code));
+        }
+        return freeze(p);
+    };
+    if e == waiting + 1 {
+        return deliver(p, Event::DeliveredUnknown(waiting));
     }
-}
-
-fn hear_with(sender: Sender, code: Code, number: SequenceNumber) -> Acted
-    requires { ⌜ Bounded sender ⌝ }
-    ensures { λ r. ⌜ r ≡ hearWith sender (sender .waiting) code number ⌝ }
-{
-    let waiting = sender.waiting;
-    match waiting {
-        Waiting::Closed => stay(sender, Event::NoEvent),
-        Waiting::Idle => stay(sender, Event::NoEvent),
-        Waiting::Resynchronizing => hear_resynchronizing(sender, code, number),
-        Waiting::Querying => hear_querying(sender, code, number),
-        Waiting::Sending => hear_sending(sender, code, number),
-    }
+    freeze(p)
 }
 
 // An answer to what waits: MSA-1 and MSA-4.
-pub(crate) fn hear(sender: Sender, code: CodeField, number: NumberField) -> Acted
+pub(crate) fn answer(sender: Sender, code: CodeField, number: NumberField) -> Acted
     requires { ⌜ Bounded sender ⌝ }
-    ensures { λ r. ⌜ r ≡ heardOf sender code number ⌝ }
+    ensures { λ r. ⌜ r ≡ answerOf sender code number ⌝ }
 {
+    let p = sender.persisted;
     let CodeField::Known(known) = code else {
-        return freeze(sender);
+        return freeze(p);
     };
-    match number {
-        NumberField::Missing => freeze(sender),
-        NumberField::NotNumber => freeze(sender),
-        NumberField::Present(read) => hear_with(sender, known, read),
+    let NumberField::Present(present) = number else {
+        return freeze(p);
+    };
+    let waiting = sender.waiting;
+    match waiting {
+        Waiting::Closed | Waiting::Idle => act(sender, NumberedMessage::Nothing, Event::NoEvent),
+        Waiting::Resynchronizing => answer_resynchronizing(p, known, present),
+        Waiting::Querying => answer_query(p, known, present),
+        Waiting::Sending => answer_transaction(p, known, present),
     }
 }

@@ -45,6 +45,8 @@ pub struct Sender {
 impl Sender {
     // How often a message is sent again, where the host says nothing else.
     pub const RESENDS: u64 = 3;
+
+    pub const LARGEST_RESENDS: u64 = 99;
 }
 
 // What is made of a first number.
@@ -82,5 +84,6 @@ pub struct Acted {
     pub event: Event,
     // The number of a block that was refused, 9 included.
     pub block: u64,
-    pub forbidden_offset: usize,
+    // Where the act was refused by 3: the offset of the first byte that is not allowed.
+    pub offset: usize,
 }

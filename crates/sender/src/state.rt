@@ -8,46 +8,34 @@ use crate::SenderMade;
 use crate::Waiting;
 use numbers::SequenceNumber;
 ghost use mathlib.Core.Path.{_≡_};
+ghost use mathlib.Core.Bool.{not, _&&_};
 ghost use Prim.Native.Nat.{_≤_};
-ghost use Rattle.sender.specs.Sender.{validNumbers, validPersisted, validSends, validWaiting, validSender, senderOf, waitingMessage, firstSends, acted, begins, stays, refused, noState, closes, isOpen};
-
-fn are_numbers(p: Persisted) -> bool
-    ensures { λ r. ⌜ r ≡ validNumbers p ⌝ }
-{
-    if p.first < 1 {
-        return false;
-    }
-    let first_ok = p.first <= 999999999999998;
-    let delivered_ok = p.first - 1 <= p.delivered;
-    let last_ok = (p.delivered <= p.last) & (p.last <= 999999999999998);
-    first_ok & (delivered_ok & last_ok)
-}
+ghost use Rattle.numbers.specs.Numbers.{greatestExpected};
+ghost use Rattle.sender.specs.Sender.{validPersisted, validWaiting, validSender, closed, senderOf, acted, refused, noState, waitsOf, firstSends, beginsToWait, isOpen, onCircuit};
 
 fn is_persisted(p: Persisted) -> bool
     ensures { λ r. ⌜ r ≡ validPersisted p ⌝ }
 {
-    if !are_numbers(p) {
+    if p.first < 1 {
         return false;
     }
-    p.resynchronized | (p.delivered + 1 == p.first)
+    let before = p.first - 1;
+    let first_ok = p.first <= SequenceNumber::GREATEST_SENT;
+    let last_ok = (p.delivered <= p.last) & (p.last <= SequenceNumber::GREATEST_SENT);
+    first_ok & (before <= p.delivered) & last_ok & (p.resynchronized | (p.delivered == before))
 }
 
-fn are_sends(n: u64) -> bool
-    ensures { λ r. ⌜ r ≡ validSends n ⌝ }
-{
-    (1 <= n) & (n <= 100)
-}
-
-fn is_waiting_state(p: Persisted, waiting: Waiting, n: u64) -> bool
+fn is_waiting(p: Persisted, waiting: Waiting, n: u64) -> bool
     ensures { λ r. ⌜ r ≡ validWaiting p waiting n ⌝ }
 {
     let synchronized = !p.frozen & p.resynchronized;
+    let sent = (1 <= n) & (n <= Sender::LARGEST_RESENDS + 1);
     match waiting {
         Waiting::Closed => n == 0,
         Waiting::Idle => synchronized & ((p.delivered == p.last) & (n == 0)),
-        Waiting::Resynchronizing => (!p.frozen & !p.resynchronized) & are_sends(n),
-        Waiting::Querying => synchronized & are_sends(n),
-        Waiting::Sending => synchronized & ((p.delivered < p.last) & are_sends(n)),
+        Waiting::Resynchronizing => (!p.frozen & !p.resynchronized) & sent,
+        Waiting::Querying => synchronized & sent,
+        Waiting::Sending => synchronized & ((p.delivered < p.last) & sent),
     }
 }
 
@@ -57,7 +45,7 @@ pub(crate) fn is_state(sender: Sender) -> bool
 {
     let persisted = sender.persisted;
     let waiting = sender.waiting;
-    is_persisted(persisted) & is_waiting_state(persisted, waiting, sender.sends)
+    is_persisted(persisted) & is_waiting(persisted, waiting, sender.sends)
 }
 
 // A sender with nothing submitted, or a refusal (1).
@@ -67,7 +55,7 @@ pub fn new_sender(first: u64) -> SenderMade
     if first < 1 {
         return SenderMade::Refused;
     }
-    if 999999999999998 < first {
+    if SequenceNumber::GREATEST_SENT < first {
         return SenderMade::Refused;
     }
     SenderMade::Made(Sender {
@@ -84,80 +72,102 @@ pub fn new_sender(first: u64) -> SenderMade
 }
 
 // The message that waits for its answer.
-pub(crate) fn waiting_message(p: Persisted, waiting: Waiting) -> NumberedMessage
-    requires { ⌜ p .delivered ≤ 999999999999999 ⌝ }
-    ensures { λ r. ⌜ r ≡ waitingMessage p waiting ⌝ }
+pub(crate) fn waiting_message(sender: Sender) -> NumberedMessage
+    requires { ⌜ sender .persisted .delivered ≤ greatestExpected ⌝ }
+    ensures { λ r. ⌜ r ≡ waitsOf sender ⌝ }
 {
+    let p = sender.persisted;
+    let waiting = sender.waiting;
     match waiting {
-        Waiting::Closed => NumberedMessage::Nothing,
-        Waiting::Idle => NumberedMessage::Nothing,
+        Waiting::Closed | Waiting::Idle => NumberedMessage::Nothing,
         Waiting::Resynchronizing => NumberedMessage::Numbered(SequenceNumber::MinusOne),
         Waiting::Querying => NumberedMessage::Numbered(SequenceNumber::Number(0)),
         Waiting::Sending => NumberedMessage::Numbered(SequenceNumber::Number(p.delivered + 1)),
     }
 }
 
-fn first_sends(waiting: Waiting) -> u64
-    ensures { λ r. ⌜ r ≡ firstSends waiting ⌝ }
+fn first_sends(message: NumberedMessage) -> u64
+    ensures { λ r. ⌜ r ≡ firstSends message ⌝ }
 {
-    match waiting {
-        Waiting::Closed => 0,
-        Waiting::Idle => 0,
-        Waiting::Resynchronizing => 1,
-        Waiting::Querying => 1,
-        Waiting::Sending => 1,
+    match message {
+        NumberedMessage::Nothing => 0,
+        NumberedMessage::Numbered(_) => 1,
     }
 }
 
-pub(crate) fn is_open(waiting: Waiting) -> bool
+fn is_open(waiting: Waiting) -> bool
     ensures { λ r. ⌜ r ≡ isOpen waiting ⌝ }
 {
-    match waiting {
-        Waiting::Closed => false,
-        Waiting::Idle => true,
-        Waiting::Resynchronizing => true,
-        Waiting::Querying => true,
-        Waiting::Sending => true,
-    }
+    let Waiting::Closed = waiting else {
+        return true;
+    };
+    false
 }
 
-pub(crate) fn act(sender: Sender, send: NumberedMessage, sends: u64, event: Event) -> Acted
-    ensures { λ r. ⌜ r ≡ acted sender send sends event ⌝ }
+pub(crate) fn is_on_circuit(sender: Sender) -> bool
+    ensures { λ r. ⌜ r ≡ onCircuit sender ⌝ }
+{
+    let waiting = sender.waiting;
+    is_state(sender) & is_open(waiting)
+}
+
+pub(crate) fn may_open(sender: Sender) -> bool
+    ensures { λ r. ⌜ r ≡ (not (isOpen (sender .waiting)) && not (sender .persisted .frozen)) ⌝ }
+{
+    let waiting = sender.waiting;
+    !is_open(waiting) & !sender.persisted.frozen
+}
+
+pub(crate) fn act(sender: Sender, send: NumberedMessage, event: Event) -> Acted
+    ensures { λ r. ⌜ r ≡ acted sender send event ⌝ }
 {
     Acted {
         number: 0,
         sender,
         send,
-        sends,
+        sends: sender.sends,
         event,
         block: 0,
-        forbidden_offset: 0,
+        offset: 0,
     }
 }
 
 // Something begins to wait, and is sent.
 pub(crate) fn begin(p: Persisted, waiting: Waiting, event: Event) -> Acted
-    requires { ⌜ p .delivered ≤ 999999999999999 ⌝ }
-    ensures { λ r. ⌜ r ≡ begins p waiting event ⌝ }
+    requires { ⌜ p .delivered ≤ greatestExpected ⌝ }
+    ensures { λ r. ⌜ r ≡ beginsToWait p waiting event ⌝ }
 {
-    let sends = first_sends(waiting);
-    let next = Sender {
+    let mut next = Sender {
         persisted: p,
         waiting,
-        sends,
+        sends: 0,
     };
-    act(next, waiting_message(p, waiting), sends, event)
+    let message = waiting_message(next);
+    next.sends = first_sends(message);
+    act(next, message, event)
 }
 
-// Nothing is sent.
-pub(crate) fn stay(sender: Sender, event: Event) -> Acted
-    ensures { λ r. ⌜ r ≡ stays sender event ⌝ }
+// The circuit ends.
+pub(crate) fn end_circuit(p: Persisted, event: Event) -> Acted
+    ensures { λ r. ⌜ r ≡ acted (closed p) NumberedMessage.Nothing event ⌝ }
 {
-    act(sender, NumberedMessage::Nothing, sender.sends, event)
+    Acted {
+        number: 0,
+        sender: Sender {
+            persisted: p,
+            waiting: Waiting::Closed,
+            sends: 0,
+        },
+        send: NumberedMessage::Nothing,
+        sends: 0,
+        event,
+        block: 0,
+        offset: 0,
+    }
 }
 
-pub(crate) fn refuse(number: u64, sender: Sender) -> Acted
-    ensures { λ r. ⌜ r ≡ refused number sender ⌝ }
+pub(crate) fn refuse(number: u64, offset: usize, sender: Sender) -> Acted
+    ensures { λ r. ⌜ r ≡ refused number offset sender ⌝ }
 {
     Acted {
         number,
@@ -166,7 +176,7 @@ pub(crate) fn refuse(number: u64, sender: Sender) -> Acted
         sends: sender.sends,
         event: Event::NoEvent,
         block: 0,
-        forbidden_offset: 0,
+        offset,
     }
 }
 
@@ -175,24 +185,12 @@ pub(crate) fn refuse_state(sender: Sender) -> Acted
     ensures { λ r. ⌜ r ≡ noState sender ⌝ }
 {
     Acted {
-        number: 11,
+        number: refusal::STATE,
         sender,
         send: NumberedMessage::Nothing,
         sends: 0,
         event: Event::NoEvent,
         block: 0,
-        forbidden_offset: 0,
+        offset: 0,
     }
-}
-
-// The circuit ends.
-pub(crate) fn close(p: Persisted, sends: u64, event: Event) -> Acted
-    ensures { λ r. ⌜ r ≡ closes p sends event ⌝ }
-{
-    let next = Sender {
-        persisted: p,
-        waiting: Waiting::Closed,
-        sends: 0,
-    };
-    act(next, NumberedMessage::Nothing, sends, event)
 }

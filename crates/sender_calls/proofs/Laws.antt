@@ -1,113 +1,74 @@
--- The ways in which the sender's C functions return.
+-- The ways in which an act on a sender's words returns.
 use mathlib.Core.Path.{_≡_, refl, sym, ap, _∙_}
-use mathlib.Core.List.{List, []}
-use mathlib.Core.Bool.{Bool, true, false, cond, _&&_}
-use Prim.Native.Nat.{ℕ, _≤_, _<_}
+use mathlib.Core.List.{List, [], _∷_, _++_, append-assoc}
+use mathlib.Core.Bool.{Bool, true, false}
+use Prim.Native.Nat.{ℕ, _≤_}
+use native.Mathlib.Omega.{arith}
 use lib.ListN.{length, getD}
-use lib.Dec.{leb, eqb}
-use borrow.Author.Tests.{lt-ltb, le-ltb, le-leb, lt-leb, eq-eqb, ne-eqb}
-use Rattle.lists.specs.Bytes.{over}
-use Rattle.sender.specs.Sender.{freshSender, senderOf, openOf, endedOf, resetOf, timerOf, submitOf}
+use Rattle.lists.specs.Outcome.{need, Outcome, outcome, Called, called}
+use Rattle.lists.proofs.Calls.{state-words, report-words}
+use Rattle.numbers.specs.declared.SequenceNumber.the-variants.{MinusOne, Number}
 use Rattle.sender.specs.declared.Sender.{Sender}
-use Rattle.sender.specs.declared.SenderMade.{SenderMade}
-use Rattle.sender.specs.declared.SenderMade.the-variants.{Made}
+use Rattle.sender.specs.declared.NumberedMessage.{NumberedMessage}
+use Rattle.sender.specs.declared.NumberedMessage.the-variants.{Nothing, Numbered}
+use Rattle.sender.specs.declared.Event.{Event}
+use Rattle.sender.specs.declared.Event.the-variants.{NoEvent, Delivered, DeliveredUnknown, Abandoned, Froze, Dropped}
 use Rattle.sender.specs.declared.Acted.{Acted}
-use Rattle.words.specs.Words.{verdictOf}
-use Rattle.words.specs.declared.VerdictMade.{VerdictMade}
-use Rattle.sender_calls.specs.SenderCalls.{senderWords, goodWords, waitingOf, senderIn, actWords, called, finished, actCall, openCall, endedCall, resetCall, timerCall, blockWith, blockCall, submitCall, freshWith, freshCall}
+use Rattle.sender_calls.specs.SenderCalls.{senderIn, sendWords, eventWords, actWords, actWritten, enoughWords, actOn, senderCall}
+use Rattle.sender_calls.specs.Internal.{foundAs, foundIn}
+use Rattle.sender_calls.specs.declared.Decoded.{Decoded}
+use Rattle.sender_calls.specs.declared.Decoded.the-variants.{Unknown, Known}
+use Rattle.sender_calls.specs.declared.Found.{Found}
+use Rattle.sender_calls.specs.declared.Found.the-variants.{Refused, Known as ASender}
 
-pub no-sender : (ws : List ℕ) → goodWords ws ≡ false → freshSender 0 ≡ senderIn ws
-unfolding senderIn
-no-sender ws h = sym (rw h)
-
-pub a-sender : (ws : List ℕ) → goodWords ws ≡ true
-    → _≡_ {A = Sender}
-    (record {
-      persisted = record { first = getD ws 0 0; delivered = getD ws 1 0; last = getD ws 2 0; resynchronized = eqb (getD ws 3 0) 1; frozen = eqb (getD ws 4 0) 1 };
-      waiting = waitingOf (getD ws 5 0);
-      sends = getD ws 6 0;
-    })
-    (senderIn ws)
-unfolding senderIn
-a-sender ws h = sym (rw h)
-
-module _ (st p : List ℕ) (a : Acted) where
-  pub finish-done : a .number ≡ 0 → called 0 (over st (senderWords (a .sender))) (over p (actWords a)) ≡ finished st p a
-  finish-done h =
-      sym (ap (λ (b : Bool). cond b (called 0 (over st (senderWords (a .sender))) (over p (actWords a))) (called (a .number) st (over p (actWords a)))) (eq-eqb (a .number) 0 h))
-
-  pub finish-refused : (a .number ≡ 0 → ⊥) → called (a .number) st (over p (actWords a)) ≡ finished st p a
-  finish-refused h =
-      sym (ap (λ (b : Bool). cond b (called 0 (over st (senderWords (a .sender))) (over p (actWords a))) (called (a .number) st (over p (actWords a)))) (ne-eqb (a .number) 0 h))
+-- what a call makes of what it found in its words
+abbrev after : (Sender → Acted) → List ℕ → List ℕ → Found → Called
+after f st q (Refused n) = called n st [] q
+after f st q (ASender s) = actWritten st q (f s)
 
 module _ (f : Sender → Acted) (st p : List ℕ) where
-  pub few-state : length st < 7 → called 2 st p ≡ actCall f st p
-  few-state h = sym (rw (lt-ltb (length st) 7 h))
+  tests : (t : Bool) (d : Decoded) → let o = need t (outcome (Refused 2) p) (foundAs d p) in after f st (o .buffer) (o .answer) ≡ need t (called 2 st [] p) (actOn d f st p)
+  tests false d = refl
+  tests true Unknown = refl
+  tests true (Known s) = refl
 
-  pub few-report : 7 ≤ length st → length p < 8 → called 2 st p ≡ actCall f st p
-  few-report h l = sym (rw (le-ltb (length st) 7 h, lt-ltb (length p) 8 l))
+  found-is : after f st (foundIn st p .buffer) (foundIn st p .answer) ≡ senderCall f st p
+  found-is = tests (enoughWords (length st) (length p)) (senderIn st)
 
-  pub act-done : 7 ≤ length st → 8 ≤ length p → finished st p (f (senderIn st)) ≡ actCall f st p
-  act-done h l = sym (rw (le-ltb (length st) 7 h, le-ltb (length p) 8 l))
+  module _ {x y : Found} {q : List ℕ} (e : outcome x q ≡ foundIn st p) (g : x ≡ y) where
+    pub found : after f st q y ≡ senderCall f st p
+    found = ap (after f st q) (sym g) ∙ ap (λ (o : Outcome Found). after f st (o .buffer) (o .answer)) e ∙ found-is
 
--- an act on the sender that was read
-pub finished-as : (st p : List ℕ) (a b : Acted) → a ≡ b → finished st p a ≡ finished st p b
-finished-as st p a b e = ap (λ (z : Acted). finished st p z) e
+pub found-words : (st p q : List ℕ) {x : Found} (s : Sender) → outcome x q ≡ foundIn st p → x ≡ ASender s → (7 ≤ length st) × (8 ≤ length q)
+found-words st p q {x} s e g = go (enoughWords (length st) (length p)) refl (senderIn st) e
+  where
+    other : {P : Type 0} (n : ℕ) (r : List ℕ) → outcome x q ≡ outcome (Refused n) r → P
+    other n r h = let a = ap (λ (o : Outcome Found). o .answer) h in let z : _≡_ {A = ℕ} 0 1 = cc in absurd (omega arith)
 
-module _ (st p : List ℕ) where
-  pub open-is : actCall openOf st p ≡ openCall st p
-  unfolding openCall
-  open-is = refl
+    go : (t : Bool) → enoughWords (length st) (length p) ≡ t → (d : Decoded) → outcome x q ≡ need t (outcome (Refused 2) p) (foundAs d p) → (7 ≤ length st) × (8 ≤ length q)
+    go false h d k = other 2 p k
+    go true h Unknown k = other 11 _ k
+    go true h (Known u) k = (state-words 7 8 st p h, rw (ap (λ (o : Outcome Found). o .buffer) k) (report-words 7 8 st p h))
 
-  pub ended-is : actCall endedOf st p ≡ endedCall st p
-  unfolding endedCall
-  ended-is = refl
+-- the words of a message to send, and those of an event
+send-both : (m : NumberedMessage) (ws : List ℕ) → getD (sendWords m) 0 0 ∷ getD (sendWords m) 1 0 ∷ ws ≡ sendWords m ++ ws
+send-both Nothing ws = refl
+send-both (Numbered MinusOne) ws = refl
+send-both (Numbered (Number n)) ws = refl
 
-  pub reset-is : actCall resetOf st p ≡ resetCall st p
-  unfolding resetCall
-  reset-is = refl
+event-all : (e : Event) (ws : List ℕ) → getD (eventWords e) 0 0 ∷ getD (eventWords e) 1 0 ∷ getD (eventWords e) 2 0 ∷ ws ≡ eventWords e ++ ws
+event-all NoEvent ws = refl
+event-all (Delivered n c) ws = refl
+event-all (DeliveredUnknown n) ws = refl
+event-all Abandoned ws = refl
+event-all Froze ws = refl
+event-all Dropped ws = refl
 
-  pub timer-over : (r : ℕ) → 99 < r → called 1 st p ≡ timerCall r st p
-  unfolding timerCall
-  timer-over r h = sym (ap (λ (b : Bool). cond b (actCall (timerOf r) st p) (called 1 st p)) (lt-leb r 99 h))
-
-  pub timer-is : (r : ℕ) → r ≤ 99 → actCall (timerOf r) st p ≡ timerCall r st p
-  unfolding timerCall
-  timer-is r h = sym (ap (λ (b : Bool). cond b (actCall (timerOf r) st p) (called 1 st p)) (le-leb r 99 h))
-
-  module _ (d : List ℕ) where
-    pub block-over : (r n t : ℕ) → 99 < r → called 1 st p ≡ blockCall r n t d st p
-    unfolding blockCall
-    block-over r n t h = sym (ap (λ (b : Bool). cond b (blockWith r d st p (verdictOf n t)) (called 1 st p)) (lt-leb r 99 h))
-
-    pub block-is : (r n t : ℕ) (v : VerdictMade) → r ≤ 99 → verdictOf n t ≡ v → blockWith r d st p v ≡ blockCall r n t d st p
-    unfolding blockCall
-    block-is r n t v h e =
-        ap (λ (z : VerdictMade). blockWith r d st p z) (sym e)
-        ∙ sym (ap (λ (b : Bool). cond b (blockWith r d st p (verdictOf n t)) (called 1 st p)) (le-leb r 99 h))
-
-    pub submit-low : (m : ℕ) → m < 128 → called 1 st p ≡ submitCall m d st p
-    unfolding submitCall
-    submit-low m h = sym (ap (λ (b : Bool). cond (b && leb m 99994) (actCall (λ (s : Sender). submitOf m s d) st p) (called 1 st p)) (lt-leb 128 m h))
-
-    pub submit-high : (m : ℕ) → 128 ≤ m → 99994 < m → called 1 st p ≡ submitCall m d st p
-    unfolding submitCall
-    submit-high m h l =
-        sym (ap (λ (b : Bool). cond (b && leb m 99994) (actCall (λ (s : Sender). submitOf m s d) st p) (called 1 st p)) (le-leb 128 m h)
-        ∙ ap (λ (b : Bool). cond b (actCall (λ (s : Sender). submitOf m s d) st p) (called 1 st p)) (lt-leb m 99994 l))
-
-    pub submit-is : (m : ℕ) → 128 ≤ m → m ≤ 99994 → actCall (λ (s : Sender). submitOf m s d) st p ≡ submitCall m d st p
-    unfolding submitCall
-    submit-is m h l =
-        sym (ap (λ (b : Bool). cond (b && leb m 99994) (actCall (λ (s : Sender). submitOf m s d) st p) (called 1 st p)) (le-leb 128 m h)
-        ∙ ap (λ (b : Bool). cond b (actCall (λ (s : Sender). submitOf m s d) st p) (called 1 st p)) (le-leb m 99994 l))
-
-pub fresh-as : (st : List ℕ) (f : ℕ) (v : SenderMade) → senderOf f ≡ v → freshWith st v ≡ freshCall f st
-unfolding freshCall
-fresh-as st f v e = ap (λ (z : SenderMade). freshWith st z) (sym e)
-
-pub fresh-few : (st : List ℕ) (s : Sender) → length st < 7 → called 2 st [] ≡ freshWith st (Made s)
-fresh-few st s h = sym (rw (lt-ltb (length st) 7 h))
-
-pub fresh-done : (st : List ℕ) (s : Sender) → 7 ≤ length st → called 0 (over st (senderWords s)) [] ≡ freshWith st (Made s)
-fresh-done st s h = sym (rw (le-ltb (length st) 7 h))
+pub act-words : (a : Acted)
+    → getD (sendWords (a .send)) 0 0 ∷ getD (sendWords (a .send)) 1 0 ∷ a .sends
+    ∷ getD (eventWords (a .event)) 0 0 ∷ getD (eventWords (a .event)) 1 0 ∷ getD (eventWords (a .event)) 2 0 ∷ a .block ∷ a .offset ∷ []
+    ≡ actWords a
+act-words a =
+    let rest = a .block ∷ a .offset ∷ [] in
+    send-both (a .send) _ ∙ ap (λ (z : List ℕ). sendWords (a .send) ++ (a .sends ∷ z)) (event-all (a .event) rest)
+    ∙ sym (append-assoc (sendWords (a .send)) (a .sends ∷ eventWords (a .event)) rest)

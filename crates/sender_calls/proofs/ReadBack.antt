@@ -1,24 +1,25 @@
 -- The words stand for the sender: what is written is read back, and the persisted words are what a crash keeps.
 use mathlib.Core.Path.{_≡_, refl, sym, ap, _∙_}
 use mathlib.Core.List.{List, [], _∷_, _++_}
-use mathlib.Core.Bool.{Bool, true, false, cond}
+use mathlib.Core.Bool.{Bool, true, false}
 use Prim.Native.Nat.{ℕ, _≤_}
 use native.Mathlib.Omega.{arith}
 use lib.ListN.{length, drop}
 use lib.Dec.{eqb, leb}
 use borrow.Author.Tests.{le-leb, eqb-false}
 use Rattle.lists.specs.Bytes.{over}
+use Rattle.lists.specs.Outcome.{Called, called}
+use Rattle.lists.proofs.Tests.{cond-ind}
+use Rattle.lists.proofs.Calls.{met, over-is}
+use Rattle.sender.specs.Sender.{closed}
 use Rattle.sender.specs.declared.Persisted.{Persisted}
 use Rattle.sender.specs.declared.Waiting.{Waiting}
 use Rattle.sender.specs.declared.Waiting.the-variants.{Closed, Idle, Resynchronizing, Querying, Sending}
 use Rattle.sender.specs.declared.Sender.{Sender}
 use Rattle.sender.specs.declared.Acted.{Acted}
-use Rattle.sender_calls.specs.SenderCalls.{flagWord, waitingWord, waitingOf, persistedWords, circuitWords, senderWords, senderIn, actWords, Called, called, finished, actCall}
-use Rattle.sender_calls.proofs.Laws.{act-done}
-
-over-is : (l ws : List ℕ) → length ws ≤ length l → over l ws ≡ ws ++ drop (length ws) l
-unfolding over
-over-is l ws h = rw (le-leb (length ws) (length l) h)
+use Rattle.sender_calls.specs.SenderCalls.{flagWord, waitingWord, waitingOf, persistedWords, senderWords, senderIn, actWritten, enoughWords, actOn, senderCall}
+use Rattle.sender_calls.specs.declared.Decoded.{Decoded}
+use Rattle.sender_calls.specs.declared.Decoded.the-variants.{Unknown, Known}
 
 flag-back : (b : Bool) → eqb (flagWord b) 1 ≡ b
 flag-back true = refl
@@ -43,32 +44,40 @@ good-waiting Querying = refl
 good-waiting Sending = refl
 
 -- whatever stands behind the seven words
-words-read : (p : Persisted) (w : Waiting) (n : ℕ) (rest : List ℕ)
-    → senderIn (persistedWords p ++ circuitWords w n ++ rest) ≡ record { persisted = p; waiting = w; sends = n }
+words-read : (s : Sender) (rest : List ℕ) → senderIn (senderWords s ++ rest) ≡ Known s
 unfolding senderIn
-words-read p w n rest =
+words-read s rest =
+    let p = s .persisted in
+    let w = s .waiting in
     rw (good-flag (p .resynchronized), good-flag (p .frozen), good-waiting w, flag-back (p .resynchronized), flag-back (p .frozen), waiting-back w)
 
 module _ (st : List ℕ) (h : 7 ≤ length st) where
-  pub words-back : (s : Sender) → senderIn (over st (senderWords s)) ≡ s
-  words-back s = ap senderIn (over-is st (senderWords s) h) ∙ words-read (s .persisted) (s .waiting) (s .sends) (drop 7 st)
+  pub words-back : (s : Sender) → senderIn (over st (senderWords s)) ≡ Known s
+  words-back s = ap senderIn (over-is st (senderWords s) h) ∙ words-read s (drop 7 st)
 
   -- after a crash the driver restores the persisted words, and sets the others to 0
-  pub crash-back : (p : Persisted) → senderIn (over st (persistedWords p ++ (0 ∷ 0 ∷ []))) ≡ record { persisted = p; waiting = Closed; sends = 0 }
-  crash-back p = ap senderIn (over-is st (persistedWords p ++ (0 ∷ 0 ∷ [])) h) ∙ words-read p Closed 0 (drop 7 st)
+  pub crash-back : (p : Persisted) → senderIn (over st (persistedWords p ++ (0 ∷ 0 ∷ []))) ≡ Known (closed p)
+  crash-back p = words-back (closed p)
 
 -- a call makes of the words what the act makes of the sender
 module _ (f : Sender → Acted) (same : (s : Sender) → leb 1 (f s .number) ≡ true → f s .sender ≡ s) (st p : List ℕ) (h : 7 ≤ length st) (l : 8 ≤ length p) where
-  finished-state : (a : Acted) (b : Bool) → eqb (a .number) 0 ≡ b → finished st p a .state ≡ cond b (over st (senderWords (a .sender))) st
-  finished-state a true e = ap (λ (z : Bool). cond z (called 0 (over st (senderWords (a .sender))) (over p (actWords a))) (called (a .number) st (over p (actWords a))) .state) e
-  finished-state a false e = ap (λ (z : Bool). cond z (called 0 (over st (senderWords (a .sender))) (over p (actWords a))) (called (a .number) st (over p (actWords a))) .state) e
-
   some-number : (n : ℕ) → eqb n 0 ≡ false → leb 1 n ≡ true
   some-number n e = le-leb 1 n (let z : n ≡ 0 → ⊥ = eqb-false n 0 e in omega arith)
 
-  acts : (b : Bool) → eqb (f (senderIn st) .number) 0 ≡ b → senderIn (finished st p (f (senderIn st)) .state) ≡ f (senderIn st) .sender
-  acts true e = ap senderIn (finished-state (f (senderIn st)) true e) ∙ words-back st h (f (senderIn st) .sender)
-  acts false e = ap senderIn (finished-state (f (senderIn st)) false e) ∙ sym (same (senderIn st) (some-number (f (senderIn st) .number) e))
+  read-as : (d : Decoded) → senderIn st ≡ d → actOn d f st p ≡ senderCall f st p
+  read-as d e =
+      ap (λ (z : Decoded). actOn z f st p) (sym e)
+      ∙ met (enoughWords (length st) (length p)) (called 2 st [] p) (actOn (senderIn st) f st p) (rw (le-leb 7 (length st) h, le-leb 8 (length p) l))
 
-  pub call-acts : senderIn (actCall f st p .state) ≡ f (senderIn st) .sender
-  call-acts = ap (λ (c : Called). senderIn (c .state)) (sym (act-done f st p h l)) ∙ acts (eqb (f (senderIn st) .number) 0) refl
+  written : (s : Sender) → senderIn st ≡ Known s → senderIn (actWritten st p (f s) .state) ≡ Known (f s .sender)
+  written s e =
+      cond-ind (λ (c : Called). senderIn (c .state) ≡ Known (f s .sender)) (eqb (f s .number) 0) _ _
+      (λ z. words-back st h (f s .sender))
+      (λ z. e ∙ ap Known (sym (same s (some-number (f s .number) z))))
+
+  pub call-acts : (s : Sender) → senderIn st ≡ Known s → senderIn (senderCall f st p .state) ≡ Known (f s .sender)
+  call-acts s e = ap (λ (c : Called). senderIn (c .state)) (sym (read-as (Known s) e)) ∙ written s e
+
+  -- and words that encode no sender stay as they are
+  pub call-keeps : senderIn st ≡ Unknown → senderCall f st p .state ≡ st
+  call-keeps e = ap (λ (c : Called). c .state) (sym (read-as Unknown e))

@@ -1,1 +1,2 @@
 pub mod SenderCalls
+pub mod Internal

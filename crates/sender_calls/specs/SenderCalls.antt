@@ -3,11 +3,14 @@ use mathlib.Core.List.{List, [], _∷_, _++_}
 use mathlib.Core.Bool.{Bool, true, false, cond, _&&_}
 use Prim.Native.Nat.{ℕ}
 use lib.ListN.{length, getD}
-use lib.Dec.{ltb, leb, eqb}
+use lib.Dec.{leb, eqb}
 use Rattle.lists.specs.Bytes.{over}
+use Rattle.lists.specs.Outcome.{need, Called, called}
+use Rattle.settings.specs.Settings.{limitValid, enoughForLink}
+use Rattle.numbers.specs.declared.SequenceNumber.the-variants.{MinusOne, Number}
 use Rattle.header.specs.declared.Code.{Code}
 use Rattle.header.specs.declared.Code.the-variants.{AA, AE, AR}
-use Rattle.sender.specs.Sender.{freshSender, senderOf, openOf, endedOf, resetOf, timerOf, blockReadOf, submitOf, validResends, validLimit}
+use Rattle.sender.specs.Sender.{senderOf, openOf, endedOf, resetOf, timerOf, blockReadOf, submitOf, validResends}
 use Rattle.sender.specs.declared.Persisted.{Persisted}
 use Rattle.sender.specs.declared.Waiting.{Waiting}
 use Rattle.sender.specs.declared.Waiting.the-variants.{Closed, Idle, Resynchronizing, Querying, Sending}
@@ -16,13 +19,14 @@ use Rattle.sender.specs.declared.SenderMade.{SenderMade}
 use Rattle.sender.specs.declared.SenderMade.the-variants.{Refused, Made}
 use Rattle.sender.specs.declared.NumberedMessage.{NumberedMessage}
 use Rattle.sender.specs.declared.NumberedMessage.the-variants.{Nothing, Numbered}
-use Rattle.numbers.specs.declared.SequenceNumber.the-variants.{MinusOne, Number}
 use Rattle.sender.specs.declared.Event.{Event}
 use Rattle.sender.specs.declared.Event.the-variants.{NoEvent, Delivered, DeliveredUnknown, Abandoned, Froze, Dropped}
 use Rattle.sender.specs.declared.Acted.{Acted}
-use Rattle.words.specs.Words.{verdictOf}
+use Rattle.words.specs.Words.{verdictFrom}
 use Rattle.words.specs.declared.VerdictMade.{VerdictMade}
-use Rattle.words.specs.declared.VerdictMade.the-variants.{NoVerdict, AVerdict}
+use Rattle.words.specs.declared.VerdictMade.the-variants.{Unknown as NoVerdict, Known as AVerdict}
+use Rattle.sender_calls.specs.declared.Decoded.{Decoded}
+use Rattle.sender_calls.specs.declared.Decoded.the-variants.{Unknown, Known}
 
 abbrev pub flagWord : Bool → ℕ
 flagWord true = 1
@@ -44,115 +48,93 @@ abbrev pub persistedWords : Persisted → List ℕ
 persistedWords p = p .first ∷ p .delivered ∷ p .last ∷ flagWord (p .resynchronized) ∷ flagWord (p .frozen) ∷ []
 
 -- GMV_SENDER_WAITING, _SENDS: what a crash loses
-abbrev pub circuitWords : Waiting → ℕ → List ℕ
-circuitWords w n = waitingWord w ∷ n ∷ []
-
 abbrev pub senderWords : Sender → List ℕ
-senderWords s = persistedWords (s .persisted) ++ circuitWords (s .waiting) (s .sends)
+senderWords s = persistedWords (s .persisted) ++ waitingWord (s .waiting) ∷ s .sends ∷ []
 
--- every content of the words is an input: flags over 1 or a waiting over 4 are no sender (a first number of 0 never is one)
-abbrev pub goodWords : List ℕ → Bool
-goodWords ws = leb (getD ws 3 0) 1 && (leb (getD ws 4 0) 1 && leb (getD ws 5 0) 4)
-
-unfoldable pub senderIn : List ℕ → Sender
+-- every content of the words is an input: flags over 1 or a waiting over 4 encode no sender
+unfoldable pub senderIn : List ℕ → Decoded
 senderIn ws =
-    cond (goodWords ws)
-    (record {
+    need (leb (getD ws 3 0) 1 && (leb (getD ws 4 0) 1 && leb (getD ws 5 0) 4)) Unknown
+    (Known (record {
       persisted = record { first = getD ws 0 0; delivered = getD ws 1 0; last = getD ws 2 0; resynchronized = eqb (getD ws 3 0) 1; frozen = eqb (getD ws 4 0) 1 };
       waiting = waitingOf (getD ws 5 0);
       sends = getD ws 6 0;
-    })
-    (freshSender 0)
+    }))
 
 -- GMV_ACT_SEND, GMV_ACT_SEND_NUMBER
-abbrev pub sendWord : NumberedMessage → ℕ
-sendWord Nothing = 0
-sendWord (Numbered MinusOne) = 1
-sendWord (Numbered (Number n)) = cond (eqb n 0) 2 3
+abbrev pub sendWords : NumberedMessage → List ℕ
+sendWords Nothing = 0 ∷ 0 ∷ []
+sendWords (Numbered MinusOne) = 1 ∷ 0 ∷ []
+sendWords (Numbered (Number n)) = cond (eqb n 0) 2 3 ∷ n ∷ []
 
-abbrev pub sendNumber : NumberedMessage → ℕ
-sendNumber Nothing = 0
-sendNumber (Numbered MinusOne) = 0
-sendNumber (Numbered (Number n)) = n
-
--- GMV_ACT_EVENT, GMV_ACT_DELIVERED, GMV_ACT_CODE
-abbrev pub eventWord : Event → ℕ
-eventWord NoEvent = 0
-eventWord (Delivered n c) = 1
-eventWord (DeliveredUnknown n) = 1
-eventWord Abandoned = 2
-eventWord Froze = 3
-eventWord Dropped = 4
-
-abbrev pub deliveredWord : Event → ℕ
-deliveredWord NoEvent = 0
-deliveredWord (Delivered n c) = n
-deliveredWord (DeliveredUnknown n) = n
-deliveredWord Abandoned = 0
-deliveredWord Froze = 0
-deliveredWord Dropped = 0
-
+-- GMV_CODE_AA, _AE, _AR
 abbrev pub codeNumber : Code → ℕ
 codeNumber AA = 1
 codeNumber AE = 2
 codeNumber AR = 3
 
-abbrev pub codeWord : Event → ℕ
-codeWord NoEvent = 0
-codeWord (Delivered n c) = codeNumber c
-codeWord (DeliveredUnknown n) = 0
-codeWord Abandoned = 0
-codeWord Froze = 0
-codeWord Dropped = 0
+-- GMV_ACT_EVENT, GMV_ACT_DELIVERED, GMV_ACT_CODE
+abbrev pub eventWords : Event → List ℕ
+eventWords NoEvent = 0 ∷ 0 ∷ 0 ∷ []
+eventWords (Delivered n c) = 1 ∷ n ∷ codeNumber c ∷ []
+eventWords (DeliveredUnknown n) = 1 ∷ n ∷ 0 ∷ []
+eventWords Abandoned = 2 ∷ 0 ∷ 0 ∷ []
+eventWords Froze = 3 ∷ 0 ∷ 0 ∷ []
+eventWords Dropped = 4 ∷ 0 ∷ 0 ∷ []
 
+-- GMV_ACT_SENDS, GMV_ACT_BLOCK, GMV_ACT_FORBIDDEN_OFFSET
 abbrev pub actWords : Acted → List ℕ
-actWords a =
-    sendWord (a .send) ∷ sendNumber (a .send) ∷ a .sends ∷ eventWord (a .event) ∷ deliveredWord (a .event) ∷ codeWord (a .event) ∷ a .block
-    ∷ a .«forbidden_offset» ∷ []
+actWords a = sendWords (a .send) ++ a .sends ∷ eventWords (a .event) ++ a .block ∷ a .offset ∷ []
 
--- the number, and what is left in the state and the report
-pub record Called : Type 0 where
-  pub number : ℕ
-  pub state : List ℕ
-  pub report : List ℕ
+-- a refused act leaves the state as it is; its report is written
+abbrev pub actWritten : List ℕ → List ℕ → Acted → Called
+actWritten st p a =
+    need (eqb (a .number) 0) (called (a .number) st [] (over p (actWords a)))
+    (called 0 (over st (senderWords (a .sender))) [] (over p (actWords a)))
 
-abbrev pub called : ℕ → List ℕ → List ℕ → Called
-called n st p = record { number = n; state = st; report = p }
+-- GMV_SENDER_WORDS, GMV_ACT_WORDS
+abbrev pub enoughWords : ℕ → ℕ → Bool
+enoughWords states reports = leb 7 states && leb 8 reports
 
--- a refused act leaves the state as it is. Its report is written, but with 1 and 2
-abbrev pub finished : List ℕ → List ℕ → Acted → Called
-finished st p a = cond (eqb (a .number) 0) (called 0 (over st (senderWords (a .sender))) (over p (actWords a))) (called (a .number) st (over p (actWords a)))
+-- an act on the sender that the words encode: 2, then 11 for words that encode none, with a report of zeros, then the act
+abbrev pub actOn : Decoded → (Sender → Acted) → List ℕ → List ℕ → Called
+actOn Unknown f st p = called 11 st [] (over p (0 ∷ 0 ∷ 0 ∷ 0 ∷ 0 ∷ 0 ∷ 0 ∷ 0 ∷ []))
+actOn (Known s) f st p = actWritten st p (f s)
 
-abbrev pub actCall : (Sender → Acted) → List ℕ → List ℕ → Called
-actCall f st p = cond (ltb (length st) 7) (called 2 st p) (cond (ltb (length p) 8) (called 2 st p) (finished st p (f (senderIn st))))
+abbrev pub senderCall : (Sender → Acted) → List ℕ → List ℕ → Called
+senderCall f st p = need (enoughWords (length st) (length p)) (called 2 st [] p) (actOn (senderIn st) f st p)
 
+-- gmv_sender_open, gmv_sender_ended, gmv_sender_reset
 unfoldable pub openCall : List ℕ → List ℕ → Called
-openCall st p = actCall openOf st p
+openCall st p = senderCall openOf st p
 
 unfoldable pub endedCall : List ℕ → List ℕ → Called
-endedCall st p = actCall endedOf st p
+endedCall st p = senderCall endedOf st p
 
 unfoldable pub resetCall : List ℕ → List ℕ → Called
-resetCall st p = actCall resetOf st p
+resetCall st p = senderCall resetOf st p
 
--- 1 comes first
+-- gmv_sender_timer: 1 comes first
 unfoldable pub timerCall : ℕ → List ℕ → List ℕ → Called
-timerCall r st p = cond (validResends r) (actCall (timerOf r) st p) (called 1 st p)
+timerCall r st p = need (validResends r) (called 1 st [] p) (senderCall (timerOf r) st p)
 
-abbrev pub blockWith : ℕ → List ℕ → List ℕ → List ℕ → VerdictMade → Called
-blockWith r d st p NoVerdict = called 1 st p
-blockWith r d st p (AVerdict v) = actCall (λ (s : Sender). blockReadOf r s v d) st p
+-- gmv_sender_block
+abbrev pub blockWith : VerdictMade → ℕ → List ℕ → List ℕ → List ℕ → Called
+blockWith NoVerdict r d st p = called 1 st [] p
+blockWith (AVerdict v) r d st p = senderCall (λ (s : Sender). blockReadOf r s v d) st p
 
 unfoldable pub blockCall : ℕ → ℕ → ℕ → List ℕ → List ℕ → List ℕ → Called
-blockCall r n t d st p = cond (validResends r) (blockWith r d st p (verdictOf n t)) (called 1 st p)
+blockCall r n t d st p = need (validResends r) (called 1 st [] p) (blockWith (verdictFrom n t) r d st p)
 
+-- gmv_sender_submit
 unfoldable pub submitCall : ℕ → List ℕ → List ℕ → List ℕ → Called
-submitCall limit d st p = cond (validLimit limit) (actCall (λ (s : Sender). submitOf limit s d) st p) (called 1 st p)
+submitCall limit d st p =
+    need (limitValid limit && enoughForLink limit) (called 1 st [] p) (senderCall (λ (s : Sender). submitOf limit s d) st p)
 
 -- gmv_sender_fresh
-abbrev pub freshWith : List ℕ → SenderMade → Called
-freshWith st Refused = called 1 st []
-freshWith st (Made s) = cond (ltb (length st) 7) (called 2 st []) (called 0 (over st (senderWords s)) [])
+abbrev pub freshWith : SenderMade → List ℕ → Called
+freshWith Refused st = called 1 st [] []
+freshWith (Made s) st = need (leb 7 (length st)) (called 2 st [] []) (called 0 (over st (senderWords s)) [] [])
 
 unfoldable pub freshCall : ℕ → List ℕ → Called
-freshCall f st = freshWith st (senderOf f)
+freshCall f st = freshWith (senderOf f) st

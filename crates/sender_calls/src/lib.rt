@@ -11,3 +11,16 @@ pub use acts::opened_words;
 pub use acts::reset_words;
 pub use acts::submitted_words;
 pub use acts::timer_words;
+use sender::Sender;
+
+// What a sender's words encode.
+pub enum Decoded {
+    Unknown,
+    Known(Sender),
+}
+
+// What an act finds in the words: a sender, or why it is refused.
+enum Found {
+    Refused(u64),
+    Known(Sender),
+}

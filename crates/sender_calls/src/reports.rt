@@ -5,13 +5,14 @@ use sender::Acted;
 use sender::Event;
 use sender::NumberedMessage;
 ghost use mathlib.Core.Path.{_≡_};
+ghost use mathlib.Core.List.{[], _∷_};
 ghost use Prim.Native.Nat.{_≤_};
-ghost use lib.ListN.{length};
+ghost use lib.ListN.{length, getD};
 ghost use Rattle.lists.specs.Bytes.{over};
-ghost use Rattle.sender_calls.specs.SenderCalls.{sendWord, sendNumber, eventWord, deliveredWord, codeNumber, codeWord, actWords};
+ghost use Rattle.sender_calls.specs.SenderCalls.{sendWords, eventWords, actWords};
 
 fn send_word(send: NumberedMessage) -> u64
-    ensures { λ r. ⌜ r ≡ sendWord send ⌝ }
+    ensures { λ r. ⌜ r ≡ getD (sendWords send) 0 0 ⌝ }
 {
     let NumberedMessage::Numbered(number) = send else {
         return 0;
@@ -26,7 +27,7 @@ fn send_word(send: NumberedMessage) -> u64
 }
 
 fn send_number(send: NumberedMessage) -> u64
-    ensures { λ r. ⌜ r ≡ sendNumber send ⌝ }
+    ensures { λ r. ⌜ r ≡ getD (sendWords send) 1 0 ⌝ }
 {
     let NumberedMessage::Numbered(number) = send else {
         return 0;
@@ -38,7 +39,7 @@ fn send_number(send: NumberedMessage) -> u64
 }
 
 fn event_word(event: Event) -> u64
-    ensures { λ r. ⌜ r ≡ eventWord event ⌝ }
+    ensures { λ r. ⌜ r ≡ getD (eventWords event) 0 0 ⌝ }
 {
     match event {
         Event::NoEvent => 0,
@@ -51,7 +52,7 @@ fn event_word(event: Event) -> u64
 }
 
 fn delivered_word(event: Event) -> u64
-    ensures { λ r. ⌜ r ≡ deliveredWord event ⌝ }
+    ensures { λ r. ⌜ r ≡ getD (eventWords event) 1 0 ⌝ }
 {
     match event {
         Event::NoEvent => 0,
@@ -63,22 +64,16 @@ fn delivered_word(event: Event) -> u64
     }
 }
 
-fn code_number(code: Code) -> u64
-    ensures { λ r. ⌜ r ≡ codeNumber code ⌝ }
-{
-    match code {
-        Code::AA => 1,
-        Code::AE => 2,
-        Code::AR => 3,
-    }
-}
-
 fn code_word(event: Event) -> u64
-    ensures { λ r. ⌜ r ≡ codeWord event ⌝ }
+    ensures { λ r. ⌜ r ≡ getD (eventWords event) 2 0 ⌝ }
 {
     match event {
         Event::NoEvent => 0,
-        Event::Delivered(_, code) => code_number(code),
+        Event::Delivered(_, code) => match code {
+            Code::AA => 1,
+            Code::AE => 2,
+            Code::AR => 3,
+        },
         Event::DeliveredUnknown(_) => 0,
         Event::Abandoned => 0,
         Event::Froze => 0,
@@ -87,7 +82,7 @@ fn code_word(event: Event) -> u64
 }
 
 // Writes over the first eight words.
-pub(crate) fn write_act(words: &mut [u64], acted: Acted)
+pub(crate) fn write_report(words: &mut [u64], acted: Acted)
     requires { ⌜ 8 ≤ length (now words) ⌝ }
     ensures { λ r. ⌜ now (words .exit) ≡ over (now (words .entry)) (actWords acted) ⌝ }
 {
@@ -100,5 +95,20 @@ pub(crate) fn write_act(words: &mut [u64], acted: Acted)
     words[4] = delivered_word(event);
     words[5] = code_word(event);
     words[6] = acted.block;
-    words[7] = acted.forbidden_offset as u64;
+    words[7] = acted.offset as u64;
+}
+
+// Writes zeros over the first eight words: nothing was done.
+pub(crate) fn clear_report(words: &mut [u64])
+    requires { ⌜ 8 ≤ length (now words) ⌝ }
+    ensures { λ r. ⌜ now (words .exit) ≡ over (now (words .entry)) (0 ∷ 0 ∷ 0 ∷ 0 ∷ 0 ∷ 0 ∷ 0 ∷ 0 ∷ []) ⌝ }
+{
+    words[0] = 0;
+    words[1] = 0;
+    words[2] = 0;
+    words[3] = 0;
+    words[4] = 0;
+    words[5] = 0;
+    words[6] = 0;
+    words[7] = 0;
 }

@@ -1,4 +1,5 @@
 // A sender's state as words.
+use crate::Decoded;
 use sender::Persisted;
 use sender::Sender;
 use sender::Waiting;
@@ -6,7 +7,7 @@ ghost use mathlib.Core.Path.{_≡_};
 ghost use Prim.Native.Nat.{_≤_};
 ghost use lib.ListN.{length};
 ghost use Rattle.lists.specs.Bytes.{over};
-ghost use Rattle.sender_calls.specs.SenderCalls.{flagWord, waitingWord, waitingOf, senderWords, goodWords, senderIn};
+ghost use Rattle.sender_calls.specs.SenderCalls.{flagWord, waitingWord, waitingOf, senderWords, senderIn};
 
 fn flag_word(flag: bool) -> u64
     ensures { λ r. ⌜ r ≡ flagWord flag ⌝ }
@@ -63,35 +64,27 @@ pub(crate) fn write_sender(words: &mut [u64], sender: Sender)
     words[6] = sender.sends;
 }
 
-// The sender that the words encode; one with no first number where they encode none.
-pub(crate) fn read_sender(words: &[u64]) -> Sender
+// The sender that the words encode.
+pub(crate) fn read_sender(words: &[u64]) -> Decoded
     requires { ⌜ 7 ≤ length (now words) ⌝ }
     ensures { λ r. ⌜ r ≡ senderIn (now (words .entry)) ⌝ }
 {
-    let good = (words[3] <= 1) & ((words[4] <= 1) & (words[5] <= 4));
-    if !good {
-        return Sender {
-            persisted: Persisted {
-                first: 0,
-                delivered: 0,
-                last: 0,
-                resynchronized: false,
-                frozen: false,
-            },
-            waiting: Waiting::Closed,
-            sends: 0,
-        };
+    let resynchronized = words[3];
+    let frozen = words[4];
+    let waiting = words[5];
+    let known = (resynchronized <= 1) & ((frozen <= 1) & (waiting <= 4));
+    if !known {
+        return Decoded::Unknown;
     }
-    let waiting = waiting_of(words[5]);
-    Sender {
+    Decoded::Known(Sender {
         persisted: Persisted {
             first: words[0],
             delivered: words[1],
             last: words[2],
-            resynchronized: words[3] == 1,
-            frozen: words[4] == 1,
+            resynchronized: resynchronized == 1,
+            frozen: frozen == 1,
         },
-        waiting,
+        waiting: waiting_of(waiting),
         sends: words[6],
-    }
+    })
 }

@@ -1,13 +1,13 @@
 -- Laws by which the loops over bytes go: what one byte more does to each definition.
 use mathlib.Core.Path.{_≡_}
 use mathlib.Core.List.{List}
-use mathlib.Core.Bool.{Bool, true, false, _&&_, and-assoc, and-true}
+use mathlib.Core.Bool.{true, false}
 use Prim.Native.Nat.{ℕ, suc, _+_, _≤_, _<_}
 use native.Mathlib.Omega.{arith}
 use lib.ListN.{length, drop, getD}
 use Rattle.lists.proofs.Parts.{drop-more, drop-none}
 use Rattle.settings.specs.Settings.{allowed}
-use Rattle.settings.specs.DataBytes.{allAllowed, firstForbidden}
+use Rattle.settings.specs.DataBytes.{firstForbidden}
 
 pub forbidden-here : (s : List ℕ) (i : ℕ) → i < length s → allowed (getD s i 0) ≡ false → i + firstForbidden (drop i s) ≡ i
 forbidden-here s i h e = let z : firstForbidden (drop i s) ≡ 0 = rw (drop-more s i h, e) in omega (arith, z)
@@ -19,10 +19,3 @@ forbidden-later s i h e =
 
 pub forbidden-none : (s : List ℕ) (i : ℕ) → length s ≤ i → i + firstForbidden (drop i s) ≡ i
 forbidden-none s i h = let z : firstForbidden (drop i s) ≡ 0 = rw (drop-none s i h) in omega (arith, z)
-
-pub allowed-more : (s : List ℕ) (i : ℕ) (g : Bool) → i < length s
-    → ((g && allowed (getD s i 0)) && allAllowed (drop (i + 1) s)) ≡ (g && allAllowed (drop i s))
-allowed-more s i g h = rw (drop-more s i h) (and-assoc g (allowed (getD s i 0)) (allAllowed (drop (i + 1) s)))
-
-pub allowed-none : (s : List ℕ) (i : ℕ) (g : Bool) → length s ≤ i → (g && allAllowed (drop i s)) ≡ g
-allowed-none s i g h = rw (drop-none s i h) (and-true g)

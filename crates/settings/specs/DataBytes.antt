@@ -1,13 +1,14 @@
 -- Document 01, 'Hybrid block': which bytes data may have, their exclusive-or, and decimal digits.
 use mathlib.Core.List.{List, [], _∷_}
-use mathlib.Core.Bool.{Bool, true, cond, _&&_}
+use mathlib.Core.Bool.{Bool, cond}
 use Prim.Native.Nat.{ℕ, suc, _+_, _%_}
+use Prim.Native.Char.{code}
 use lib.Bits.{bitXor}
+use Rattle.lists.specs.Bytes.{all}
 use Rattle.settings.specs.Settings.{allowed}
 
 abbrev pub allAllowed : List ℕ → Bool
-allAllowed [] = true
-allAllowed (x ∷ xs) = allowed x && allAllowed xs
+allAllowed s = all allowed s
 
 -- the offset of the first byte that is not allowed; the length where there is none
 abbrev pub firstForbidden : List ℕ → ℕ
@@ -21,4 +22,4 @@ xorFrom a (x ∷ xs) = xorFrom (bitXor a x) xs
 
 -- the last decimal digit, in ASCII
 abbrev pub digit : ℕ → ℕ
-digit n = n % 10 + 48
+digit n = n % 10 + code "0"

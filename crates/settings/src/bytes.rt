@@ -11,7 +11,7 @@ pub fn are_allowed(s: &[u8]) -> bool
     let mut i = 0;
     while i < s.len() {
         let x = s[i];
-        good = good & (((32 <= x) & (x <= 126)) | (x == 13));
+        good = good & (((0x20 <= x) & (x <= 0x7e)) | (x == b'\r'));
         i += 1;
     }
     good

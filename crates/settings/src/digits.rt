@@ -6,5 +6,5 @@ ghost use Rattle.settings.specs.DataBytes.{digit};
 pub fn digit_of(n: usize) -> u8
     ensures { λ r. ⌜ r ≡ digit n ⌝ }
 {
-    (n % 10) as u8 + 48
+    (n % 10) as u8 + b'0'
 }

@@ -7,7 +7,8 @@ pub use bytes::checksum;
 pub use bytes::first_forbidden;
 pub use digits::digit_of;
 ghost use mathlib.Core.Path.{_≡_};
-ghost use Rattle.settings.specs.Settings.{allowed, valid, validLink, dataOffsetOf, hybridOf, minimalOf};
+ghost use mathlib.Core.Bool.{_&&_};
+ghost use Rattle.settings.specs.Settings.{allowed, limitValid, enoughForLink, valid, validLink, dataOffsetOf, hybridOf, minimalOf, linkOf, hybridLink, minimalLink};
 
 // The two lower layer protocols (000, C.2 and C.4).
 pub enum Kind {
@@ -33,13 +34,25 @@ pub enum Made {
 pub(crate) fn is_allowed(x: u8) -> bool
     ensures { λ r. ⌜ r ≡ allowed x ⌝ }
 {
-    ((32 <= x) & (x <= 126)) | (x == 13)
+    ((0x20 <= x) & (x <= 0x7e)) | (x == b'\r')
+}
+
+fn link_of(made: Made) -> Made
+    ensures { λ r. ⌜ r ≡ linkOf made ⌝ }
+{
+    let Made::Valid(settings) = made else {
+        return Made::Refused;
+    };
+    if settings.data_limit < Settings::SMALLEST_LINK_LIMIT {
+        return Made::Refused;
+    }
+    Made::Valid(settings)
 }
 
 impl Settings {
-    pub const START_BLOCK: u8 = 11;
+    pub const START_BLOCK: u8 = 0x0b;
 
-    pub const END_BLOCK: u8 = 28;
+    pub const END_BLOCK: u8 = 0x1c;
 
     pub const LARGEST_DATA_LIMIT: usize = 99994;
     // For a sender or receiver.
@@ -85,6 +98,20 @@ impl Settings {
         }
     }
 
+    // The settings of a hybrid link's sender or receiver, or a refusal (1).
+    pub fn hybrid_link(start_block: u64, end_block: u64, data_limit: u64) -> Made
+        ensures { λ r. ⌜ r ≡ hybridLink «start_block» «end_block» «data_limit» ⌝ }
+    {
+        link_of(Settings::hybrid(start_block, end_block, data_limit))
+    }
+
+    // The settings of a minimal link's sender or receiver, or a refusal (1).
+    pub fn minimal_link(data_limit: u64) -> Made
+        ensures { λ r. ⌜ r ≡ minimalLink «data_limit» ⌝ }
+    {
+        link_of(Settings::minimal(data_limit))
+    }
+
     // Whether every setting is within its range.
     pub fn is_valid(self) -> bool
         ensures { λ r. ⌜ r ≡ valid self ⌝ }
@@ -111,6 +138,13 @@ impl Settings {
         ensures { λ r. ⌜ r ≡ validLink self ⌝ }
     {
         self.is_valid() & (Self::SMALLEST_LINK_LIMIT <= self.data_limit)
+    }
+
+    // Whether this is a data limit of a sender or receiver.
+    pub fn is_link_limit(limit: usize) -> bool
+        ensures { λ r. ⌜ r ≡ limitValid limit && enoughForLink limit ⌝ }
+    {
+        (1 <= limit) & (limit <= Self::LARGEST_DATA_LIMIT) & (Self::SMALLEST_LINK_LIMIT <= limit)
     }
 
     // Where an accepted block's data begins among the bytes after SB.

@@ -3,8 +3,9 @@ use mathlib.Core.List.{List, [], _∷_, _++_}
 use mathlib.Core.Bool.{Bool, true, false, cond}
 use Prim.Native.Nat.{ℕ, _+_}
 use lib.ListN.{length, take}
-use lib.Dec.{leb, ltb, eqb}
-use Rattle.station.specs.Station.{opened, nextNumber, isDuplicate, blockOf, nakOf, endOf, Outcome}
+use lib.Dec.{leb, eqb}
+use Rattle.lists.specs.Outcome.{need, Outcome, outcome}
+use Rattle.station.specs.Station.{openedStation, nextNumber, isDuplicate, goodBlockOf, badBlockOf, eotOf}
 use Rattle.station.specs.declared.Station.{Station}
 use Rattle.station.specs.declared.Station.the-variants.{Closed, Open}
 use Rattle.station.specs.declared.Ending.{Ending}
@@ -13,22 +14,18 @@ use Rattle.station.specs.declared.Reply.{Reply}
 use Rattle.station.specs.declared.Reply.the-variants.{NoReply, Ack, Nak, Eot}
 use Rattle.station.specs.declared.Message.{Message}
 use Rattle.station.specs.declared.Message.the-variants.{Incomplete, Complete}
+use Rattle.station.specs.declared.Acted.{Acted}
 
 -- what the driver reports: a good block with number, ending and text, a bad block, one ended by ENQ, EOT
 pub data Unit : Type 0 where
   good : ℕ → Ending → List ℕ → Unit
   bad : Unit
   enquiry : Unit
-  end : Unit
-
-pub record Block : Type 0 where
-  pub ending : Ending
-  pub text : List ℕ
-
-abbrev pub block : Ending → List ℕ → Block
-block x t = record { ending = x; text = t }
+  eot : Unit
 
 -- ---- blocks that came in order, the newest first
+pub data Block : Type 0 where
+  block : Ending → List ℕ → Block
 
 -- "it expects block 1; after 7 comes 0"
 unfoldable pub expectedAfter : List Block → ℕ
@@ -36,22 +33,16 @@ expectedAfter [] = 1
 expectedAfter (b ∷ bs) = nextNumber (expectedAfter bs)
 
 -- the text since the last ETX
-abbrev pub joined : Ending → List ℕ → List ℕ
-joined Etb t = t
-joined Etx t = []
-
-unfoldable pub textOf : List Block → List ℕ
-textOf [] = []
-textOf (b ∷ bs) = joined (b .ending) (textOf bs ++ b .text)
+unfoldable pub textHeld : List Block → List ℕ
+textHeld [] = []
+textHeld (block Etb t ∷ bs) = textHeld bs ++ t
+textHeld (block Etx t ∷ bs) = []
 
 -- the messages: texts joined up to each ETX
-abbrev pub completed : Ending → List ℕ → List (List ℕ) → List (List ℕ)
-completed Etb t ms = ms
-completed Etx t ms = t ∷ ms
-
 unfoldable pub messagesOf : List Block → List (List ℕ)
 messagesOf [] = []
-messagesOf (b ∷ bs) = completed (b .ending) (textOf bs ++ b .text) (messagesOf bs)
+messagesOf (block Etb t ∷ bs) = messagesOf bs
+messagesOf (block Etx t ∷ bs) = (textHeld bs ++ t) ∷ messagesOf bs
 
 -- ---- the history of one opening, with a buffer of c bytes: the blocks that came in order and fitted, and whether the station was closed then
 pub record Past : Type 0 where
@@ -62,16 +53,14 @@ abbrev pub past : List Block → Bool → Past
 past bs k = record { blocks = bs; closed = k }
 
 abbrev pub fits : ℕ → List Block → List ℕ → Bool
-fits c bs t = leb (length (textOf bs) + length t) c
-
-abbrev pub goodAfter : ℕ → List Block → ℕ → Ending → List ℕ → Past
-goodAfter c bs n x t = cond (eqb n (expectedAfter bs)) (cond (fits c bs t) (past (block x t ∷ bs) false) (past bs true)) (past bs false)
+fits c bs t = leb (length (textHeld bs) + length t) c
 
 abbrev pub unitAfter : ℕ → List Block → Unit → Past
-unitAfter c bs (good n x t) = goodAfter c bs n x t
+unitAfter c bs (good n x t) =
+    cond (eqb n (expectedAfter bs)) (need (fits c bs t) (past bs true) (past (block x t ∷ bs) false)) (past bs false)
 unitAfter c bs bad = past bs false
 unitAfter c bs enquiry = past bs false
-unitAfter c bs end = past bs true
+unitAfter c bs eot = past bs true
 
 -- the newest unit first
 unfoldable pub pastOf : ℕ → List Unit → Past
@@ -80,19 +69,16 @@ pastOf c (u ∷ us) = cond (pastOf c us .closed) (pastOf c us) (unitAfter c (pas
 
 -- the station then
 abbrev pub stationOf : Past → Station
-stationOf p = cond (p .closed) Closed (Open (expectedAfter (p .blocks)) (length (textOf (p .blocks))))
+stationOf p = cond (p .closed) Closed (Open (expectedAfter (p .blocks)) (length (textHeld (p .blocks))))
 
 -- its reply to a unit
-abbrev pub goodReply : ℕ → List Block → ℕ → List ℕ → Reply
-goodReply c bs n t =
-    cond (ltb 7 n) Nak
-    (cond (eqb n (expectedAfter bs)) (cond (fits c bs t) (Ack n) Eot) (cond (isDuplicate (expectedAfter bs) n) (Ack n) Nak))
-
 abbrev pub openReply : ℕ → List Block → Unit → Reply
-openReply c bs (good n x t) = goodReply c bs n t
+openReply c bs (good n x t) =
+    need (leb n 7) Nak
+    (cond (eqb n (expectedAfter bs)) (need (fits c bs t) Eot (Ack n)) (cond (isDuplicate (expectedAfter bs) n) (Ack n) Nak))
 openReply c bs bad = Nak
 openReply c bs enquiry = Nak
-openReply c bs end = NoReply
+openReply c bs eot = NoReply
 
 abbrev pub replyOf : ℕ → Past → Unit → Reply
 replyOf c p u = cond (p .closed) NoReply (openReply c (p .blocks) u)
@@ -103,20 +89,20 @@ pub record Run : Type 0 where
   pub buffer : List ℕ
   pub messages : List (List ℕ)
 
-abbrev pub outcomeOf : Run → Unit → Outcome
-outcomeOf r (good n x t) = blockOf (r .station) n x t (r .buffer)
-outcomeOf r bad = record { answer = nakOf (r .station); buffer = r .buffer }
-outcomeOf r enquiry = record { answer = nakOf (r .station); buffer = r .buffer }
-outcomeOf r end = record { answer = endOf (r .station); buffer = r .buffer }
+abbrev pub unitOutcome : Run → Unit → Outcome Acted
+unitOutcome r (good n x t) = goodBlockOf (r .station) n x t (r .buffer)
+unitOutcome r bad = outcome (badBlockOf (r .station)) (r .buffer)
+unitOutcome r enquiry = outcome (badBlockOf (r .station)) (r .buffer)
+unitOutcome r eot = outcome (eotOf (r .station)) (r .buffer)
 
 -- where a message is complete, it is taken from the buffer's start
-abbrev pub handed : Message → List ℕ → List (List ℕ) → List (List ℕ)
-handed Incomplete b ms = ms
-handed (Complete n) b ms = take n b ∷ ms
+abbrev pub handedOver : Message → List ℕ → List (List ℕ) → List (List ℕ)
+handedOver Incomplete b ms = ms
+handedOver (Complete n) b ms = take n b ∷ ms
 
-abbrev pub goesOn : Outcome → List (List ℕ) → Run
-goesOn o ms = record { station = o .answer .station; buffer = o .buffer; messages = handed (o .answer .message) (o .buffer) ms }
+abbrev pub runAfter : Outcome Acted → List (List ℕ) → Run
+runAfter o ms = record { station = o .answer .station; buffer = o .buffer; messages = handedOver (o .answer .message) (o .buffer) ms }
 
-unfoldable pub runOf : List ℕ → List Unit → Run
-runOf b [] = record { station = opened; buffer = b; messages = [] }
-runOf b (u ∷ us) = goesOn (outcomeOf (runOf b us) u) (runOf b us .messages)
+unfoldable pub stationRun : List ℕ → List Unit → Run
+stationRun b [] = record { station = openedStation; buffer = b; messages = [] }
+stationRun b (u ∷ us) = runAfter (unitOutcome (stationRun b us) u) (stationRun b us .messages)

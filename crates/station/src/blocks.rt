@@ -1,22 +1,23 @@
 // A good block.
 use crate::Acted;
 use crate::Ending;
+use crate::LAST_NUMBER;
 use crate::Message;
 use crate::Reply;
 use crate::Station;
-use crate::units::drop_unit;
-use crate::units::refuse_state;
+use crate::units::answer;
+use crate::units::refuse_station;
 ghost use mathlib.Core.Path.{_≡_};
-ghost use Prim.Native.Nat.{_+_, _≤_};
+ghost use Prim.Native.Nat.{_≤_};
 ghost use lib.ListN.{length};
-ghost use Rattle.station.specs.Station.{nextNumber, isDuplicate, validStation, heldAfter, messageAfter, outcome, appends, expectedBlock, openBlock, stationBlock, blockOf};
+ghost use Rattle.lists.specs.Outcome.{outcome};
+ghost use Rattle.station.specs.Station.{nextNumber, isDuplicate, appended, expectedBlock, openBlock, goodBlockOf};
 
-// After 7 comes 0.
 fn next_number(n: u64) -> u64
     requires { ⌜ n ≤ 7 ⌝ }
     ensures { λ r. ⌜ r ≡ nextNumber n ⌝ }
 {
-    if n == 7 {
+    if n == LAST_NUMBER {
         return 0;
     }
     n + 1
@@ -28,50 +29,24 @@ fn is_duplicate(expected: u64, n: u64) -> bool
     n < expected
 }
 
-fn is_station(have: usize, station: Station) -> bool
-    ensures { λ r. ⌜ r ≡ validStation have station ⌝ }
-{
-    match station {
-        Station::Closed => true,
-        Station::Open(expected, held) => (expected <= 7) & (held <= have),
-    }
-}
-
-fn held_after(ending: Ending, n: usize) -> usize
-    ensures { λ r. ⌜ r ≡ heldAfter ending n ⌝ }
-{
-    match ending {
-        Ending::Etb => n,
-        Ending::Etx => 0,
-    }
-}
-
-fn message_after(ending: Ending, n: usize) -> Message
-    ensures { λ r. ⌜ r ≡ messageAfter ending n ⌝ }
-{
-    match ending {
-        Ending::Etb => Message::Incomplete,
-        Ending::Etx => Message::Complete(n),
-    }
-}
-
-// Appends the text to what is held.
-fn append(expected: u64, held: usize, ending: Ending, text: &[u8], buffer: &mut [u8]) -> Acted
+// The answer to an appended block, after which the text has n bytes.
+fn acknowledge(expected: u64, ending: Ending, n: usize) -> Acted
     requires { ⌜ expected ≤ 7 ⌝ }
-    requires { ⌜ held + length (now text) ≤ length (now buffer) ⌝ }
-    ensures { λ r. ⌜ outcome r (now (buffer .exit)) ≡ appends expected held ending (now (text .entry)) (now (buffer .entry)) ⌝ }
+    ensures { λ r. ⌜ r ≡ appended expected ending n ⌝ }
 {
-    lists::copy_bytes(&mut buffer[held..], text);
-    let end = held + text.len();
-    Acted {
-        number: 0,
-        station: Station::Open(next_number(expected), held_after(ending, end)),
-        reply: Reply::Ack(expected),
-        message: message_after(ending, end),
+    let next = next_number(expected);
+    match ending {
+        Ending::Etb => answer(Station::Open(next, n), Reply::Ack(expected)),
+        Ending::Etx => Acted {
+            number: 0,
+            station: Station::Open(next, 0),
+            reply: Reply::Ack(expected),
+            message: Message::Complete(n),
+        },
     }
 }
 
-// The block with the expected number.
+// The block with the expected number: its text is appended to what is held.
 fn take_expected(
     expected: u64,
     held: usize,
@@ -84,9 +59,10 @@ fn take_expected(
     ensures { λ r. ⌜ outcome r (now (buffer .exit)) ≡ expectedBlock expected held ending (now (text .entry)) (now (buffer .entry)) ⌝ }
 {
     if buffer.len() - held < text.len() {
-        return drop_unit(Station::Closed, Reply::Eot);
+        return answer(Station::Closed, Reply::Eot);
     }
-    append(expected, held, ending, text, buffer)
+    lists::copy_bytes(&mut buffer[held..], text);
+    acknowledge(expected, ending, held + text.len())
 }
 
 fn block_when_open(
@@ -101,27 +77,28 @@ fn block_when_open(
     requires { ⌜ held ≤ length (now buffer) ⌝ }
     ensures { λ r. ⌜ outcome r (now (buffer .exit)) ≡ openBlock expected held n ending (now (text .entry)) (now (buffer .entry)) ⌝ }
 {
-    if 7 < n {
-        return drop_unit(Station::Open(expected, held), Reply::Nak);
+    if LAST_NUMBER < n {
+        return answer(Station::Open(expected, held), Reply::Nak);
     }
     if n == expected {
         return take_expected(expected, held, ending, text, buffer);
     }
     if is_duplicate(expected, n) {
-        return drop_unit(Station::Open(expected, held), Reply::Ack(n));
+        return answer(Station::Open(expected, held), Reply::Ack(n));
     }
-    drop_unit(Station::Open(expected, held), Reply::Nak)
+    answer(Station::Open(expected, held), Reply::Nak)
 }
 
 // A good block with its number, ended by ETB or ETX. The text of the expected one is appended to what the buffer holds.
 pub fn good_block(station: Station, n: u64, ending: Ending, text: &[u8], buffer: &mut [u8]) -> Acted
-    ensures { λ r. ⌜ outcome r (now (buffer .exit)) ≡ blockOf station n ending (now (text .entry)) (now (buffer .entry)) ⌝ }
+    ensures { λ r. ⌜ outcome r (now (buffer .exit)) ≡ goodBlockOf station n ending (now (text .entry)) (now (buffer .entry)) ⌝ }
 {
-    if !is_station(buffer.len(), station) {
-        return refuse_state(station);
-    }
     let Station::Open(expected, held) = station else {
-        return drop_unit(Station::Closed, Reply::NoReply);
+        return answer(Station::Closed, Reply::NoReply);
     };
+    let valid = (expected <= LAST_NUMBER) & (held <= buffer.len());
+    if !valid {
+        return refuse_station(station);
+    }
     block_when_open(expected, held, n, ending, text, buffer)
 }

@@ -5,8 +5,10 @@ mod units;
 pub use blocks::good_block;
 pub use units::bad_block;
 pub use units::end_of_transmission;
-pub use units::enquiry_block;
 pub use units::station_opened;
+
+// The last block number: after it comes 0.
+pub(crate) const LAST_NUMBER: u64 = 7;
 
 pub enum Station {
     Closed,
@@ -36,7 +38,7 @@ pub enum Message {
 
 // What an act answers.
 pub struct Acted {
-    // 0, or 11 for what is no state.
+    // 0, or 11 for what is no station.
     pub number: u64,
     pub station: Station,
     pub reply: Reply,

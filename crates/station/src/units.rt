@@ -1,14 +1,17 @@
 // What the driver reports besides a good block, and the answers.
 use crate::Acted;
+use crate::LAST_NUMBER;
 use crate::Message;
 use crate::Reply;
 use crate::Station;
 ghost use mathlib.Core.Path.{_≡_};
-ghost use Rattle.station.specs.Station.{validNumber, drops, noState, naks, nakOf, endOf, openedOf};
+ghost use Rattle.station.specs.declared.Reply.the-variants.{NoReply};
+ghost use Rattle.station.specs.declared.Message.the-variants.{Incomplete};
+ghost use Rattle.station.specs.Station.{openedStation, stationActed, noStation, badBlockOf, eotOf};
 
-// Nothing is appended.
-pub(crate) fn drop_unit(station: Station, reply: Reply) -> Acted
-    ensures { λ r. ⌜ r ≡ drops station reply ⌝ }
+// The answer of an act by which no message is complete.
+pub(crate) fn answer(station: Station, reply: Reply) -> Acted
+    ensures { λ r. ⌜ r ≡ stationActed station reply Incomplete ⌝ }
 {
     Acted {
         number: 0,
@@ -18,65 +21,46 @@ pub(crate) fn drop_unit(station: Station, reply: Reply) -> Acted
     }
 }
 
-pub(crate) fn refuse_state(station: Station) -> Acted
-    ensures { λ r. ⌜ r ≡ noState station ⌝ }
+pub(crate) fn refuse_station(station: Station) -> Acted
+    ensures { λ r. ⌜ r ≡ noStation station ⌝ }
 {
     Acted {
-        number: 11,
+        number: refusal::STATE,
         station,
         reply: Reply::NoReply,
         message: Message::Incomplete,
     }
 }
 
-fn is_number(station: Station) -> bool
-    ensures { λ r. ⌜ r ≡ validNumber station ⌝ }
-{
-    match station {
-        Station::Closed => true,
-        Station::Open(expected, _) => expected <= 7,
-    }
-}
-
-fn answer_nak(station: Station) -> Acted
-    ensures { λ r. ⌜ r ≡ naks station ⌝ }
-{
-    match station {
-        Station::Closed => drop_unit(Station::Closed, Reply::NoReply),
-        Station::Open(expected, held) => drop_unit(Station::Open(expected, held), Reply::Nak),
-    }
-}
-
-// A block that the driver found bad.
+// A block that the driver found bad, or one ended by ENQ.
 pub fn bad_block(station: Station) -> Acted
-    ensures { λ r. ⌜ r ≡ nakOf station ⌝ }
+    ensures { λ r. ⌜ r ≡ badBlockOf station ⌝ }
 {
-    if !is_number(station) {
-        return refuse_state(station);
+    let Station::Open(expected, _) = station else {
+        return answer(Station::Closed, Reply::NoReply);
+    };
+    if LAST_NUMBER < expected {
+        return refuse_station(station);
     }
-    answer_nak(station)
-}
-
-// A block ended by ENQ.
-pub fn enquiry_block(station: Station) -> Acted
-    ensures { λ r. ⌜ r ≡ nakOf station ⌝ }
-{
-    bad_block(station)
+    answer(station, Reply::Nak)
 }
 
 // EOT was received.
 pub fn end_of_transmission(station: Station) -> Acted
-    ensures { λ r. ⌜ r ≡ endOf station ⌝ }
+    ensures { λ r. ⌜ r ≡ eotOf station ⌝ }
 {
-    if !is_number(station) {
-        return refuse_state(station);
+    let Station::Open(expected, _) = station else {
+        return answer(Station::Closed, Reply::NoReply);
+    };
+    if LAST_NUMBER < expected {
+        return refuse_station(station);
     }
-    drop_unit(Station::Closed, Reply::NoReply)
+    answer(Station::Closed, Reply::NoReply)
 }
 
 // The driver opened the station, whatever it was.
-pub fn station_opened(station: Station) -> Acted
-    ensures { λ r. ⌜ r ≡ openedOf station ⌝ }
+pub fn station_opened() -> Acted
+    ensures { λ r. ⌜ r ≡ stationActed openedStation NoReply Incomplete ⌝ }
 {
-    drop_unit(Station::Open(1, 0), Reply::NoReply)
+    answer(Station::Open(1, 0), Reply::NoReply)
 }

@@ -1,8 +1,9 @@
 // The station's acts on words.
-use crate::EndingMade;
+use crate::Decoded;
+use crate::DecodedEnding;
 use crate::words::ending_of;
 use crate::words::read_station;
-use crate::words::write_act;
+use crate::words::write_report;
 use crate::words::write_station;
 use station::Acted;
 use station::Station;
@@ -10,13 +11,25 @@ ghost use mathlib.Core.Path.{_≡_};
 ghost use mathlib.Core.List.{[]};
 ghost use Prim.Native.Nat.{_≤_};
 ghost use lib.ListN.{length};
-ghost use Rattle.station_calls.specs.StationCalls.{called, finished, openCall, nakCall, endCall, blockCall, freshCall};
+ghost use Rattle.lists.specs.Outcome.{outcome, called};
+ghost use Rattle.station_calls.specs.StationCalls.{enoughWords, actWritten, freshStationCall, openStationCall, goodBlockCall, badBlockCall, eotCall};
+
+// How many words a state and a report have.
+const STATION_WORDS: usize = 3;
+
+const REPORT_WORDS: usize = 4;
+
+fn enough_words(state_words: usize, report_words: usize) -> bool
+    ensures { λ r. ⌜ r ≡ enoughWords «state_words» «report_words» ⌝ }
+{
+    (STATION_WORDS <= state_words) & (REPORT_WORDS <= report_words)
+}
 
 // Writes what the act answered, unless it was refused.
 fn finish(acted: Acted, state: &mut [u64], report: &mut [u64]) -> u64
     requires { ⌜ 3 ≤ length (now state) ⌝ }
     requires { ⌜ 4 ≤ length (now report) ⌝ }
-    ensures { λ r. ⌜ called r (now (state .exit)) [] (now (report .exit)) ≡ finished (now (state .entry)) (now (report .entry)) acted [] ⌝ }
+    ensures { λ r. ⌜ called r (now (state .exit)) [] (now (report .exit)) ≡ actWritten (now (state .entry)) (now (report .entry)) (outcome acted []) ⌝ }
 {
     let number = acted.number;
     if number != 0 {
@@ -24,73 +37,58 @@ fn finish(acted: Acted, state: &mut [u64], report: &mut [u64]) -> u64
     }
     let station = acted.station;
     write_station(state, station);
-    write_act(report, acted);
+    write_report(report, acted);
     0
 }
 
 // A closed station.
 pub fn fresh_station_words(state: &mut [u64]) -> u64
-    ensures { λ r. ⌜ called r (now (state .exit)) [] [] ≡ freshCall (now (state .entry)) ⌝ }
+    ensures { λ r. ⌜ called r (now (state .exit)) [] [] ≡ freshStationCall (now (state .entry)) ⌝ }
 {
-    if state.len() < 3 {
-        return 2;
+    if state.len() < STATION_WORDS {
+        return refusal::TOO_SHORT;
     }
     write_station(state, Station::Closed);
     0
 }
 
+// The driver opened the station.
 pub fn opened_words(state: &mut [u64], report: &mut [u64]) -> u64
-    ensures { λ r. ⌜ called r (now (state .exit)) [] (now (report .exit)) ≡ openCall (now (state .entry)) (now (report .entry)) ⌝ }
+    ensures { λ r. ⌜ called r (now (state .exit)) [] (now (report .exit)) ≡ openStationCall (now (state .entry)) (now (report .entry)) ⌝ }
 {
-    if state.len() < 3 {
-        return 2;
+    if !enough_words(state.len(), report.len()) {
+        return refusal::TOO_SHORT;
     }
-    if report.len() < 4 {
-        return 2;
-    }
-    finish(station::station_opened(read_station(state)), state, report)
+    finish(station::station_opened(), state, report)
 }
 
+// A bad block, or one ended by ENQ.
 pub fn bad_words(state: &mut [u64], report: &mut [u64]) -> u64
-    ensures { λ r. ⌜ called r (now (state .exit)) [] (now (report .exit)) ≡ nakCall (now (state .entry)) (now (report .entry)) ⌝ }
+    ensures { λ r. ⌜ called r (now (state .exit)) [] (now (report .exit)) ≡ badBlockCall (now (state .entry)) (now (report .entry)) ⌝ }
 {
-    if state.len() < 3 {
-        return 2;
+    if !enough_words(state.len(), report.len()) {
+        return refusal::TOO_SHORT;
     }
-    if report.len() < 4 {
-        return 2;
-    }
-    finish(station::bad_block(read_station(state)), state, report)
+    let Decoded::Known(station) = read_station(state) else {
+        return refusal::STATE;
+    };
+    finish(station::bad_block(station), state, report)
 }
 
-pub fn enquiry_words(state: &mut [u64], report: &mut [u64]) -> u64
-    ensures { λ r. ⌜ called r (now (state .exit)) [] (now (report .exit)) ≡ nakCall (now (state .entry)) (now (report .entry)) ⌝ }
-{
-    if state.len() < 3 {
-        return 2;
-    }
-    if report.len() < 4 {
-        return 2;
-    }
-    finish(station::enquiry_block(read_station(state)), state, report)
-}
-
+// EOT was received.
 pub fn end_words(state: &mut [u64], report: &mut [u64]) -> u64
-    ensures { λ r. ⌜ called r (now (state .exit)) [] (now (report .exit)) ≡ endCall (now (state .entry)) (now (report .entry)) ⌝ }
+    ensures { λ r. ⌜ called r (now (state .exit)) [] (now (report .exit)) ≡ eotCall (now (state .entry)) (now (report .entry)) ⌝ }
 {
-    if state.len() < 3 {
-        return 2;
+    if !enough_words(state.len(), report.len()) {
+        return refusal::TOO_SHORT;
     }
-    if report.len() < 4 {
-        return 2;
-    }
-    finish(
-        station::end_of_transmission(read_station(state)),
-        state,
-        report,
-    )
+    let Decoded::Known(station) = read_station(state) else {
+        return refusal::STATE;
+    };
+    finish(station::end_of_transmission(station), state, report)
 }
 
+// A good block.
 pub fn block_words(
     number: u64,
     ending: u64,
@@ -99,17 +97,17 @@ pub fn block_words(
     state: &mut [u64],
     report: &mut [u64],
 ) -> u64
-    ensures { λ r. ⌜ called r (now (state .exit)) (now (buffer .exit)) (now (report .exit)) ≡ blockCall number ending (now (text .entry)) (now (buffer .entry)) (now (state .entry)) (now (report .entry)) ⌝ }
+    ensures { λ r. ⌜ called r (now (state .exit)) (now (buffer .exit)) (now (report .exit)) ≡ goodBlockCall number ending (now (text .entry)) (now (buffer .entry)) (now (state .entry)) (now (report .entry)) ⌝ }
 {
-    let EndingMade::AnEnding(how) = ending_of(ending) else {
-        return 1;
+    let DecodedEnding::Known(how) = ending_of(ending) else {
+        return refusal::SETTING;
     };
-    if state.len() < 3 {
-        return 2;
+    if !enough_words(state.len(), report.len()) {
+        return refusal::TOO_SHORT;
     }
-    if report.len() < 4 {
-        return 2;
-    }
-    let acted = station::good_block(read_station(state), number, how, text, buffer);
+    let Decoded::Known(station) = read_station(state) else {
+        return refusal::STATE;
+    };
+    let acted = station::good_block(station, number, how, text, buffer);
     finish(acted, state, report)
 }

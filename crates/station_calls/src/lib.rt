@@ -6,13 +6,19 @@ mod words;
 pub use acts::bad_words;
 pub use acts::block_words;
 pub use acts::end_words;
-pub use acts::enquiry_words;
 pub use acts::fresh_station_words;
 pub use acts::opened_words;
 use station::Ending;
+use station::Station;
+
+// What a station's words encode.
+pub enum Decoded {
+    Unknown,
+    Known(Station),
+}
 
 // What a number from C stands for.
-pub enum EndingMade {
-    NoEnding,
-    AnEnding(Ending),
+pub enum DecodedEnding {
+    Unknown,
+    Known(Ending),
 }

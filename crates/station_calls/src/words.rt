@@ -1,5 +1,6 @@
 // A station and its answer as words.
-use crate::EndingMade;
+use crate::Decoded;
+use crate::DecodedEnding;
 use station::Acted;
 use station::Ending;
 use station::Message;
@@ -7,9 +8,14 @@ use station::Reply;
 use station::Station;
 ghost use mathlib.Core.Path.{_≡_};
 ghost use Prim.Native.Nat.{_≤_};
-ghost use lib.ListN.{length};
+ghost use lib.ListN.{length, getD};
 ghost use Rattle.lists.specs.Bytes.{over};
-ghost use Rattle.station_calls.specs.StationCalls.{stationWords, stationIn, endingOf, replyWord, replyNumber, completeWord, messageLength, actWords};
+ghost use Rattle.station_calls.specs.StationCalls.{stationWords, stationIn, endingOf, replyWords, messageWords, stationReport};
+
+// The ASCII characters.
+const ETB: u64 = 0x17;
+
+const ETX: u64 = 0x03;
 
 // Writes over the first three words.
 pub(crate) fn write_station(words: &mut [u64], station: Station)
@@ -30,35 +36,34 @@ pub(crate) fn write_station(words: &mut [u64], station: Station)
     }
 }
 
-// The station that the words encode; one that expects 8 where they encode none.
-pub(crate) fn read_station(words: &[u64]) -> Station
+pub(crate) fn read_station(words: &[u64]) -> Decoded
     requires { ⌜ 3 ≤ length (now words) ⌝ }
     ensures { λ r. ⌜ r ≡ stationIn (now (words .entry)) ⌝ }
 {
     if words[0] == 1 {
-        return Station::Open(words[1], words[2] as usize);
+        return Decoded::Known(Station::Open(words[1], words[2] as usize));
     }
     let closed = (words[0] == 0) & ((words[1] == 0) & (words[2] == 0));
     if closed {
-        return Station::Closed;
+        return Decoded::Known(Station::Closed);
     }
-    Station::Open(8, 0)
+    Decoded::Unknown
 }
 
-pub(crate) fn ending_of(number: u64) -> EndingMade
+pub(crate) fn ending_of(number: u64) -> DecodedEnding
     ensures { λ r. ⌜ r ≡ endingOf number ⌝ }
 {
-    if number == 23 {
-        return EndingMade::AnEnding(Ending::Etb);
+    if number == ETB {
+        return DecodedEnding::Known(Ending::Etb);
     }
-    if number == 3 {
-        return EndingMade::AnEnding(Ending::Etx);
+    if number == ETX {
+        return DecodedEnding::Known(Ending::Etx);
     }
-    EndingMade::NoEnding
+    DecodedEnding::Unknown
 }
 
 fn reply_word(reply: Reply) -> u64
-    ensures { λ r. ⌜ r ≡ replyWord reply ⌝ }
+    ensures { λ r. ⌜ r ≡ getD (replyWords reply) 0 0 ⌝ }
 {
     match reply {
         Reply::NoReply => 0,
@@ -69,7 +74,7 @@ fn reply_word(reply: Reply) -> u64
 }
 
 fn reply_number(reply: Reply) -> u64
-    ensures { λ r. ⌜ r ≡ replyNumber reply ⌝ }
+    ensures { λ r. ⌜ r ≡ getD (replyWords reply) 1 0 ⌝ }
 {
     match reply {
         Reply::NoReply => 0,
@@ -80,7 +85,7 @@ fn reply_number(reply: Reply) -> u64
 }
 
 fn complete_word(message: Message) -> u64
-    ensures { λ r. ⌜ r ≡ completeWord message ⌝ }
+    ensures { λ r. ⌜ r ≡ getD (messageWords message) 0 0 ⌝ }
 {
     match message {
         Message::Incomplete => 0,
@@ -89,7 +94,7 @@ fn complete_word(message: Message) -> u64
 }
 
 fn message_length(message: Message) -> u64
-    ensures { λ r. ⌜ r ≡ messageLength message ⌝ }
+    ensures { λ r. ⌜ r ≡ getD (messageWords message) 1 0 ⌝ }
 {
     match message {
         Message::Incomplete => 0,
@@ -98,9 +103,9 @@ fn message_length(message: Message) -> u64
 }
 
 // Writes over the first four words.
-pub(crate) fn write_act(words: &mut [u64], acted: Acted)
+pub(crate) fn write_report(words: &mut [u64], acted: Acted)
     requires { ⌜ 4 ≤ length (now words) ⌝ }
-    ensures { λ r. ⌜ now (words .exit) ≡ over (now (words .entry)) (actWords acted) ⌝ }
+    ensures { λ r. ⌜ now (words .exit) ≡ over (now (words .entry)) (stationReport acted) ⌝ }
 {
     let reply = acted.reply;
     let message = acted.message;

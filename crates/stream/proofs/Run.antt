@@ -11,7 +11,7 @@ use Rattle.lists.proofs.Tests.{cond-ind}
 use Rattle.lists.specs.Bytes.{clear, hasAny}
 use Rattle.settings.specs.declared.Settings.{Settings}
 use Rattle.stream.proofs.Steps.{or-first, or-second}
-use Rattle.stream.specs.Stream.{Said, Mode, inside, move, run, after}
+use Rattle.stream.specs.Stream.{Judged, Mode, inside, move, run, after}
 
 module _ (g : Settings) where
   pub run-append : (xs ys : List ℕ) (k : ℕ) (m : Mode) → run g k m (xs ++ ys) ≡ run g k m xs ++ run g (k + length xs) (after g k m xs) ys
@@ -20,7 +20,7 @@ module _ (g : Settings) where
   run-append (x ∷ xs) ys k m =
       let ih = run-append xs ys (k + 1) (move g k m x .mode) in
       let e : k + 1 + length xs ≡ k + suc (length xs) = omega arith in
-      ap (λ (l : List Said). move g k m x .says ++ l) (rw e at ih)
+      ap (λ (l : List Judged). move g k m x .says ++ l) (rw e at ih)
       ∙ sym (append-assoc (move g k m x .says) (run g (k + 1) (move g k m x .mode) xs) (run g (k + suc (length xs)) (after g (k + 1) (move g k m x .mode) xs) ys))
 
   pub after-append : (xs ys : List ℕ) (k : ℕ) (m : Mode) → after g k m (xs ++ ys) ≡ after g (k + length xs) (after g k m xs) ys

@@ -14,11 +14,11 @@ use Rattle.lists.proofs.Tests.{cond-ind}
 use Rattle.lists.proofs.Parts.{drop-more, drop-none}
 use Rattle.lists.proofs.Put.{put-none, put-set}
 use Rattle.lists.specs.Bytes.{clear}
-use Rattle.verdict.specs.declared.Verdict.{Verdict}
-use Rattle.verdict.specs.declared.Verdict.the-variants.{Interrupted}
+use Rattle.refusal.specs.declared.Verdict.{Verdict}
+use Rattle.refusal.specs.declared.Verdict.the-variants.{Refused}
 use Rattle.settings.specs.Settings.{capacityOf}
 use Rattle.settings.specs.declared.Settings.{Settings}
-use Rattle.stream.specs.Scan.{Scan, scan, step, fold, verdictOf}
+use Rattle.stream.specs.Scan.{Scan, scan, step, fold, storedVerdict}
 use Rattle.stream.specs.Internal.{advanced, stored, from}
 use Rattle.stream.specs.declared.Phase.{Phase}
 use Rattle.stream.specs.declared.Phase.the-variants.{Between, Inside, Ended}
@@ -152,9 +152,9 @@ module _ (g : Settings) (x : ℕ) (xs b : List ℕ) (n s k : ℕ) where
   unfolding fold step
   one-opens e = rw e
 
-  one-interrupts : eqb x (g .«start_block») ≡ true → fold g (scan Pending Inside n s k b) (x ∷ xs) ≡ scan (Found s Interrupted) Inside 0 k (k + 1) b
+  one-interrupts : eqb x (g .«start_block») ≡ true → fold g (scan Pending Inside n s k b) (x ∷ xs) ≡ scan (Found s (Refused 8 0)) Inside 0 k (k + 1) b
   unfolding fold step
-  one-interrupts e = rw e (fold-found g s Interrupted _ b xs)
+  one-interrupts e = rw e (fold-found g s (Refused 8 0) _ b xs)
 
   one-ends : eqb x (g .«start_block») ≡ false → eqb x (g .«end_block») ≡ true
       → fold g (scan Pending Inside n s k b) (x ∷ xs) ≡ fold g (scan Pending Ended n s (k + 1) b) xs
@@ -162,14 +162,14 @@ module _ (g : Settings) (x : ℕ) (xs b : List ℕ) (n s k : ℕ) where
   one-ends e f = rw (e, f)
 
   one-reopens : eqb x (g .«start_block») ≡ true
-      → fold g (scan Pending Ended n s k b) (x ∷ xs) ≡ scan (Found s (verdictOf g n b x)) Inside 0 k (k + 1) b
+      → fold g (scan Pending Ended n s k b) (x ∷ xs) ≡ scan (Found s (storedVerdict g n b x)) Inside 0 k (k + 1) b
   unfolding fold step
-  one-reopens e = rw e (fold-found g s (verdictOf g n b x) _ b xs)
+  one-reopens e = rw e (fold-found g s (storedVerdict g n b x) _ b xs)
 
   one-closes : eqb x (g .«start_block») ≡ false
-      → fold g (scan Pending Ended n s k b) (x ∷ xs) ≡ scan (Found s (verdictOf g n b x)) Between 0 0 (k + 1) b
+      → fold g (scan Pending Ended n s k b) (x ∷ xs) ≡ scan (Found s (storedVerdict g n b x)) Between 0 0 (k + 1) b
   unfolding fold step
-  one-closes e = rw e (fold-found g s (verdictOf g n b x) _ b xs)
+  one-closes e = rw e (fold-found g s (storedVerdict g n b x) _ b xs)
 
 -- ---- from a place of the part on
 module _ (g : Settings) (xs b : List ℕ) (n s k : ℕ) where
@@ -205,7 +205,7 @@ module _ (g : Settings) (xs b : List ℕ) (n s k : ℕ) where
       (drop-drop (clear (g .«start_block») (g .«end_block») (drop i xs)) i xs)
       ∙ fold-same g Inside _ _ s _ _ _ _ _ refl (add-assoc k i (clear (g .«start_block») (g .«end_block») (drop i xs))) refl
 
-  pub from-interrupted : (j : ℕ) → j < length xs → getD xs j 0 ≡ g .«start_block» → from g Inside n s k b j xs ≡ scan (Found s Interrupted) Inside 0 (k + j) (k + j + 1) b
+  pub from-interrupted : (j : ℕ) → j < length xs → getD xs j 0 ≡ g .«start_block» → from g Inside n s k b j xs ≡ scan (Found s (Refused 8 0)) Inside 0 (k + j) (k + j + 1) b
   from-interrupted j h e = at-offset Inside j h ∙ one-interrupts g _ (drop (j + 1) xs) b n s (k + j) (eq-eqb _ _ e)
 
   pub from-ends : (j : ℕ) → j < length xs → (getD xs j 0 ≡ g .«start_block» → ⊥) → getD xs j 0 ≡ g .«end_block»
@@ -216,9 +216,9 @@ module _ (g : Settings) (xs b : List ℕ) (n s k : ℕ) where
       ∙ fold-same g Ended n n s _ _ b b _ refl (add-assoc k j 1) refl
 
   pub from-reopens : (j : ℕ) → j < length xs → getD xs j 0 ≡ g .«start_block»
-      → from g Ended n s k b j xs ≡ scan (Found s (verdictOf g n b (getD xs j 0))) Inside 0 (k + j) (k + j + 1) b
+      → from g Ended n s k b j xs ≡ scan (Found s (storedVerdict g n b (getD xs j 0))) Inside 0 (k + j) (k + j + 1) b
   from-reopens j h e = at-offset Ended j h ∙ one-reopens g _ (drop (j + 1) xs) b n s (k + j) (eq-eqb _ _ e)
 
   pub from-closes : (j : ℕ) → j < length xs → (getD xs j 0 ≡ g .«start_block» → ⊥)
-      → from g Ended n s k b j xs ≡ scan (Found s (verdictOf g n b (getD xs j 0))) Between 0 0 (k + j + 1) b
+      → from g Ended n s k b j xs ≡ scan (Found s (storedVerdict g n b (getD xs j 0))) Between 0 0 (k + j + 1) b
   from-closes j h e = at-offset Ended j h ∙ one-closes g _ (drop (j + 1) xs) b n s (k + j) (ne-eqb _ _ e)

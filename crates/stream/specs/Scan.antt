@@ -1,28 +1,22 @@
 -- Document 01, 'Reading a stream', as one call of the reader does it: from the state and the lent buffer over a part of the input, up to the first verdict.
 use mathlib.Core.List.{List, [], _∷_}
-use mathlib.Core.Bool.{cond, not}
+use mathlib.Core.Bool.{cond}
 use Prim.Native.Nat.{ℕ, _+_, max, _-_}
 use lib.ListN.{length, take, set}
-use lib.Dec.{ltb, eqb}
+use lib.Dec.{leb, ltb, eqb}
+use Rattle.lists.specs.Bytes.{greatestWord}
+use Rattle.lists.specs.Outcome.{need, Outcome, outcome}
 use Rattle.settings.specs.Settings.{valid, capacityOf}
 use Rattle.block.specs.Judge.{judge}
 use Rattle.settings.specs.declared.Settings.{Settings}
-use Rattle.verdict.specs.declared.Verdict.{Verdict}
-use Rattle.verdict.specs.declared.Verdict.the-variants.{Long, Shape, Interrupted}
+use Rattle.refusal.specs.declared.Verdict.{Verdict}
+use Rattle.refusal.specs.declared.Verdict.the-variants.{Refused as RefusedBlock}
 use Rattle.stream.specs.declared.Phase.{Phase}
 use Rattle.stream.specs.declared.Phase.the-variants.{Between, Inside, Ended}
 use Rattle.stream.specs.declared.Reader.{Reader}
 use Rattle.stream.specs.declared.Answer.{Answer}
-use Rattle.stream.specs.declared.Answer.the-variants.{Setting, TooShort, State, Pending, Found}
+use Rattle.stream.specs.declared.Answer.the-variants.{Refused, Pending, Found}
 use Rattle.stream.specs.declared.Reading.{Reading}
-
--- the number of each answer; a verdict has a number of its own
-abbrev pub answerNumber : Answer → ℕ
-answerNumber Setting = 1
-answerNumber TooShort = 2
-answerNumber State = 11
-answerNumber Pending = 0
-answerNumber (Found s v) = 0
 
 -- the reader and its buffer in the middle of a part: Pending until the first verdict
 pub record Scan : Type 0 where
@@ -35,14 +29,14 @@ scan a p n s k b =
     record { answer = a; reader = record { phase = p; «body_length» = n; «block_offset» = s; position = k }; buffer = b }
 
 -- n bytes are in the buffer if they fit; a larger n says that the block is too long
-unfoldable pub verdictOf : Settings → ℕ → List ℕ → ℕ → Verdict
-verdictOf g n b x = cond (ltb (capacityOf g) n) Long (cond (eqb x 13) (judge g (take n b)) Shape)
+unfoldable pub storedVerdict : Settings → ℕ → List ℕ → ℕ → Verdict
+storedVerdict g n b x = cond (ltb (capacityOf g) n) (RefusedBlock 4 0) (need (eqb x 0x0D) (RefusedBlock 5 0) (judge g (take n b)))
 
 -- the byte x after EB
 abbrev pub endedStep : Settings → ℕ → ℕ → ℕ → List ℕ → ℕ → Scan
 endedStep g n s k b x =
-    cond (eqb x (g .«start_block»)) (scan (Found s (verdictOf g n b x)) Inside 0 k (k + 1) b)
-    (scan (Found s (verdictOf g n b x)) Between 0 0 (k + 1) b)
+    cond (eqb x (g .«start_block»)) (scan (Found s (storedVerdict g n b x)) Inside 0 k (k + 1) b)
+    (scan (Found s (storedVerdict g n b x)) Between 0 0 (k + 1) b)
 
 -- the byte x of a block: stored if it fits
 abbrev pub keepStep : Settings → ℕ → ℕ → ℕ → List ℕ → ℕ → Scan
@@ -54,7 +48,7 @@ abbrev pub phaseStep : Settings → Phase → ℕ → ℕ → ℕ → List ℕ �
 phaseStep g Between n s k b x =
     cond (eqb x (g .«start_block»)) (scan Pending Inside 0 k (k + 1) b) (scan Pending Between n s (k + 1) b)
 phaseStep g Inside n s k b x =
-    cond (eqb x (g .«start_block»)) (scan (Found s Interrupted) Inside 0 k (k + 1) b)
+    cond (eqb x (g .«start_block»)) (scan (Found s (RefusedBlock 8 0)) Inside 0 k (k + 1) b)
     (cond (eqb x (g .«end_block»)) (scan Pending Ended n s (k + 1) b) (keepStep g n s k b x))
 phaseStep g Ended n s k b x = endedStep g n s k b x
 
@@ -62,34 +56,25 @@ phaseStep g Ended n s k b x = endedStep g n s k b x
 unfoldable pub step : Settings → Answer → Reader → List ℕ → ℕ → Scan
 step g Pending r b x = phaseStep g (r .phase) (r .«body_length») (r .«block_offset») (r .position) b x
 step g (Found s v) r b x = record { answer = Found s v; reader = r; buffer = b }
-step g Setting r b x = record { answer = Setting; reader = r; buffer = b }
-step g TooShort r b x = record { answer = TooShort; reader = r; buffer = b }
-step g State r b x = record { answer = State; reader = r; buffer = b }
+step g (Refused n) r b x = record { answer = Refused n; reader = r; buffer = b }
 
 unfoldable pub fold : Settings → Scan → List ℕ → Scan
 fold g t [] = t
 fold g t (x ∷ xs) = fold g (step g (t .answer) (t .reader) (t .buffer) x) xs
 
--- What a call gives: the answer, the next state and how many bytes of the part were read; and the buffer.
-pub record Read : Type 0 where
-  pub reading : Reading
-  pub buffer : List ℕ
+-- what a call gives: the answer, the next state and how many bytes of the part were read; and the buffer
+abbrev pub refused : ℕ → Reader → List ℕ → Outcome Reading
+refused n r b = outcome (record { answer = Refused n; reader = r; used = 0 }) b
 
-abbrev pub given : Reading → List ℕ → Read
-given r b = record { reading = r; buffer = b }
-
-abbrev pub refused : Answer → Reader → List ℕ → Read
-refused a r b = record { reading = record { answer = a; reader = r; used = 0 }; buffer = b }
-
-abbrev pub scanned : ℕ → Scan → Read
-scanned k t = record { reading = record { answer = t .answer; reader = t .reader; used = t .reader .position - k }; buffer = t .buffer }
+abbrev pub scanned : ℕ → Scan → Outcome Reading
+scanned k t = outcome (record { answer = t .answer; reader = t .reader; used = t .reader .position - k }) (t .buffer)
 
 -- Order 1, 2, 11. Offsets are 64-bit numbers: a part that would lead past them is refused (11).
-unfoldable pub readOf : Settings → Reader → List ℕ → List ℕ → Read
+unfoldable pub readOf : Settings → Reader → List ℕ → List ℕ → Outcome Reading
 readOf g r xs b =
-    cond (not (valid g)) (refused Setting r b)
-    (cond (ltb (length b) (capacityOf g)) (refused TooShort r b)
-    (cond (ltb (18446744073709551615 - r .position) (length xs)) (refused State r b)
+    need (valid g) (refused 1 r b)
+    (need (leb (capacityOf g) (length b)) (refused 2 r b)
+    (need (leb (length xs) (greatestWord - r .position)) (refused 11 r b)
     (scanned (r .position) (fold g (record { answer = Pending; reader = r; buffer = b }) xs))))
 
 -- the state before the first byte of a stream

@@ -3,8 +3,8 @@ mod scan;
 
 ghost use mathlib.Core.Path.{_≡_};
 ghost use Rattle.stream.specs.Scan.{fresh};
+use refusal::Verdict;
 pub use scan::read;
-use verdict::Verdict;
 
 // Where a reader stands in the stream.
 pub enum Phase {
@@ -27,10 +27,8 @@ pub struct Reader {
 
 // What reading a part gives.
 pub enum Answer {
-    // Refused by 1, 2, 11.
-    Setting,
-    TooShort,
-    State,
+    // By 1, 2 or 11.
+    Refused(u64),
     // All of the part was read and brought no verdict.
     Pending,
     // The offset of a block's SB, and the verdict on it.

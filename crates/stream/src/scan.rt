@@ -4,16 +4,17 @@ use crate::Phase;
 use crate::Reader;
 use crate::Reading;
 use lists::find_stop;
+use refusal::Verdict;
 use settings::Settings;
-use verdict::Verdict;
 ghost use mathlib.Core.Path.{_≡_};
 ghost use Prim.Native.Nat.{_+_, _≤_};
 ghost use lib.ListN.{length};
 ghost use Rattle.settings.specs.Settings.{capacityOf};
-ghost use Rattle.stream.specs.Scan.{verdictOf, readOf, given};
+ghost use Rattle.lists.specs.Outcome.{outcome};
+ghost use Rattle.stream.specs.Scan.{storedVerdict, readOf};
 ghost use Rattle.stream.specs.Internal.{advanced, stored, from, Ready, Reads};
 ghost use Rattle.stream.specs.declared.Phase.the-variants.{Between, Inside, Ended};
-ghost use Rattle.stream.specs.declared.Answer.the-variants.{Pending, Found};
+ghost use Rattle.stream.specs.declared.Answer.the-variants.{Refused, Pending, Found};
 
 // How many bytes between SB and EB the buffer holds.
 fn capacity(settings: Settings) -> usize
@@ -50,13 +51,13 @@ fn store(limit: usize, held: usize, piece: &[u8], buffer: &mut [u8]) -> usize
 fn verdict_on(settings: Settings, held: usize, after: u8, buffer: &[u8]) -> Verdict
     requires { ⌜ settings .«data_limit» ≤ 99994 ⌝ }
     requires { ⌜ capacityOf settings ≤ length (now buffer) ⌝ }
-    ensures { λ r. ⌜ r ≡ verdictOf settings held (now (buffer .entry)) after ⌝ }
+    ensures { λ r. ⌜ r ≡ storedVerdict settings held (now (buffer .entry)) after ⌝ }
 {
     if capacity(settings) < held {
-        return Verdict::Long;
+        return Verdict::Refused(refusal::LONG, 0);
     }
-    if after != 13 {
-        return Verdict::Shape;
+    if after != b'\r' {
+        return Verdict::Refused(refusal::SHAPE, 0);
     }
     block::judge_block(settings, &buffer[..held])
 }
@@ -161,7 +162,13 @@ fn read_inside(
     }
     let x = part[stop];
     if x == settings.start_block {
-        return found_inside(start, Verdict::Interrupted, here, here + 1, stop + 1);
+        return found_inside(
+            start,
+            Verdict::Refused(refusal::INTERRUPTED, 0),
+            here,
+            here + 1,
+            stop + 1,
+        );
     }
     read_ended(settings, held, start, position, part, stop + 1, buffer)
 }
@@ -186,11 +193,11 @@ fn read_between(
     read_inside(settings, 0, here, position, part, stop + 1, buffer)
 }
 
-fn refuse(answer: Answer, reader: Reader) -> Reading
-    ensures { λ r. ⌜ r ≡ record { answer = answer; reader = reader; used = 0 } ⌝ }
+fn refuse(number: u64, reader: Reader) -> Reading
+    ensures { λ r. ⌜ r ≡ record { answer = Refused number; reader = reader; used = 0 } ⌝ }
 {
     Reading {
-        answer,
+        answer: Answer::Refused(number),
         reader,
         used: 0,
     }
@@ -214,16 +221,16 @@ fn read_part(settings: Settings, reader: Reader, part: &[u8], buffer: &mut [u8])
 
 // Reads a part of the stream up to the first verdict, or all of it.
 pub fn read(settings: Settings, reader: Reader, part: &[u8], buffer: &mut [u8]) -> Reading
-    ensures { λ r. ⌜ given r (now (buffer .exit)) ≡ readOf settings reader (now (part .entry)) (now (buffer .entry)) ⌝ }
+    ensures { λ r. ⌜ outcome r (now (buffer .exit)) ≡ readOf settings reader (now (part .entry)) (now (buffer .entry)) ⌝ }
 {
     if !settings.is_valid() {
-        return refuse(Answer::Setting, reader);
+        return refuse(refusal::SETTING, reader);
     }
     if buffer.len() < capacity(settings) {
-        return refuse(Answer::TooShort, reader);
+        return refuse(refusal::TOO_SHORT, reader);
     }
-    if 18446744073709551615 - reader.position < part.len() {
-        return refuse(Answer::State, reader);
+    if usize::MAX - reader.position < part.len() {
+        return refuse(refusal::STATE, reader);
     }
     read_part(settings, reader, part, buffer)
 }

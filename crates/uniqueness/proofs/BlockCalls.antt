@@ -8,8 +8,6 @@ use Rattle.block_calls.proofs.fresh_words as fresh-words-contract
 use Rattle.block_calls.proofs.fresh_words.Reads as fresh-words-reads
 use Rattle.block_calls.proofs.read_words as read-words-contract
 use Rattle.block_calls.proofs.read_words.Reads as read-words-reads
-use Rattle.block_calls.proofs.report_written as report-written-contract
-use Rattle.block_calls.proofs.report_written.Reads as report-written-reads
 use Rattle.block_calls.proofs.write_words as write-words-contract
 use Rattle.block_calls.proofs.write_words.Reads as write-words-reads
 
@@ -17,7 +15,7 @@ pub check-words : Unique check-words-contract.ended (λ M. check-words-contract.
 check-words = record {
   told = check-words-reads.Learnt;
   says = λ M 𝓤 H A mem run. refl;
-  one = λ κs a z z′ ws ws′ h h′. once h h′ (λ y. y .number) (λ y. (tt, (tt, (y .verdict, tt))));
+  one = λ κs a z z′ ws ws′ h h′. once h h′ (λ y. y .number) (λ y. (tt, (tt, (y .report, tt))));
 }
 
 pub fresh-words : Unique fresh-words-contract.ended (λ M. fresh-words-contract.clauses {M = M})
@@ -31,14 +29,7 @@ pub read-words : Unique read-words-contract.ended (λ M. read-words-contract.cla
 read-words = record {
   told = read-words-reads.Learnt;
   says = λ M 𝓤 H A mem run. refl;
-  one = λ κs a z z′ ws ws′ h h′. once h h′ (λ y. y .number) (λ y. (tt, (y .state, (tt, (y .buffer, (y .verdict, tt))))));
-}
-
-pub report-written : Unique report-written-contract.ended (λ M. report-written-contract.clauses {M = M})
-report-written = record {
-  told = report-written-reads.Learnt;
-  says = λ M 𝓤 H A mem run. refl;
-  one = λ κs a z z′ ws ws′ h h′. once h h′ (λ y. y .number) (λ y. (tt, (y .report, tt)));
+  one = λ κs a z z′ ws ws′ h h′. once h h′ (λ y. y .number) (λ y. (tt, (y .state, (tt, (y .buffer, (y .report, tt))))));
 }
 
 pub write-words : Unique write-words-contract.ended (λ M. write-words-contract.clauses {M = M})

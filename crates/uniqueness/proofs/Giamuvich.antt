@@ -76,28 +76,28 @@ pub gmv-hybrid-read : Unique gmv-hybrid-read-contract.ended (λ M. gmv-hybrid-re
 gmv-hybrid-read = record {
   told = gmv-hybrid-read-reads.Learnt;
   says = λ M 𝓤 H A mem run. refl;
-  one = λ κs a z z′ ws ws′ h h′. once h h′ (λ y. y .number) (λ y. (tt, (tt, (tt, (y .state, (tt, (y .buffer, (y .verdict, tt))))))));
+  one = λ κs a z z′ ws ws′ h h′. once h h′ (λ y. y .number) (λ y. (tt, (tt, (tt, (y .state, (tt, (y .buffer, (y .report, tt))))))));
 }
 
 pub gmv-minimal-read : Unique gmv-minimal-read-contract.ended (λ M. gmv-minimal-read-contract.clauses {M = M})
 gmv-minimal-read = record {
   told = gmv-minimal-read-reads.Learnt;
   says = λ M 𝓤 H A mem run. refl;
-  one = λ κs a z z′ ws ws′ h h′. once h h′ (λ y. y .number) (λ y. (tt, (y .state, (tt, (y .buffer, (y .verdict, tt))))));
+  one = λ κs a z z′ ws ws′ h h′. once h h′ (λ y. y .number) (λ y. (tt, (y .state, (tt, (y .buffer, (y .report, tt))))));
 }
 
 pub gmv-hybrid-check : Unique gmv-hybrid-check-contract.ended (λ M. gmv-hybrid-check-contract.clauses {M = M})
 gmv-hybrid-check = record {
   told = gmv-hybrid-check-reads.Learnt;
   says = λ M 𝓤 H A mem run. refl;
-  one = λ κs a z z′ ws ws′ h h′. once h h′ (λ y. y .number) (λ y. (tt, (tt, (tt, (tt, (y .verdict, tt))))));
+  one = λ κs a z z′ ws ws′ h h′. once h h′ (λ y. y .number) (λ y. (tt, (tt, (tt, (tt, (y .report, tt))))));
 }
 
 pub gmv-minimal-check : Unique gmv-minimal-check-contract.ended (λ M. gmv-minimal-check-contract.clauses {M = M})
 gmv-minimal-check = record {
   told = gmv-minimal-check-reads.Learnt;
   says = λ M 𝓤 H A mem run. refl;
-  one = λ κs a z z′ ws ws′ h h′. once h h′ (λ y. y .number) (λ y. (tt, (tt, (y .verdict, tt))));
+  one = λ κs a z z′ ws ws′ h h′. once h h′ (λ y. y .number) (λ y. (tt, (tt, (y .report, tt))));
 }
 
 pub gmv-hybrid-write : Unique gmv-hybrid-write-contract.ended (λ M. gmv-hybrid-write-contract.clauses {M = M})
@@ -132,21 +132,21 @@ pub gmv-field-next : Unique gmv-field-next-contract.ended (λ M. gmv-field-next-
 gmv-field-next = record {
   told = gmv-field-next-reads.Learnt;
   says = λ M 𝓤 H A mem run. refl;
-  one = λ κs a z z′ ws ws′ h h′. once h h′ (λ y. y .number) (λ y. (tt, (tt, (y .words, tt))));
+  one = λ κs a z z′ ws ws′ h h′. once h h′ (λ y. y .number) (λ y. (tt, (tt, (y .report, tt))));
 }
 
 pub gmv-header-read : Unique gmv-header-read-contract.ended (λ M. gmv-header-read-contract.clauses {M = M})
 gmv-header-read = record {
   told = gmv-header-read-reads.Learnt;
   says = λ M 𝓤 H A mem run. refl;
-  one = λ κs a z z′ ws ws′ h h′. once h h′ (λ y. y .number) (λ y. (tt, (y .words, tt)));
+  one = λ κs a z z′ ws ws′ h h′. once h h′ (λ y. y .number) (λ y. (tt, (y .report, tt)));
 }
 
 pub gmv-answer-read : Unique gmv-answer-read-contract.ended (λ M. gmv-answer-read-contract.clauses {M = M})
 gmv-answer-read = record {
   told = gmv-answer-read-reads.Learnt;
   says = λ M 𝓤 H A mem run. refl;
-  one = λ κs a z z′ ws ws′ h h′. once h h′ (λ y. y .number) (λ y. (tt, (y .words, tt)));
+  one = λ κs a z z′ ws ws′ h h′. once h h′ (λ y. y .number) (λ y. (tt, (y .report, tt)));
 }
 
 pub gmv-answer-write : Unique gmv-answer-write-contract.ended (λ M. gmv-answer-write-contract.clauses {M = M})

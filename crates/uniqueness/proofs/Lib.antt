@@ -12,13 +12,13 @@ pub mod Numbers
 pub mod Once
 pub mod Receiver
 pub mod ReceiverCalls
+pub mod Refusal
 pub mod Sender
 pub mod SenderCalls
 pub mod Settings
 pub mod Station
 pub mod StationCalls
 pub mod Stream
-pub mod Verdict
 pub mod WholeBlock
 pub mod Words
 pub mod Writer

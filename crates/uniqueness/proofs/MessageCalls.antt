@@ -26,21 +26,21 @@ pub next-field-words : Unique next-field-words-contract.ended (λ M. next-field-
 next-field-words = record {
   told = next-field-words-reads.Learnt;
   says = λ M 𝓤 H A mem run. refl;
-  one = λ κs a z z′ ws ws′ h h′. once h h′ (λ y. y .number) (λ y. (tt, (tt, (y .words, tt))));
+  one = λ κs a z z′ ws ws′ h h′. once h h′ (λ y. y .number) (λ y. (tt, (tt, (y .report, tt))));
 }
 
 pub read-header-words : Unique read-header-words-contract.ended (λ M. read-header-words-contract.clauses {M = M})
 read-header-words = record {
   told = read-header-words-reads.Learnt;
   says = λ M 𝓤 H A mem run. refl;
-  one = λ κs a z z′ ws ws′ h h′. once h h′ (λ y. y .number) (λ y. (tt, (y .words, tt)));
+  one = λ κs a z z′ ws ws′ h h′. once h h′ (λ y. y .number) (λ y. (tt, (y .report, tt)));
 }
 
 pub read-answer-words : Unique read-answer-words-contract.ended (λ M. read-answer-words-contract.clauses {M = M})
 read-answer-words = record {
   told = read-answer-words-reads.Learnt;
   says = λ M 𝓤 H A mem run. refl;
-  one = λ κs a z z′ ws ws′ h h′. once h h′ (λ y. y .number) (λ y. (tt, (y .words, tt)));
+  one = λ κs a z z′ ws ws′ h h′. once h h′ (λ y. y .number) (λ y. (tt, (y .report, tt)));
 }
 
 pub write-answer-words : Unique write-answer-words-contract.ended (λ M. write-answer-words-contract.clauses {M = M})

@@ -10,8 +10,6 @@ use Rattle.messages.proofs.write_control as write-control-contract
 use Rattle.messages.proofs.write_control.Reads as write-control-reads
 use Rattle.messages.proofs.MessageType.from_letters as MessageType-from-letters-contract
 use Rattle.messages.proofs.MessageType.from_letters.Reads as MessageType-from-letters-reads
-use Rattle.messages.proofs.MessageWritten.message_length as MessageWritten-message-length-contract
-use Rattle.messages.proofs.MessageWritten.message_length.Reads as MessageWritten-message-length-reads
 
 pub write-answer : Unique write-answer-contract.ended (λ M. write-answer-contract.clauses {M = M})
 write-answer = record {
@@ -37,13 +35,6 @@ write-control = record {
 pub MessageType-from-letters : Unique MessageType-from-letters-contract.ended (λ M. MessageType-from-letters-contract.clauses {M = M})
 MessageType-from-letters = record {
   told = MessageType-from-letters-reads.Learnt;
-  says = λ M 𝓤 H A mem run. refl;
-  one = λ κs a z z′ ws ws′ h h′. (h ∙ sym h′, refl);
-}
-
-pub MessageWritten-message-length : Unique MessageWritten-message-length-contract.ended (λ M. MessageWritten-message-length-contract.clauses {M = M})
-MessageWritten-message-length = record {
-  told = MessageWritten-message-length-reads.Learnt;
   says = λ M 𝓤 H A mem run. refl;
   one = λ κs a z z′ ws ws′ h h′. (h ∙ sym h′, refl);
 }

@@ -36,5 +36,5 @@ pub write-number : Unique write-number-contract.ended (λ M. write-number-contra
 write-number = record {
   told = write-number-reads.Learnt;
   says = λ M 𝓤 H A mem run. refl;
-  one = λ κs a z z′ ws ws′ h h′. once h h′ (λ y. tt) (λ y. (y, (tt, (tt, tt))));
+  one = λ κs a z z′ ws ws′ h h′. once h h′ (λ y. tt) (λ y. (y, (tt, tt)));
 }

@@ -13,10 +13,16 @@ use Rattle.settings.proofs.Settings.hybrid as Settings-hybrid-contract
 use Rattle.settings.proofs.Settings.hybrid.Reads as Settings-hybrid-reads
 use Rattle.settings.proofs.Settings.minimal as Settings-minimal-contract
 use Rattle.settings.proofs.Settings.minimal.Reads as Settings-minimal-reads
+use Rattle.settings.proofs.Settings.hybrid_link as Settings-hybrid-link-contract
+use Rattle.settings.proofs.Settings.hybrid_link.Reads as Settings-hybrid-link-reads
+use Rattle.settings.proofs.Settings.minimal_link as Settings-minimal-link-contract
+use Rattle.settings.proofs.Settings.minimal_link.Reads as Settings-minimal-link-reads
 use Rattle.settings.proofs.Settings.is_valid as Settings-is-valid-contract
 use Rattle.settings.proofs.Settings.is_valid.Reads as Settings-is-valid-reads
 use Rattle.settings.proofs.Settings.is_link as Settings-is-link-contract
 use Rattle.settings.proofs.Settings.is_link.Reads as Settings-is-link-reads
+use Rattle.settings.proofs.Settings.is_link_limit as Settings-is-link-limit-contract
+use Rattle.settings.proofs.Settings.is_link_limit.Reads as Settings-is-link-limit-reads
 use Rattle.settings.proofs.Settings.data_offset as Settings-data-offset-contract
 use Rattle.settings.proofs.Settings.data_offset.Reads as Settings-data-offset-reads
 
@@ -62,6 +68,20 @@ Settings-minimal = record {
   one = λ κs a z z′ ws ws′ h h′. (h ∙ sym h′, refl);
 }
 
+pub Settings-hybrid-link : Unique Settings-hybrid-link-contract.ended (λ M. Settings-hybrid-link-contract.clauses {M = M})
+Settings-hybrid-link = record {
+  told = Settings-hybrid-link-reads.Learnt;
+  says = λ M 𝓤 H A mem run. refl;
+  one = λ κs a z z′ ws ws′ h h′. (h ∙ sym h′, refl);
+}
+
+pub Settings-minimal-link : Unique Settings-minimal-link-contract.ended (λ M. Settings-minimal-link-contract.clauses {M = M})
+Settings-minimal-link = record {
+  told = Settings-minimal-link-reads.Learnt;
+  says = λ M 𝓤 H A mem run. refl;
+  one = λ κs a z z′ ws ws′ h h′. (h ∙ sym h′, refl);
+}
+
 pub Settings-is-valid : Unique Settings-is-valid-contract.ended (λ M. Settings-is-valid-contract.clauses {M = M})
 Settings-is-valid = record {
   told = Settings-is-valid-reads.Learnt;
@@ -72,6 +92,13 @@ Settings-is-valid = record {
 pub Settings-is-link : Unique Settings-is-link-contract.ended (λ M. Settings-is-link-contract.clauses {M = M})
 Settings-is-link = record {
   told = Settings-is-link-reads.Learnt;
+  says = λ M 𝓤 H A mem run. refl;
+  one = λ κs a z z′ ws ws′ h h′. (h ∙ sym h′, refl);
+}
+
+pub Settings-is-link-limit : Unique Settings-is-link-limit-contract.ended (λ M. Settings-is-link-limit-contract.clauses {M = M})
+Settings-is-link-limit = record {
+  told = Settings-is-link-limit-reads.Learnt;
   says = λ M 𝓤 H A mem run. refl;
   one = λ κs a z z′ ws ws′ h h′. (h ∙ sym h′, refl);
 }

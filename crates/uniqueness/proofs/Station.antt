@@ -6,8 +6,6 @@ use Rattle.station.proofs.good_block as good-block-contract
 use Rattle.station.proofs.good_block.Reads as good-block-reads
 use Rattle.station.proofs.bad_block as bad-block-contract
 use Rattle.station.proofs.bad_block.Reads as bad-block-reads
-use Rattle.station.proofs.enquiry_block as enquiry-block-contract
-use Rattle.station.proofs.enquiry_block.Reads as enquiry-block-reads
 use Rattle.station.proofs.end_of_transmission as end-of-transmission-contract
 use Rattle.station.proofs.end_of_transmission.Reads as end-of-transmission-reads
 use Rattle.station.proofs.station_opened as station-opened-contract
@@ -23,13 +21,6 @@ good-block = record {
 pub bad-block : Unique bad-block-contract.ended (λ M. bad-block-contract.clauses {M = M})
 bad-block = record {
   told = bad-block-reads.Learnt;
-  says = λ M 𝓤 H A mem run. refl;
-  one = λ κs a z z′ ws ws′ h h′. (h ∙ sym h′, refl);
-}
-
-pub enquiry-block : Unique enquiry-block-contract.ended (λ M. enquiry-block-contract.clauses {M = M})
-enquiry-block = record {
-  told = enquiry-block-reads.Learnt;
   says = λ M 𝓤 H A mem run. refl;
   one = λ κs a z z′ ws ws′ h h′. (h ∙ sym h′, refl);
 }

@@ -8,8 +8,6 @@ use Rattle.station_calls.proofs.opened_words as opened-words-contract
 use Rattle.station_calls.proofs.opened_words.Reads as opened-words-reads
 use Rattle.station_calls.proofs.bad_words as bad-words-contract
 use Rattle.station_calls.proofs.bad_words.Reads as bad-words-reads
-use Rattle.station_calls.proofs.enquiry_words as enquiry-words-contract
-use Rattle.station_calls.proofs.enquiry_words.Reads as enquiry-words-reads
 use Rattle.station_calls.proofs.end_words as end-words-contract
 use Rattle.station_calls.proofs.end_words.Reads as end-words-reads
 use Rattle.station_calls.proofs.block_words as block-words-contract
@@ -32,13 +30,6 @@ opened-words = record {
 pub bad-words : Unique bad-words-contract.ended (λ M. bad-words-contract.clauses {M = M})
 bad-words = record {
   told = bad-words-reads.Learnt;
-  says = λ M 𝓤 H A mem run. refl;
-  one = λ κs a z z′ ws ws′ h h′. once h h′ (λ y. y .number) (λ y. (y .state, (y .report, tt)));
-}
-
-pub enquiry-words : Unique enquiry-words-contract.ended (λ M. enquiry-words-contract.clauses {M = M})
-enquiry-words = record {
-  told = enquiry-words-reads.Learnt;
   says = λ M 𝓤 H A mem run. refl;
   one = λ κs a z z′ ws ws′ h h′. once h h′ (λ y. y .number) (λ y. (y .state, (y .report, tt)));
 }

@@ -18,5 +18,5 @@ pub read : Unique read-contract.ended (λ M. read-contract.clauses {M = M})
 read = record {
   told = read-reads.Learnt;
   says = λ M 𝓤 H A mem run. refl;
-  one = λ κs a z z′ ws ws′ h h′. once h h′ (λ y. y .reading) (λ y. (tt, (tt, (tt, (y .buffer, tt)))));
+  one = λ κs a z z′ ws ws′ h h′. once h h′ (λ y. y .answer) (λ y. (tt, (tt, (tt, (y .buffer, tt)))));
 }

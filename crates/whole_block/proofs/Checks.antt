@@ -11,14 +11,13 @@ use lib.Dec.{eqb}
 use borrow.Author.Tests.{eq-eqb, ne-eqb}
 use Rattle.lists.proofs.Parts.{drop-more, drop-none}
 use Rattle.lists.specs.Bytes.{hasAny}
-use Rattle.verdict.specs.declared.Verdict.the-variants.{Shape, Interrupted}
+use Rattle.refusal.specs.declared.Verdict.the-variants.{Refused}
 use Rattle.stream.proofs.Run.{run-append, free-run, free-after, clear-free}
 use Rattle.stream.proofs.Store.{Stopped}
-use Rattle.stream.specs.Stream.{Said, Mode, between, inside, ended, said, move, run, outcome, verdicts}
+use Rattle.stream.specs.Stream.{Judged, Mode, between, inside, ended, judged, move, run, endVerdict, verdicts}
 use Rattle.settings.specs.Settings.{valid}
 use Rattle.settings.specs.declared.Settings.{Settings}
 use Rattle.whole_block.specs.Whole.{beginsWith, only, initial, wholeOf, checkOf}
-use Rattle.whole_block.specs.declared.Checked.the-variants.{Setting, Judged}
 
 -- ---- all bytes but the last
 initial-last : (l : List ℕ) (x : ℕ) → initial (l ++ x ∷ []) ≡ l
@@ -31,7 +30,7 @@ initial-longer [] x y ys = refl
 initial-longer (z ∷ []) x y ys = refl
 initial-longer (z ∷ w ∷ l) x y ys = ap (λ (m : List ℕ). z ∷ m) (initial-longer (w ∷ l) x y ys)
 
-only-none : (l : List Said) → Shape ≡ only l []
+only-none : (l : List Judged) → (Refused 5 0) ≡ only l []
 only-none [] = refl
 only-none (w ∷ l) = refl
 
@@ -43,7 +42,7 @@ run-none : (g : Settings) (k : ℕ) (m : Mode) → run g k m [] ≡ []
 unfolding run
 run-none g k m = refl
 
-run-one : (g : Settings) (k : ℕ) (m n : Mode) (x : ℕ) (w : Said) (ys : List ℕ) → move g k m x ≡ record { says = w ∷ []; mode = n }
+run-one : (g : Settings) (k : ℕ) (m n : Mode) (x : ℕ) (w : Judged) (ys : List ℕ) → move g k m x ≡ record { says = w ∷ []; mode = n }
     → run g k m (x ∷ ys) ≡ w ∷ run g (k + 1) n ys
 unfolding run
 run-one g k m n x w ys e = rw e
@@ -59,25 +58,25 @@ module _ (g : Settings) (p : List ℕ) (k : ℕ) (m : Mode) (b : beginsWith (g .
   none-yet = ap (λ (l : List ℕ). verdicts g l) (sym (append-nil p)) ∙ reach [] ∙ run-none g k m
 
   -- nothing more
-  pub whole-unfinished : Shape ≡ wholeOf g p
+  pub whole-unfinished : (Refused 5 0) ≡ wholeOf g p
   whole-unfinished =
-      only-none (verdicts g (initial p)) ∙ ap (λ (l : List Said). only (verdicts g (initial p)) l) (sym none-yet)
+      only-none (verdicts g (initial p)) ∙ ap (λ (l : List Judged). only (verdicts g (initial p)) l) (sym none-yet)
       ∙ sym (ap (λ (l : List ℕ). wholeOf g l) (sym (append-nil p)) ∙ whole [] ∙ ap (λ (l : List ℕ). only (verdicts g (initial l)) (verdicts g l)) (append-nil p))
 
   -- one byte more, with which the verdict comes
-  pub whole-one : (x : ℕ) (w : Said) (n : Mode) → move g k m x ≡ record { says = w ∷ []; mode = n } → w .verdict ≡ wholeOf g (p ++ x ∷ [])
+  pub whole-one : (x : ℕ) (w : Judged) (n : Mode) → move g k m x ≡ record { says = w ∷ []; mode = n } → w .verdict ≡ wholeOf g (p ++ x ∷ [])
   whole-one x w n e =
-      let v : verdicts g (p ++ x ∷ []) ≡ w ∷ [] = reach (x ∷ []) ∙ run-one g k m n x w [] e ∙ ap (λ (l : List Said). w ∷ l) (run-none g (k + 1) n) in
+      let v : verdicts g (p ++ x ∷ []) ≡ w ∷ [] = reach (x ∷ []) ∙ run-one g k m n x w [] e ∙ ap (λ (l : List Judged). w ∷ l) (run-none g (k + 1) n) in
       sym (whole (x ∷ []) ∙ ap (λ (l : List ℕ). only (verdicts g l) (verdicts g (p ++ x ∷ []))) (initial-last p x)
-      ∙ ap (λ (l : List Said). only l (verdicts g (p ++ x ∷ []))) none-yet ∙ ap (λ (l : List Said). only [] l) v)
+      ∙ ap (λ (l : List Judged). only l (verdicts g (p ++ x ∷ []))) none-yet ∙ ap (λ (l : List Judged). only [] l) v)
 
   -- more bytes after that
-  pub whole-early : (x y : ℕ) (ys : List ℕ) (w : Said) (n : Mode) → move g k m x ≡ record { says = w ∷ []; mode = n }
-      → Shape ≡ wholeOf g (p ++ x ∷ y ∷ ys)
+  pub whole-early : (x y : ℕ) (ys : List ℕ) (w : Judged) (n : Mode) → move g k m x ≡ record { says = w ∷ []; mode = n }
+      → (Refused 5 0) ≡ wholeOf g (p ++ x ∷ y ∷ ys)
   whole-early x y ys w n e =
       let v : verdicts g (p ++ x ∷ initial (y ∷ ys)) ≡ w ∷ run g (k + 1) n (initial (y ∷ ys)) = reach (x ∷ initial (y ∷ ys)) ∙ run-one g k m n x w (initial (y ∷ ys)) e in
       sym (whole (x ∷ y ∷ ys) ∙ ap (λ (l : List ℕ). only (verdicts g l) (verdicts g (p ++ x ∷ y ∷ ys))) (initial-longer p x y ys)
-      ∙ ap (λ (l : List Said). only l (verdicts g (p ++ x ∷ y ∷ ys))) v)
+      ∙ ap (λ (l : List Judged). only l (verdicts g (p ++ x ∷ y ∷ ys))) v)
 
 -- ---- SB, a body without SB and EB, and then EB
 module _ (g : Settings) (body : List ℕ) (free : hasAny (g .«start_block») (g .«end_block») body ≡ false) where
@@ -101,12 +100,12 @@ module _ (g : Settings) (body : List ℕ) (free : hasAny (g .«start_block») (g
       ap (λ (l : List ℕ). verdicts g l) (append-assoc (g .«start_block» ∷ body) (g .«end_block» ∷ []) ys)
       ∙ reach-body (g .«end_block» ∷ ys) ∙ ends e ys
 
-pub move-interrupted : (g : Settings) (k s : ℕ) (body : List ℕ) → move g k (inside s body) (g .«start_block») ≡ record { says = said g s Interrupted body ∷ []; mode = inside k [] }
+pub move-interrupted : (g : Settings) (k s : ℕ) (body : List ℕ) → move g k (inside s body) (g .«start_block») ≡ record { says = judged g s (Refused 8 0) body ∷ []; mode = inside k [] }
 unfolding move
 move-interrupted g k s body = rw (eq-eqb (g .«start_block») (g .«start_block») refl)
 
 pub move-ended : (g : Settings) (k s x : ℕ) (body : List ℕ)
-    → move g k (ended s body) x ≡ record { says = said g s (outcome g body x) body ∷ []; mode = cond (eqb x (g .«start_block»)) (inside k []) between }
+    → move g k (ended s body) x ≡ record { says = judged g s (endVerdict g body x) body ∷ []; mode = cond (eqb x (g .«start_block»)) (inside k []) between }
 unfolding move
 move-ended g k s x body = refl
 
@@ -140,21 +139,21 @@ module _ (g : Settings) (xs : List ℕ) (m : ℕ) (h : Begins g xs m) where
   stop-is : 1 + m < length xs → (l : List ℕ) → (x : ℕ) → getD xs (1 + m) 0 ≡ x → drop (1 + m + 1) xs ≡ l → drop (1 + m) xs ≡ x ∷ l
   stop-is u l x e f = drop-more xs (1 + m) u ∙ rw (e, f)
 
-  pub check-unfinished : 1 + m ≡ length xs → Shape ≡ wholeOf g xs
+  pub check-unfinished : 1 + m ≡ length xs → (Refused 5 0) ≡ wholeOf g xs
   check-unfinished e =
       whole-unfinished g (g .«start_block» ∷ body) (1 + length body) (inside 0 body) same-block (reach-body g body free)
       ∙ ap (λ (l : List ℕ). wholeOf g l) (sym (split-with [] (drop-none xs (1 + m) (omega arith)) ∙ append-nil (g .«start_block» ∷ body)))
 
-  pub check-interrupted : getD xs (1 + m) 0 ≡ g .«start_block» → 1 + m + 1 ≡ length xs → Interrupted ≡ wholeOf g xs
+  pub check-interrupted : getD xs (1 + m) 0 ≡ g .«start_block» → 1 + m + 1 ≡ length xs → (Refused 8 0) ≡ wholeOf g xs
   check-interrupted e l =
       whole-one g (g .«start_block» ∷ body) (1 + length body) (inside 0 body) same-block (reach-body g body free)
-      (g .«start_block») (said g 0 Interrupted body) _ (move-interrupted g (1 + length body) 0 body)
+      (g .«start_block») (judged g 0 (Refused 8 0) body) _ (move-interrupted g (1 + length body) 0 body)
       ∙ ap (λ (z : List ℕ). wholeOf g z) (sym (split-with (g .«start_block» ∷ []) (stop-is (omega arith) [] _ e (drop-none xs (1 + m + 1) (omega arith)))))
 
-  pub check-interrupted-early : getD xs (1 + m) 0 ≡ g .«start_block» → 1 + m + 1 < length xs → Shape ≡ wholeOf g xs
+  pub check-interrupted-early : getD xs (1 + m) 0 ≡ g .«start_block» → 1 + m + 1 < length xs → (Refused 5 0) ≡ wholeOf g xs
   check-interrupted-early e l =
       whole-early g (g .«start_block» ∷ body) (1 + length body) (inside 0 body) same-block (reach-body g body free)
-      (g .«start_block») (getD xs (1 + m + 1) 0) (drop (1 + m + 1 + 1) xs) (said g 0 Interrupted body) _ (move-interrupted g (1 + length body) 0 body)
+      (g .«start_block») (getD xs (1 + m + 1) 0) (drop (1 + m + 1 + 1) xs) (judged g 0 (Refused 8 0) body) _ (move-interrupted g (1 + length body) 0 body)
       ∙ ap (λ (z : List ℕ). wholeOf g z) (sym (split-with _ (stop-is (omega arith) _ _ e (drop-more xs (1 + m + 1) l))))
 
   module _ (f : getD xs (1 + m) 0 ≡ g .«start_block» → ⊥) (e : getD xs (1 + m) 0 ≡ g .«end_block») where
@@ -164,43 +163,43 @@ module _ (g : Settings) (xs : List ℕ) (m : ℕ) (h : Begins g xs m) where
     closed : (l : List ℕ) → 1 + m < length xs → drop (1 + m + 1) xs ≡ l → xs ≡ g .«start_block» ∷ body ++ g .«end_block» ∷ [] ++ l
     closed l u q = split-with _ (stop-is u l (g .«end_block») e q) ∙ sym (append-assoc (g .«start_block» ∷ body) (g .«end_block» ∷ []) l)
 
-    pub check-open : 1 + m + 1 ≡ length xs → Shape ≡ wholeOf g xs
+    pub check-open : 1 + m + 1 ≡ length xs → (Refused 5 0) ≡ wholeOf g xs
     check-open l =
         whole-unfinished g (g .«start_block» ∷ body ++ g .«end_block» ∷ []) (1 + length body + 1) (ended 0 body) same-block (reach-end g body free apart)
         ∙ ap (λ (z : List ℕ). wholeOf g z) (sym (closed [] (omega arith) (drop-none xs (1 + m + 1) (omega arith)) ∙ append-nil (g .«start_block» ∷ body ++ g .«end_block» ∷ [])))
 
-    pub check-early : 1 + m + 1 + 1 < length xs → Shape ≡ wholeOf g xs
+    pub check-early : 1 + m + 1 + 1 < length xs → (Refused 5 0) ≡ wholeOf g xs
     check-early l =
         whole-early g (g .«start_block» ∷ body ++ g .«end_block» ∷ []) (1 + length body + 1) (ended 0 body) same-block (reach-end g body free apart)
         (getD xs (1 + m + 1) 0) (getD xs (1 + m + 1 + 1) 0) (drop (1 + m + 1 + 1 + 1) xs) _ _ (move-ended g (1 + length body + 1) 0 (getD xs (1 + m + 1) 0) body)
         ∙ ap (λ (z : List ℕ). wholeOf g z) (sym (closed _ (omega arith) (drop-more xs (1 + m + 1) (omega arith) ∙ ap (λ (r : List ℕ). getD xs (1 + m + 1) 0 ∷ r) (drop-more xs (1 + m + 1 + 1) l))))
 
-    pub check-verdict : 1 + m + 1 + 1 ≡ length xs → outcome g (take (1 + m - 1) (drop 1 xs)) (getD xs (1 + m + 1) 0) ≡ wholeOf g xs
+    pub check-verdict : 1 + m + 1 + 1 ≡ length xs → endVerdict g (take (1 + m - 1) (drop 1 xs)) (getD xs (1 + m + 1) 0) ≡ wholeOf g xs
     unfolding body
     check-verdict l =
-        ap (λ (n : ℕ). outcome g (take n (drop 1 xs)) (getD xs (1 + m + 1) 0)) (add-sub-cancel-left 1 m)
+        ap (λ (n : ℕ). endVerdict g (take n (drop 1 xs)) (getD xs (1 + m + 1) 0)) (add-sub-cancel-left 1 m)
         ∙ whole-one g (g .«start_block» ∷ body ++ g .«end_block» ∷ []) (1 + length body + 1) (ended 0 body) same-block (reach-end g body free apart)
         (getD xs (1 + m + 1) 0) _ _ (move-ended g (1 + length body + 1) 0 (getD xs (1 + m + 1) 0) body)
         ∙ ap (λ (z : List ℕ). wholeOf g z) (sym (closed _ (omega arith) (drop-more xs (1 + m + 1) (omega arith) ∙ ap (λ (r : List ℕ). getD xs (1 + m + 1) 0 ∷ r) (drop-none xs (1 + m + 1 + 1) (omega arith)))))
 
 -- bytes that do not begin with SB
-pub whole-empty : (g : Settings) → Shape ≡ wholeOf g []
+pub whole-empty : (g : Settings) → (Refused 5 0) ≡ wholeOf g []
 unfolding wholeOf
 whole-empty g = refl
 
-pub whole-other : (g : Settings) (xs : List ℕ) → 0 < length xs → (getD xs 0 0 ≡ g .«start_block» → ⊥) → Shape ≡ wholeOf g xs
+pub whole-other : (g : Settings) (xs : List ℕ) → 0 < length xs → (getD xs 0 0 ≡ g .«start_block» → ⊥) → (Refused 5 0) ≡ wholeOf g xs
 unfolding wholeOf
 whole-other g [] l f = absurd (omega arith)
 whole-other g (x ∷ xs) l f = rw (ne-eqb x (g .«start_block») f)
 
-pub whole-none : (g : Settings) (xs : List ℕ) → length xs ≡ 0 → Shape ≡ wholeOf g xs
+pub whole-none : (g : Settings) (xs : List ℕ) → length xs ≡ 0 → (Refused 5 0) ≡ wholeOf g xs
 whole-none g [] l = whole-empty g
 whole-none g (x ∷ xs) l = absurd (omega arith)
 
-pub check-setting : (g : Settings) (xs : List ℕ) → valid g ≡ false → Setting ≡ checkOf g xs
+pub check-setting : (g : Settings) (xs : List ℕ) → valid g ≡ false → Refused 1 0 ≡ checkOf g xs
 unfolding checkOf
 check-setting g xs e = rw e
 
-pub check-judged : (g : Settings) (xs : List ℕ) → valid g ≡ true → Judged (wholeOf g xs) ≡ checkOf g xs
+pub check-judged : (g : Settings) (xs : List ℕ) → valid g ≡ true → wholeOf g xs ≡ checkOf g xs
 unfolding checkOf
 check-judged g xs e = rw e

@@ -1,27 +1,25 @@
 -- Document 01, 'Reading a stream': the check of one whole block.
 use mathlib.Core.List.{List, [], _∷_}
-use mathlib.Core.Bool.{Bool, false, cond}
+use mathlib.Core.Bool.{Bool, false}
 use Prim.Native.Nat.{ℕ}
 use lib.Dec.{eqb}
+use Rattle.lists.specs.Outcome.{need}
 use Rattle.settings.specs.Settings.{valid}
-use Rattle.verdict.specs.Verdict.{numberOf}
 use Rattle.settings.specs.declared.Settings.{Settings}
-use Rattle.verdict.specs.declared.Verdict.{Verdict}
-use Rattle.verdict.specs.declared.Verdict.the-variants.{Shape}
-use Rattle.stream.specs.Stream.{Said, verdicts}
-use Rattle.whole_block.specs.declared.Checked.{Checked}
-use Rattle.whole_block.specs.declared.Checked.the-variants.{Setting, Judged}
+use Rattle.refusal.specs.declared.Verdict.{Verdict}
+use Rattle.refusal.specs.declared.Verdict.the-variants.{Refused}
+use Rattle.stream.specs.Stream.{Judged, verdicts}
 
 abbrev pub beginsWith : ℕ → List ℕ → Bool
 beginsWith sb [] = false
 beginsWith sb (x ∷ xs) = eqb x sb
 
 -- the one verdict of the whole where there was none before its last byte
-abbrev pub only : List Said → List Said → Verdict
-only [] [] = Shape
+abbrev pub only : List Judged → List Judged → Verdict
+only [] [] = (Refused 5 0)
 only [] (w ∷ []) = w .verdict
-only [] (w ∷ v ∷ r) = Shape
-only (w ∷ r) l = Shape
+only [] (w ∷ v ∷ r) = (Refused 5 0)
+only (w ∷ r) l = (Refused 5 0)
 
 -- all bytes but the last
 abbrev pub initial : List ℕ → List ℕ
@@ -32,12 +30,7 @@ initial (x ∷ y ∷ ys) = x ∷ initial (y ∷ ys)
 -- "as the stream does where the bytes begin with SB and give exactly one verdict, at their last byte; otherwise 5"
 unfoldable pub wholeOf : Settings → List ℕ → Verdict
 wholeOf g xs =
-    cond (beginsWith (g .«start_block») xs) (only (verdicts g (initial xs)) (verdicts g xs)) Shape
+    need (beginsWith (g .«start_block») xs) (Refused 5 0) (only (verdicts g (initial xs)) (verdicts g xs))
 
--- the number of each answer
-abbrev pub checkedNumber : Checked → ℕ
-checkedNumber Setting = 1
-checkedNumber (Judged v) = numberOf v
-
-unfoldable pub checkOf : Settings → List ℕ → Checked
-checkOf g xs = cond (valid g) (Judged (wholeOf g xs)) Setting
+unfoldable pub checkOf : Settings → List ℕ → Verdict
+checkOf g xs = need (valid g) (Refused 1 0) (wholeOf g xs)

@@ -1,28 +1,21 @@
 // Checking one whole block that lies in memory.
+use refusal::Verdict;
 use settings::Settings;
-use verdict::Verdict;
 ghost use mathlib.Core.Path.{_≡_};
 ghost use Prim.Native.Nat.{_<_};
 ghost use lib.ListN.{length, getD};
-ghost use Rattle.stream.specs.Stream.{outcome};
+ghost use Rattle.stream.specs.Stream.{endVerdict};
 ghost use Rattle.whole_block.specs.Whole.{wholeOf, checkOf};
 
-// What checking a whole block gives.
-pub enum Checked {
-    // Refused by 1.
-    Setting,
-    Judged(Verdict),
-}
-
 // The verdict on the bytes of a block between SB and EB, with the byte after EB.
-fn outcome_of(settings: Settings, body: &[u8], after: u8) -> Verdict
-    ensures { λ r. ⌜ r ≡ outcome settings (now (body .entry)) after ⌝ }
+fn end_verdict(settings: Settings, body: &[u8], after: u8) -> Verdict
+    ensures { λ r. ⌜ r ≡ endVerdict settings (now (body .entry)) after ⌝ }
 {
     if block::is_long(settings, body.len()) {
-        return Verdict::Long;
+        return Verdict::Refused(refusal::LONG, 0);
     }
-    if after != 13 {
-        return Verdict::Shape;
+    if after != b'\r' {
+        return Verdict::Refused(refusal::SHAPE, 0);
     }
     block::judge_block(settings, body)
 }
@@ -35,37 +28,43 @@ fn whole_verdict(settings: Settings, block: &[u8]) -> Verdict
 {
     let stop = 1 + lists::find_stop(&block[1..], settings.start_block, settings.end_block);
     if stop == block.len() {
-        return Verdict::Shape;
+        return Verdict::Refused(refusal::SHAPE, 0);
     }
     let after = stop + 1;
     if block[stop] == settings.start_block {
         if after == block.len() {
-            return Verdict::Interrupted;
+            return Verdict::Refused(refusal::INTERRUPTED, 0);
         }
-        return Verdict::Shape;
+        return Verdict::Refused(refusal::SHAPE, 0);
     }
     if after == block.len() {
-        return Verdict::Shape;
+        return Verdict::Refused(refusal::SHAPE, 0);
     }
     if after + 1 != block.len() {
-        return Verdict::Shape;
+        return Verdict::Refused(refusal::SHAPE, 0);
     }
-    outcome_of(settings, &block[1..stop], block[after])
+    end_verdict(settings, &block[1..stop], block[after])
 }
 
-// Checks one whole block: the stream's answer where the bytes begin with SB and give exactly one verdict, at their last
-// byte; otherwise Shape.
-pub fn check_block(settings: Settings, block: &[u8]) -> Checked
+// The stream's answer where the bytes begin with SB and give exactly one verdict, at their last byte; otherwise 5.
+pub fn judge_whole(settings: Settings, block: &[u8]) -> Verdict
+    ensures { λ r. ⌜ r ≡ wholeOf settings (now (block .entry)) ⌝ }
+{
+    if block.len() == 0 {
+        return Verdict::Refused(refusal::SHAPE, 0);
+    }
+    if block[0] != settings.start_block {
+        return Verdict::Refused(refusal::SHAPE, 0);
+    }
+    whole_verdict(settings, block)
+}
+
+// Checks one whole block, with settings that are looked at first.
+pub fn check_block(settings: Settings, block: &[u8]) -> Verdict
     ensures { λ r. ⌜ r ≡ checkOf settings (now (block .entry)) ⌝ }
 {
     if !settings.is_valid() {
-        return Checked::Setting;
+        return Verdict::Refused(refusal::SETTING, 0);
     }
-    if block.len() == 0 {
-        return Checked::Judged(Verdict::Shape);
-    }
-    if block[0] != settings.start_block {
-        return Checked::Judged(Verdict::Shape);
-    }
-    Checked::Judged(whole_verdict(settings, block))
+    judge_whole(settings, block)
 }

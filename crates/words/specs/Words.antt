@@ -1,26 +1,29 @@
 -- What the numbers of a C driver mean that hand a verdict on, and the words of a writer's report.
 use mathlib.Core.List.{List, [], _∷_}
-use mathlib.Core.Bool.{cond}
+use mathlib.Core.Bool.{cond, _&&_}
 use Prim.Native.Nat.{ℕ}
-use lib.Dec.{ltb, eqb}
-use Rattle.verdict.specs.declared.Verdict.{Verdict}
-use Rattle.verdict.specs.declared.Verdict.the-variants.{Accepted, Byte, Long, Shape, Count, Check, Interrupted}
+use lib.Dec.{leb, ltb, eqb}
+use Rattle.lists.specs.Bytes.{over}
+use Rattle.lists.specs.Outcome.{Called, called}
+use Rattle.refusal.specs.declared.Verdict.the-variants.{Accepted, Refused}
+use Rattle.refusal.specs.declared.Written.{Written}
+use Rattle.refusal.specs.declared.Written.the-variants.{Done, Refused as NotWritten}
 use Rattle.words.specs.declared.VerdictMade.{VerdictMade}
-use Rattle.words.specs.declared.VerdictMade.the-variants.{NoVerdict, AVerdict}
+use Rattle.words.specs.declared.VerdictMade.the-variants.{Unknown, Known}
 
 -- GMV_REPORT_BLOCK_LENGTH or GMV_REPORT_MESSAGE_LENGTH, then GMV_REPORT_FORBIDDEN_OFFSET
 abbrev pub reportWords : ℕ → ℕ → List ℕ
 reportWords n i = n ∷ i ∷ []
 
+-- a writer's answer as a number and a report. 1 and 2 change nothing
+unfoldable pub writeFinished : List ℕ → List ℕ → Written → Called
+writeFinished b p (Done n) = called 0 [] b (over p (reportWords n 0))
+writeFinished b p (NotWritten k i) = cond (leb k 2) (called k [] b p) (called k [] b (over p (reportWords 0 i)))
+
 -- a type over 255 is no byte, and so a wrong type, as 0 is
 abbrev pub typeByte : ℕ → ℕ
 typeByte t = cond (ltb 255 t) 0 t
 
--- the verdict that a reader gave, by its number and type
-abbrev pub verdictOf : ℕ → ℕ → VerdictMade
-verdictOf n t =
-    cond (eqb n 0) (AVerdict (Accepted (typeByte t) 0))
-    (cond (eqb n 3) (AVerdict (Byte 0))
-    (cond (eqb n 4) (AVerdict Long)
-    (cond (eqb n 5) (AVerdict Shape)
-    (cond (eqb n 6) (AVerdict Count) (cond (eqb n 7) (AVerdict Check) (cond (eqb n 8) (AVerdict Interrupted) NoVerdict))))))
+-- the verdict that a reader gave, by its number and type: a reader gives 0, or 3 to 8
+abbrev pub verdictFrom : ℕ → ℕ → VerdictMade
+verdictFrom n t = cond (eqb n 0) (Known (Accepted (typeByte t) 0)) (cond (leb 3 n && leb n 8) (Known (Refused n 0)) Unknown)

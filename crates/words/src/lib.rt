@@ -1,13 +1,16 @@
 // A verdict that a C driver hands on as numbers, and a report as its 64-bit words.
-use verdict::Verdict;
+use refusal::Verdict;
+use refusal::Written;
 ghost use mathlib.Core.Path.{_≡_};
+ghost use mathlib.Core.List.{[]};
 ghost use Rattle.lists.specs.Bytes.{over};
-ghost use Rattle.words.specs.Words.{reportWords, typeByte, verdictOf};
+ghost use Rattle.lists.specs.Outcome.{called};
+ghost use Rattle.words.specs.Words.{reportWords, writeFinished, typeByte, verdictFrom};
 
 // What a block's number and type from C stand for.
 pub enum VerdictMade {
-    NoVerdict,
-    AVerdict(Verdict),
+    Unknown,
+    Known(Verdict),
 }
 
 fn word(x: usize) -> u64
@@ -27,6 +30,25 @@ pub fn write_report(words: &mut [u64], length: usize, forbidden_offset: usize)
     words[1] = word(forbidden_offset);
 }
 
+// The number of what a writer answered, with the report written unless it was 1 or 2.
+pub fn report_written(written: Written, report: &mut [u64]) -> u64
+    ensures { λ r. ⌜ called r [] [] (now (report .exit)) ≡ writeFinished [] (now (report .entry)) written ⌝ }
+{
+    match written {
+        Written::Done(length) => {
+            write_report(report, length, 0);
+            0
+        }
+        Written::Refused(number, offset) => {
+            if number <= refusal::TOO_SHORT {
+                return number;
+            }
+            write_report(report, 0, offset);
+            number
+        }
+    }
+}
+
 // A type that is no byte counts as 0, which is no type.
 pub fn type_byte(t: u64) -> u8
     ensures { λ r. ⌜ r ≡ typeByte t ⌝ }
@@ -38,29 +60,14 @@ pub fn type_byte(t: u64) -> u8
 }
 
 // The verdict that a reader gave, by its number and type.
-pub fn verdict_of(number: u64, t: u64) -> VerdictMade
-    ensures { λ r. ⌜ r ≡ verdictOf number t ⌝ }
+pub fn verdict_from(number: u64, t: u64) -> VerdictMade
+    ensures { λ r. ⌜ r ≡ verdictFrom number t ⌝ }
 {
     if number == 0 {
-        return VerdictMade::AVerdict(Verdict::Accepted(type_byte(t), 0));
+        return VerdictMade::Known(Verdict::Accepted(type_byte(t), 0));
     }
-    if number == 3 {
-        return VerdictMade::AVerdict(Verdict::Byte(0));
+    if (refusal::BYTE <= number) & (number <= refusal::INTERRUPTED) {
+        return VerdictMade::Known(Verdict::Refused(number, 0));
     }
-    if number == 4 {
-        return VerdictMade::AVerdict(Verdict::Long);
-    }
-    if number == 5 {
-        return VerdictMade::AVerdict(Verdict::Shape);
-    }
-    if number == 6 {
-        return VerdictMade::AVerdict(Verdict::Count);
-    }
-    if number == 7 {
-        return VerdictMade::AVerdict(Verdict::Check);
-    }
-    if number == 8 {
-        return VerdictMade::AVerdict(Verdict::Interrupted);
-    }
-    VerdictMade::NoVerdict
+    VerdictMade::Unknown
 }

@@ -17,9 +17,11 @@ use Rattle.settings.specs.Settings.{byKind, valid}
 use Rattle.settings.specs.declared.Kind.{Kind}
 use Rattle.settings.specs.declared.Kind.the-variants.{Hybrid, Minimal}
 use Rattle.settings.specs.declared.Settings.{Settings}
-use Rattle.writer.specs.Write.{Outcome, frameOf, needOf, typeValid, refused, wrote, writeOf}
+use Rattle.writer.specs.Write.{frameLength, needOf, typeValid, refused, wrote, frameOf, writeOf}
 use Rattle.writer.specs.Internal.{hybridHeader, hybridTrailer}
-use Rattle.writer.specs.declared.Written.the-variants.{Setting, TooShort, Long, Shape, Byte, Block}
+use Rattle.refusal.specs.declared.Written.{Written}
+use Rattle.refusal.specs.declared.Written.the-variants.{Done}
+use Rattle.lists.specs.Outcome.{outcome}
 
 -- the part from b on, lent after the bytes vs were written from a on, and come back with ws at its beginning
 pub next-part : (l m vs ws last : List ℕ) (a b n : ℕ) → m ≡ put l a vs → b ≡ a + length vs → length ws ≡ n → a + length vs ≤ length l
@@ -49,9 +51,9 @@ pub hybrid-is : (s : Settings) (t : ℕ) (d : List ℕ)
 unfolding hybridHeader hybridTrailer hybridBlock hybridBody countField
 hybrid-is s t d =
     ap (λ (l : List ℕ). s .«start_block» ∷ l)
-    (regroup (t ∷ version) d (fiveDigits (5 + length d)) (threeDigits (checksumOf (s .«start_block») t d)) (s .«end_block» ∷ 13 ∷ []))
+    (regroup (t ∷ version) d (fiveDigits (5 + length d)) (threeDigits (checksumOf (s .«start_block») t d)) (s .«end_block» ∷ 0x0D ∷ []))
 
-pub minimal-is : (s : Settings) (d : List ℕ) → (s .«start_block» ∷ []) ++ d ++ (s .«end_block» ∷ 13 ∷ []) ≡ minimalBlock s d
+pub minimal-is : (s : Settings) (d : List ℕ) → (s .«start_block» ∷ []) ++ d ++ (s .«end_block» ∷ 0x0D ∷ []) ≡ minimalBlock s d
 unfolding minimalBlock
 minimal-is s d = refl
 
@@ -73,14 +75,14 @@ length-hybrid s t d =
     ∙ ap length (hybrid-is s t d)
 
 pub length-minimal : (s : Settings) (d : List ℕ) → length d + 3 ≡ length (minimalBlock s d)
-length-minimal s d = sym (length-three (s .«start_block» ∷ []) d (s .«end_block» ∷ 13 ∷ []) 1 2 refl refl) ∙ ap length (minimal-is s d)
+length-minimal s d = sym (length-three (s .«start_block» ∷ []) d (s .«end_block» ∷ 0x0D ∷ []) 1 2 refl refl) ∙ ap length (minimal-is s d)
 
 -- "Room needed from the named place: the writer's block"
 pub need-is : (s : Settings) (t : ℕ) (d : List ℕ) → needOf s d ≡ length (blockOf s t d)
 unfolding blockOf
 need-is s t d = go (s .kind)
   where
-    go : (k : Kind) → length d + frameOf k ≡ length (byKind k (hybridBlock s t d) (minimalBlock s d))
+    go : (k : Kind) → length d + frameLength k ≡ length (byKind k (hybridBlock s t d) (minimalBlock s d))
     go Hybrid = length-hybrid s t d
     go Minimal = length-minimal s d
 
@@ -94,32 +96,40 @@ space-left have start frame size h l = go (decLe size (have - start - frame))
 
 -- what the writer says, by the first test that fails
 module _ (s : Settings) (t : ℕ) (d : List ℕ) (start : ℕ) (b : List ℕ) where
-  pub write-setting : valid s ≡ false → refused Setting b ≡ writeOf s t d start b
+  pub write-setting : valid s ≡ false → refused 1 0 b ≡ writeOf s t d start b
   unfolding writeOf
   write-setting e = rw e
 
-  pub write-too-short : valid s ≡ true → leb (start + needOf s d) (length b) ≡ false → refused TooShort b ≡ writeOf s t d start b
+  pub write-framed : valid s ≡ true → frameOf s t d start b ≡ writeOf s t d start b
   unfolding writeOf
-  write-too-short e f = rw (e, f)
+  write-framed e = rw e
 
-  pub write-long : valid s ≡ true → leb (start + needOf s d) (length b) ≡ true → s .«data_limit» < length d → refused Long b ≡ writeOf s t d start b
-  unfolding writeOf
-  write-long e f g = rw (e, f, lt-leb _ _ g)
+  pub frame-too-short : leb (start + needOf s d) (length b) ≡ false → refused 2 0 b ≡ frameOf s t d start b
+  unfolding frameOf
+  frame-too-short f = rw (f)
 
-  pub write-shape : valid s ≡ true → leb (start + needOf s d) (length b) ≡ true → length d ≤ s .«data_limit» → typeValid (s .kind) t d ≡ false
-      → refused Shape b ≡ writeOf s t d start b
-  unfolding writeOf
-  write-shape e f g h = rw (e, f, le-leb _ _ g, h)
+  pub frame-long : leb (start + needOf s d) (length b) ≡ true → s .«data_limit» < length d → refused 4 0 b ≡ frameOf s t d start b
+  unfolding frameOf
+  frame-long f g = rw (f, lt-leb _ _ g)
 
-  pub write-byte : valid s ≡ true → leb (start + needOf s d) (length b) ≡ true → length d ≤ s .«data_limit» → typeValid (s .kind) t d ≡ true
-      → allAllowed d ≡ false → refused (Byte (firstForbidden d)) b ≡ writeOf s t d start b
-  unfolding writeOf
-  write-byte e f g h i = rw (e, f, le-leb _ _ g, h, i)
+  pub frame-shape : leb (start + needOf s d) (length b) ≡ true → length d ≤ s .«data_limit» → typeValid (s .kind) t d ≡ false
+      → refused 5 0 b ≡ frameOf s t d start b
+  unfolding frameOf
+  frame-shape f g h = rw (f, le-leb _ _ g, h)
+
+  pub frame-byte : leb (start + needOf s d) (length b) ≡ true → length d ≤ s .«data_limit» → typeValid (s .kind) t d ≡ true
+      → allAllowed d ≡ false → refused 3 (firstForbidden d) b ≡ frameOf s t d start b
+  unfolding frameOf
+  frame-byte f g h i = rw (f, le-leb _ _ g, h, i)
+
+  pub frame-all : leb (start + needOf s d) (length b) ≡ true → length d ≤ s .«data_limit» → typeValid (s .kind) t d ≡ true
+      → allAllowed d ≡ true → wrote b start (blockOf s t d) ≡ frameOf s t d start b
+  unfolding frameOf
+  frame-all f g h i = rw (f, le-leb _ _ g, h, i)
 
   pub write-all : valid s ≡ true → leb (start + needOf s d) (length b) ≡ true → length d ≤ s .«data_limit» → typeValid (s .kind) t d ≡ true
       → allAllowed d ≡ true → wrote b start (blockOf s t d) ≡ writeOf s t d start b
-  unfolding writeOf
-  write-all e f g h i = rw (e, f, le-leb _ _ g, h, i)
+  write-all e f g h i = frame-all f g h i ∙ write-framed e
 
   pub block-hybrid : s .kind ≡ Hybrid → hybridBlock s t d ≡ blockOf s t d
   unfolding blockOf
@@ -130,12 +140,12 @@ module _ (s : Settings) (t : ℕ) (d : List ℕ) (start : ℕ) (b : List ℕ) wh
   block-minimal e = rw e
 
 pub wrote-is : (b : List ℕ) (start n : ℕ) (m block whole : List ℕ) → n ≡ length block → m ≡ put b start block → block ≡ whole
-    → _≡_ {A = Outcome} (record { answer = Block n; buffer = m }) (wrote b start whole)
+    → outcome (Done n) m ≡ wrote b start whole
 wrote-is b start n m block whole e f g = rw (e, f, g)
 
 -- the room that was tested, for each kind
-pub space-hybrid : (k : Kind) (start n : ℕ) (d : List ℕ) → leb (start + (length d + frameOf k)) n ≡ true → k ≡ Hybrid → start + (length d + 15) ≤ n
+pub space-hybrid : (k : Kind) (start n : ℕ) (d : List ℕ) → leb (start + (length d + frameLength k)) n ≡ true → k ≡ Hybrid → start + (length d + 15) ≤ n
 space-hybrid k start n d h e = leb-true (start + (length d + 15)) n (rw e at h)
 
-pub space-minimal : (k : Kind) (start n : ℕ) (d : List ℕ) → leb (start + (length d + frameOf k)) n ≡ true → k ≡ Minimal → start + (length d + 3) ≤ n
+pub space-minimal : (k : Kind) (start n : ℕ) (d : List ℕ) → leb (start + (length d + frameLength k)) n ≡ true → k ≡ Minimal → start + (length d + 3) ≤ n
 space-minimal k start n d h e = leb-true (start + (length d + 3)) n (rw e at h)

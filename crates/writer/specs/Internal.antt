@@ -9,4 +9,4 @@ hybridHeader sb t = sb ∷ t ∷ version
 
 -- ccccc xxx EB CR
 unfoldable pub hybridTrailer : ℕ → ℕ → ℕ → List ℕ
-hybridTrailer count sum eb = fiveDigits count ++ threeDigits sum ++ eb ∷ 13 ∷ []
+hybridTrailer count sum eb = fiveDigits count ++ threeDigits sum ++ eb ∷ 0x0D ∷ []

@@ -17,9 +17,9 @@ fn write_header(out: &mut [u8], start_block: u8, t: u8)
 {
     out[0] = start_block;
     out[1] = t;
-    out[2] = 50;
-    out[3] = 51;
-    out[4] = 13;
+    out[2] = b'2';
+    out[3] = b'3';
+    out[4] = b'\r';
 }
 
 // ccccc xxx EB CR
@@ -36,7 +36,7 @@ fn write_trailer(out: &mut [u8], count: usize, sum: usize, end_block: u8)
     out[6] = digit_of(sum / 10);
     out[7] = digit_of(sum);
     out[8] = end_block;
-    out[9] = 13;
+    out[9] = b'\r';
 }
 
 // Writes the block from that offset on, and returns its length.

@@ -3,29 +3,18 @@ mod content;
 mod hybrid;
 mod minimal;
 
+use refusal::Written;
 use settings::Kind;
 use settings::Settings;
 ghost use mathlib.Core.Path.{_≡_};
 ghost use Prim.Native.Nat.{_+_};
 ghost use lib.Dec.{leb};
-ghost use Rattle.writer.specs.Write.{Outcome, frameOf, typeValid, writeOf};
-
-// What writing a block gives.
-pub enum Written {
-    // Refused by 1, 2, 4, 5.
-    Setting,
-    TooShort,
-    Long,
-    Shape,
-    // Refused by 3: the offset in the data of the first byte that is not allowed.
-    Byte(usize),
-    // The length of the block that was written.
-    Block(usize),
-}
+ghost use Rattle.lists.specs.Outcome.{outcome};
+ghost use Rattle.writer.specs.Write.{frameLength, typeValid, frameOf, writeOf};
 
 // How many bytes a block has besides its data.
-fn frame(kind: Kind) -> usize
-    ensures { λ r. ⌜ r ≡ frameOf kind ⌝ }
+fn frame_length(kind: Kind) -> usize
+    ensures { λ r. ⌜ r ≡ frameLength kind ⌝ }
 {
     match kind {
         Kind::Hybrid => 15,
@@ -57,28 +46,35 @@ fn type_valid(kind: Kind, t: u8, content: &[u8]) -> bool
     }
 }
 
-// Writes a block with this type and data into the buffer from that offset on. A refusal writes nothing.
-pub fn write(settings: Settings, t: u8, content: &[u8], buffer: &mut [u8], start: usize) -> Written
-    ensures { λ r. ⌜ _≡_ {A = Outcome} (record { answer = r; buffer = now (buffer .exit) }) (writeOf settings t (now (content .entry)) start (now (buffer .entry))) ⌝ }
+// The block with this type and data, written into the buffer from that offset on. A refusal writes nothing.
+pub fn frame(settings: Settings, t: u8, content: &[u8], buffer: &mut [u8], start: usize) -> Written
+    ensures { λ r. ⌜ outcome r (now (buffer .exit)) ≡ frameOf settings t (now (content .entry)) start (now (buffer .entry)) ⌝ }
 {
     let kind = settings.kind;
-    if !settings.is_valid() {
-        return Written::Setting;
-    }
-    if !is_long_enough(buffer.len(), start, frame(kind), content.len()) {
-        return Written::TooShort;
+    if !is_long_enough(buffer.len(), start, frame_length(kind), content.len()) {
+        return Written::Refused(refusal::TOO_SHORT, 0);
     }
     if settings.data_limit < content.len() {
-        return Written::Long;
+        return Written::Refused(refusal::LONG, 0);
     }
     if !type_valid(kind, t, content) {
-        return Written::Shape;
+        return Written::Refused(refusal::SHAPE, 0);
     }
     if !settings::are_allowed(content) {
-        return Written::Byte(settings::first_forbidden(content));
+        return Written::Refused(refusal::BYTE, settings::first_forbidden(content));
     }
     match kind {
-        Kind::Hybrid => Written::Block(hybrid::write_block(settings, t, content, buffer, start)),
-        Kind::Minimal => Written::Block(minimal::write_block(settings, content, buffer, start)),
+        Kind::Hybrid => Written::Done(hybrid::write_block(settings, t, content, buffer, start)),
+        Kind::Minimal => Written::Done(minimal::write_block(settings, content, buffer, start)),
     }
+}
+
+// The same of settings that are looked at first.
+pub fn write(settings: Settings, t: u8, content: &[u8], buffer: &mut [u8], start: usize) -> Written
+    ensures { λ r. ⌜ outcome r (now (buffer .exit)) ≡ writeOf settings t (now (content .entry)) start (now (buffer .entry)) ⌝ }
+{
+    if !settings.is_valid() {
+        return Written::Refused(refusal::SETTING, 0);
+    }
+    frame(settings, t, content, buffer, start)
 }

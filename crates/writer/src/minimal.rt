@@ -19,10 +19,10 @@ fn write_header(out: &mut [u8], start_block: u8)
 // EB CR
 fn write_trailer(out: &mut [u8], end_block: u8)
     requires { ⌜ 2 ≤ length (now out) ⌝ }
-    ensures { λ r. ⌜ now (out .exit) ≡ («end_block» ∷ 13 ∷ []) ++ drop 2 (now (out .entry)) ⌝ }
+    ensures { λ r. ⌜ now (out .exit) ≡ («end_block» ∷ 0x0D ∷ []) ++ drop 2 (now (out .entry)) ⌝ }
 {
     out[0] = end_block;
-    out[1] = 13;
+    out[1] = b'\r';
 }
 
 // Writes the block from that offset on, and returns its length.

@@ -2,8 +2,9 @@
 use borrow.Author.Needs.{needs}
 use Rattle.control_block.proofs.Laws.{control-fits, control-made, control-framed}
 use Rattle.message_theorems.proofs.Made.{size-fits, part-size, made-part}
-use Rattle.writer.specs.Write.{writeOf}
+use Rattle.writer.specs.Write.{frameOf}
 use Prim.Native.Nat.{ℕ}
+use Prim.Native.Char.{code}
 use mathlib.Core.List.{List}
 use mathlib.Core.Path.{ap, _∙_}
 use Rattle.control_block.proofs.frame_control.Statement.{statement}
@@ -12,21 +13,32 @@ use Rattle.control_block.proofs.frame_control.Tie as tie
 write-control-requires : tie.Need-write-control-requires
 write-control-requires c κs = search needs
 
-message-length-requires : tie.Need-message-length-requires
-message-length-requires c κs = search needs
+length-requires : tie.Need-length-requires
+length-requires c κs = search needs
 
-slice-reshare-prefix-write : tie.Need-slice-reshare-prefix-write
-slice-reshare-prefix-write c =
-    let a = c .before .before .before .before .before .before .before .args in
-    size-fits (a .message .now) _ (control-fits (a .name) (a .control) (a .message .now) (c .before .before .before .before .before .before .before .pre .1 .1)) (c .before .before .before .write-control .result) _ (c .before .before .before .write-control .ensures ∙ control-made (a .name) (a .control) (a .message .now) (c .before .before .before .before .before .before .before .pre .1 .0) (c .before .before .before .before .before .before .before .pre .1 .1)) (c .message-length .result) (c .message-length .ensures)
+slice-reshare-prefix-frame : tie.Need-slice-reshare-prefix-frame
+slice-reshare-prefix-frame c =
+    let at-write-control = c .before .before .before in
+    let at-start = at-write-control .before .before .before .before in
+    let a = at-start .args in
+    size-fits (a .message .now) _ (control-fits (a .name) (a .control) (a .message .now) (at-start .pre .1 .1))
+    (at-write-control .write-control .result) _
+    (at-write-control .write-control .ensures ∙ control-made (a .name) (a .control) (a .message .now) (at-start .pre .1 .0) (at-start .pre .1 .1))
+    (c .length .result) (c .length .ensures)
 
-slice-aggregate-write : tie.Need-slice-aggregate-write
-slice-aggregate-write c =
-    let a = c .before .before .before .before .before .before .before .before .args in
-    part-size (a .message .now) _ (control-fits (a .name) (a .control) (a .message .now) (c .before .before .before .before .before .before .before .before .pre .1 .1)) (c .before .before .before .before .write-control .result) _ (c .before .before .before .before .write-control .ensures ∙ control-made (a .name) (a .control) (a .message .now) (c .before .before .before .before .before .before .before .before .pre .1 .0) (c .before .before .before .before .before .before .before .before .pre .1 .1)) (c .before .message-length .result) (c .before .message-length .ensures)
+slice-aggregate-frame : tie.Need-slice-aggregate-frame
+slice-aggregate-frame c =
+    let at-length = c .before in
+    let at-write-control = at-length .before .before .before in
+    let at-start = at-write-control .before .before .before .before in
+    let a = at-start .args in
+    part-size (a .message .now) _ (control-fits (a .name) (a .control) (a .message .now) (at-start .pre .1 .1))
+    (at-write-control .write-control .result) _
+    (at-write-control .write-control .ensures ∙ control-made (a .name) (a .control) (a .message .now) (at-start .pre .1 .0) (at-start .pre .1 .1))
+    (at-length .length .result) (at-length .length .ensures)
 
-write-requires : tie.Need-write-requires
-write-requires c κs = search needs
+frame-requires : tie.Need-frame-requires
+frame-requires c κs = search needs
 
 same-length : tie.Need-same-length
 same-length c = search needs
@@ -36,19 +48,27 @@ same-length-2 c = search needs
 
 returns : tie.Need-returns
 returns c =
-    let a = c .before .before .before .before .before .before .before .before .before .before .before .before .args in
-    let part = made-part (a .message .now) _ (control-fits (a .name) (a .control) (a .message .now) (c .before .before .before .before .before .before .before .before .before .before .before .before .pre .1 .1)) (c .before .before .before .before .before .before .before .before .write-control .result) _ (c .before .before .before .before .before .before .before .before .write-control .ensures ∙ control-made (a .name) (a .control) (a .message .now) (c .before .before .before .before .before .before .before .before .before .before .before .before .pre .1 .0) (c .before .before .before .before .before .before .before .before .before .before .before .before .pre .1 .1)) (c .before .before .before .before .before .message-length .result) (c .before .before .before .before .before .message-length .ensures) in
-    c .before .before .write .ensures ∙ ap (λ (z : List ℕ). writeOf (a .settings) 68 z (a .start) (a .buffer .now)) part ∙ control-framed (a .settings) (a .name) (a .control) (a .start) (a .buffer .now) (c .before .before .before .before .before .before .before .before .before .before .before .before .pre .0) (c .before .before .before .before .before .before .before .before .before .before .before .before .pre .1 .0)
+    let at-length = c .before .before .before .before .before in
+    let at-write-control = at-length .before .before .before in
+    let at-start = at-write-control .before .before .before .before in
+    let a = at-start .args in
+    let part = made-part (a .message .now) _ (control-fits (a .name) (a .control) (a .message .now) (at-start .pre .1 .1))
+    (at-write-control .write-control .result) _
+    (at-write-control .write-control .ensures ∙ control-made (a .name) (a .control) (a .message .now) (at-start .pre .1 .0) (at-start .pre .1 .1))
+    (at-length .length .result) (at-length .length .ensures) in
+    c .before .before .frame .ensures
+    ∙ ap (λ (z : List ℕ). frameOf (a .settings) (code "D") z (a .start) (a .buffer .now)) part
+    ∙ control-framed (a .settings) (a .name) (a .control) (a .start) (a .buffer .now) (at-start .pre .0) (at-start .pre .1 .0)
 
 pub frame-control-spec : {M : Type 1} → statement M
 frame-control-spec =
     tie.close
     (tie.spec
     write-control-requires
-    message-length-requires
-    slice-reshare-prefix-write
-    slice-aggregate-write
-    write-requires
+    length-requires
+    slice-reshare-prefix-frame
+    slice-aggregate-frame
+    frame-requires
     same-length
     same-length-2
     returns)

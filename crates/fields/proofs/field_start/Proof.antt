@@ -1,16 +1,16 @@
 -- `fields::field_start` meets its contract.
 use Rattle.fields.proofs.field_start.Statement.{statement}
 use Rattle.fields.proofs.field_start.Tie as tie
-use mathlib.Core.Path.{_≡_, refl, sym, _∙_}
+use mathlib.Core.Path.{_≡_, refl, _∙_}
 use Prim.Native.Nat.{_+_}
-use lib.ListN.{length, drop}
+use lib.ListN.{drop}
 use borrow.Author.Needs.{needs}
-use Rattle.fields.specs.Fields.{startOf}
+use Rattle.fields.specs.Fields.{fieldStart}
 use Rattle.fields.proofs.Laws.{at-end, at-other, at-bar}
 use Rattle.fields.proofs.Laws.{at-last}
 
 abbrev Inv-loop : tie.InvT-loop
-Inv-loop message from separator count i₀ left₀ i left = i + startOf separator left (drop i message) ≡ from + startOf separator count (drop from message)
+Inv-loop message from separator count i₀ left₀ i left = i + fieldStart separator left (drop i message) ≡ from + fieldStart separator count (drop from message)
 
 abbrev μ-loop : tie.MeasureT-loop
 μ-loop message from separator count i₀ left₀ i left = left
@@ -22,13 +22,26 @@ field-end-requires : tie.Need-field-end-requires Inv-loop μ-loop
 field-end-requires c κs = search needs
 
 returns : tie.Need-returns Inv-loop μ-loop
-returns c = at-end (c .before .before .before .before .before .args .separator) (c .before .before .before .before .before .args .message .now) (c .before .before .before .loop .i) (c .before .field-end .result) (c .before .field-end .ensures) (c .before .before .before .loop .left) (c .before .before .loop-test .taken) (c .if1 .taken) ∙ c .before .before .before .loop .inv
+returns c =
+    let at-field-end = c .before in
+    let at-loop = at-field-end .before .before in
+    let at-start = at-loop .before .before in
+    at-end (at-start .args .separator) (at-start .args .message .now) (at-loop .loop .i) (at-field-end .field-end .result)
+    (at-field-end .field-end .ensures) (at-loop .loop .left) (c .before .before .loop-test .taken) (c .if1 .taken)
+    ∙ at-loop .loop .inv
 
 shared-slice-read-x : tie.Need-shared-slice-read-x Inv-loop μ-loop
 shared-slice-read-x c = search needs
 
 returns-2 : tie.Need-returns-2 Inv-loop μ-loop
-returns-2 c = at-other (c .before .before .before .before .before .before .before .args .separator) (c .before .before .before .before .before .before .before .args .message .now) (c .before .before .before .before .before .loop .i) (c .before .before .before .field-end .result) (c .before .before .before .field-end .ensures) (c .before .before .before .before .before .loop .left) (c .before .before .before .before .loop-test .taken) (c .before .before .if1 .left) (c .if2 .taken) ∙ c .before .before .before .before .before .loop .inv
+returns-2 c =
+    let at-field-end = c .before .before .before in
+    let at-loop-test = at-field-end .before in
+    let at-loop = at-loop-test .before in
+    let at-start = at-loop .before .before in
+    at-other (at-start .args .separator) (at-start .args .message .now) (at-loop .loop .i) (at-field-end .field-end .result)
+    (at-field-end .field-end .ensures) (at-loop .loop .left) (at-loop-test .loop-test .taken) (c .before .before .if1 .left) (c .if2 .taken)
+    ∙ at-loop .loop .inv
 
 add-i : tie.Need-add-i Inv-loop μ-loop
 add-i c = search needs
@@ -40,10 +53,22 @@ loop-less : tie.Need-loop-less Inv-loop μ-loop
 loop-less c = search needs
 
 loop-again : tie.Need-loop-again Inv-loop μ-loop
-loop-again c = at-bar (c .before .before .before .before .before .before .before .args .separator) (c .before .before .before .before .before .before .before .args .message .now) (c .before .before .before .before .before .loop .i) (c .before .before .before .field-end .result) (c .before .before .before .field-end .ensures) (c .before .before .before .before .before .loop .left) (c .before .before .before .before .loop-test .taken) (c .before .before .if1 .left) (c .if2 .left) ∙ c .before .before .before .before .before .loop .inv
+loop-again c =
+    let at-field-end = c .before .before .before in
+    let at-loop-test = at-field-end .before in
+    let at-loop = at-loop-test .before in
+    let at-start = at-loop .before .before in
+    at-bar (at-start .args .separator) (at-start .args .message .now) (at-loop .loop .i) (at-field-end .field-end .result)
+    (at-field-end .field-end .ensures) (at-loop .loop .left) (at-loop-test .loop-test .taken) (c .before .before .if1 .left) (c .if2 .left)
+    ∙ at-loop .loop .inv
 
 returns-3 : tie.Need-returns-3 Inv-loop μ-loop
-returns-3 c = at-last (c .before .before .before .args .separator) (drop (c .before .loop .i) (c .before .before .before .args .message .now)) (c .before .loop .i) (c .before .loop .left) (c .loop-test .left) ∙ c .before .loop .inv
+returns-3 c =
+    let at-loop = c .before in
+    let at-start = at-loop .before .before in
+    at-last (at-start .args .separator) (drop (at-loop .loop .i) (at-start .args .message .now)) (at-loop .loop .i) (at-loop .loop .left)
+    (c .loop-test .left)
+    ∙ at-loop .loop .inv
 
 pub field-start-spec : {M : Type 1} → statement M
 field-start-spec =

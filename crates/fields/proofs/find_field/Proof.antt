@@ -14,7 +14,12 @@ sub-t7 : tie.Need-sub-t7
 sub-t7 c = search needs
 
 returns : tie.Need-returns
-returns c = found (c .before .before .before .args .separator) (c .before .before .before .args .message .now) (c .before .before .before .args .from) (c .before .before .before .args .count) (c .before .field-start .result) (c .field-end .result) (c .before .field-start .ensures) (c .field-end .ensures)
+returns c =
+    let at-field-start = c .before in
+    let at-start = at-field-start .before .before in
+    let a = at-start .args in
+    found (a .separator) (a .message .now) (a .from) (a .count) (at-field-start .field-start .result) (c .field-end .result)
+    (at-field-start .field-start .ensures) (c .field-end .ensures)
 
 pub find-field-spec : {M : Type 1} → statement M
 find-field-spec = tie.close (tie.spec field-start-requires field-end-requires sub-t7 returns)

@@ -20,7 +20,11 @@ shared-slice-read-result-4 : tie.Need-shared-slice-read-result-4
 shared-slice-read-result-4 c = search needs
 
 returns-2 : tie.Need-returns-2
-returns-2 c = begins-four (c .before .before .before .before .before .args .first) (c .before .before .before .before .before .args .second) (c .before .before .before .before .before .args .third) (c .before .before .before .before .before .args .segment .now) (c .before .before .before .before .if1 .left)
+returns-2 c =
+    let at-if1 = c .before .before .before .before in
+    let at-start = at-if1 .before in
+    let a = at-start .args in
+    begins-four (a .first) (a .second) (a .third) (a .segment .now) (at-if1 .if1 .left)
 
 pub begins-with-spec : {M : Type 1} → statement M
 begins-with-spec =

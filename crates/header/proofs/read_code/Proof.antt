@@ -14,19 +14,38 @@ shared-slice-read-second : tie.Need-shared-slice-read-second
 shared-slice-read-second c = search needs
 
 returns-2 : tie.Need-returns-2
-returns-2 c = code-first (c .before .before .before .before .args .field .now) (c .before .before .before .if1 .left) (c .if2 .taken)
+returns-2 c =
+    let at-if1 = c .before .before .before in
+    let at-start = at-if1 .before in
+    code-first (at-start .args .field .now) (at-if1 .if1 .left) (c .if2 .taken)
 
 returns-3 : tie.Need-returns-3
-returns-3 c = code-accept (c .before .before .before .before .before .args .field .now) (c .before .before .before .before .if1 .left) (c .before .if2 .left) (c .if3 .taken)
+returns-3 c =
+    let at-if1 = c .before .before .before .before in
+    let at-start = at-if1 .before in
+    code-accept (at-start .args .field .now) (at-if1 .if1 .left) (c .before .if2 .left) (c .if3 .taken)
 
 returns-4 : tie.Need-returns-4
-returns-4 c = code-error (c .before .before .before .before .before .before .args .field .now) (c .before .before .before .before .before .if1 .left) (c .before .before .if2 .left) (c .before .if3 .left) (c .if4 .taken)
+returns-4 c =
+    let at-if1 = c .before .before .before .before .before in
+    let at-start = at-if1 .before in
+    code-error (at-start .args .field .now) (at-if1 .if1 .left) (c .before .before .if2 .left) (c .before .if3 .left) (c .if4 .taken)
 
 returns-5 : tie.Need-returns-5
-returns-5 c = code-reject (c .before .before .before .before .before .before .before .args .field .now) (c .before .before .before .before .before .before .if1 .left) (c .before .before .before .if2 .left) (c .before .before .if3 .left) (c .before .if4 .left) (c .if5 .taken)
+returns-5 c =
+    let at-if2 = c .before .before .before in
+    let at-if1 = at-if2 .before .before .before in
+    let at-start = at-if1 .before in
+    code-reject (at-start .args .field .now) (at-if1 .if1 .left) (at-if2 .if2 .left) (c .before .before .if3 .left) (c .before .if4 .left)
+    (c .if5 .taken)
 
 returns-6 : tie.Need-returns-6
-returns-6 c = code-none (c .before .before .before .before .before .before .before .args .field .now) (c .before .before .before .before .before .before .if1 .left) (c .before .before .before .if2 .left) (c .before .before .if3 .left) (c .before .if4 .left) (c .if5 .left)
+returns-6 c =
+    let at-if2 = c .before .before .before in
+    let at-if1 = at-if2 .before .before .before in
+    let at-start = at-if1 .before in
+    code-none (at-start .args .field .now) (at-if1 .if1 .left) (at-if2 .if2 .left) (c .before .before .if3 .left) (c .before .if4 .left)
+    (c .if5 .left)
 
 pub read-code-spec : {M : Type 1} → statement M
 read-code-spec =

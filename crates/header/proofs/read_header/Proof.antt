@@ -15,10 +15,16 @@ enum-told : tie.Need-enum-told
 enum-told c = search needs
 
 returns : tie.Need-returns
-returns c = header-unread (c .before .before .before .before .args .message .now) (header-none (c .before .before .before .before .args .message .now) (sym (c .before .before .scan-header .ensures) ∙ c .enum-told .given .1))
+returns c =
+    let at-start = c .before .before .before .before in
+    header-unread (at-start .args .message .now)
+    (header-none (at-start .args .message .now) (sym (c .before .before .scan-header .ensures) ∙ c .enum-told .given .1))
 
 returns-2 : tie.Need-returns-2
-returns-2 c = header-read (c .before .before .before .before .before .args .message .now) _ _ _ (sym (c .before .before .before .scan-header .ensures) ∙ c .before .control-id .given .1)
+returns-2 c =
+    let at-scan-header = c .before .before .before in
+    let at-start = at-scan-header .before .before in
+    header-read (at-start .args .message .now) _ _ _ (sym (at-scan-header .scan-header .ensures) ∙ c .before .control-id .given .1)
 
 pub read-header-spec : {M : Type 1} → statement M
 read-header-spec =

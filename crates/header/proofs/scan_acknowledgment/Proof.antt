@@ -21,7 +21,11 @@ begins-with-requires : tie.Need-begins-with-requires
 begins-with-requires c κs = search needs
 
 returns : tie.Need-returns
-returns c = answer-begin (c .before .before .before .before .args .message .now) (c .before .before .before .before .args .from) (sym (rw (rest (c .before .before .before .before .args .message .now) (c .before .before .before .before .args .from)) at (c .before .begins-with .ensures)) ∙ not-true _ (c .if1 .taken))
+returns c =
+    let at-start = c .before .before .before .before in
+    let a = at-start .args in
+    answer-begin (a .message .now) (a .from)
+    (sym (rw (rest (a .message .now) (a .from)) at (c .before .begins-with .ensures)) ∙ not-true _ (c .if1 .taken))
 
 find-field-requires : tie.Need-find-field-requires
 find-field-requires c κs = search needs
@@ -33,16 +37,48 @@ find-field-requires-3 : tie.Need-find-field-requires-3
 find-field-requires-3 c κs = search needs
 
 add-field-end : tie.Need-add-field-end
-add-field-end c = let h = answer-inside _ _ (c .before .before .before .find-field .result) (c .before .before .find-field2 .result) (c .before .find-field3 .result) (c .before .before .before .find-field .ensures) (c .before .before .find-field2 .ensures) (c .before .find-field3 .ensures) (c .before .before .before .before .before .before .before .before .pre) in omega (arith, h)
+add-field-end c =
+    let h =
+    (let at-find-field3 = c .before in
+    let at-find-field2 = at-find-field3 .before in
+    let at-find-field = at-find-field2 .before in
+    let at-start = at-find-field .before .before .before .before .before in
+    answer-inside _ _ (at-find-field .find-field .result) (at-find-field2 .find-field2 .result) (at-find-field3 .find-field3 .result)
+    (at-find-field .find-field .ensures) (at-find-field2 .find-field2 .ensures) (at-find-field3 .find-field3 .ensures) (at-start .pre)) in
+    omega (arith, h)
 
 field-end-requires : tie.Need-field-end-requires
 field-end-requires c κs = search needs
 
 returns-2 : tie.Need-returns-2
-returns-2 c = answer-open (c .before .before .before .before .before .before .before .before .before .before .args .message .now) (c .before .before .before .before .before .before .before .before .before .before .args .from) (c .before .before .before .before .before .find-field .result) (c .before .before .before .before .find-field2 .result) (c .before .before .before .find-field3 .result) (c .before .before .before .before .before .find-field .ensures) (c .before .before .before .before .find-field2 .ensures) (c .before .before .before .find-field3 .ensures) (c .before .field-end .result) (c .before .field-end .ensures) (sym (rw (rest (c .before .before .before .before .before .before .before .before .before .before .args .message .now) (c .before .before .before .before .before .before .before .before .before .before .args .from)) at (c .before .before .before .before .before .before .before .begins-with .ensures)) ∙ not-false _ (c .before .before .before .before .before .before .if1 .left)) (c .if2 .taken)
+returns-2 c =
+    let at-field-end = c .before in
+    let at-find-field3 = at-field-end .before .before in
+    let at-find-field2 = at-find-field3 .before in
+    let at-find-field = at-find-field2 .before in
+    let at-if1 = at-find-field .before in
+    let at-begins-with = at-if1 .before in
+    let at-start = at-begins-with .before .before .before in
+    let a = at-start .args in
+    answer-open (a .message .now) (a .from) (at-find-field .find-field .result) (at-find-field2 .find-field2 .result)
+    (at-find-field3 .find-field3 .result) (at-find-field .find-field .ensures) (at-find-field2 .find-field2 .ensures)
+    (at-find-field3 .find-field3 .ensures) (at-field-end .field-end .result) (at-field-end .field-end .ensures)
+    (sym (rw (rest (a .message .now) (a .from)) at (at-begins-with .begins-with .ensures)) ∙ not-false _ (at-if1 .if1 .left)) (c .if2 .taken)
 
 returns-3 : tie.Need-returns-3
-returns-3 c = answer-read (c .before .before .before .before .before .before .before .before .before .before .args .message .now) (c .before .before .before .before .before .before .before .before .before .before .args .from) (c .before .before .before .before .before .find-field .result) (c .before .before .before .before .find-field2 .result) (c .before .before .before .find-field3 .result) (c .before .before .before .before .before .find-field .ensures) (c .before .before .before .before .find-field2 .ensures) (c .before .before .before .find-field3 .ensures) (c .before .field-end .result) (c .before .field-end .ensures) (sym (rw (rest (c .before .before .before .before .before .before .before .before .before .before .args .message .now) (c .before .before .before .before .before .before .before .before .before .before .args .from)) at (c .before .before .before .before .before .before .before .begins-with .ensures)) ∙ not-false _ (c .before .before .before .before .before .before .if1 .left)) (c .if2 .left)
+returns-3 c =
+    let at-field-end = c .before in
+    let at-find-field3 = at-field-end .before .before in
+    let at-find-field2 = at-find-field3 .before in
+    let at-find-field = at-find-field2 .before in
+    let at-if1 = at-find-field .before in
+    let at-begins-with = at-if1 .before in
+    let at-start = at-begins-with .before .before .before in
+    let a = at-start .args in
+    answer-read (a .message .now) (a .from) (at-find-field .find-field .result) (at-find-field2 .find-field2 .result)
+    (at-find-field3 .find-field3 .result) (at-find-field .find-field .ensures) (at-find-field2 .find-field2 .ensures)
+    (at-find-field3 .find-field3 .ensures) (at-field-end .field-end .result) (at-field-end .field-end .ensures)
+    (sym (rw (rest (a .message .now) (a .from)) at (at-begins-with .begins-with .ensures)) ∙ not-false _ (at-if1 .if1 .left)) (c .if2 .left)
 
 pub scan-acknowledgment-spec : {M : Type 1} → statement M
 scan-acknowledgment-spec =

@@ -20,22 +20,63 @@ find-field-requires-2 : tie.Need-find-field-requires-2
 find-field-requires-2 c κs = search needs
 
 add-field-end : tie.Need-add-field-end
-add-field-end c = let h = scan-inside _ (c .before .before .find-field .result) (c .before .find-field2 .result) (c .before .before .find-field .ensures) (c .before .find-field2 .ensures) in omega (arith, h)
+add-field-end c =
+    let h = scan-inside _ (c .before .before .find-field .result) (c .before .find-field2 .result) (c .before .before .find-field .ensures)
+    (c .before .find-field2 .ensures) in
+    omega (arith, h)
 
 field-end-requires : tie.Need-field-end-requires
 field-end-requires c κs = search needs
 
 returns-2 : tie.Need-returns-2
-returns-2 c = scanned-open (c .before .before .before .before .before .before .before .before .args .message .now) (c .before .before .before .before .find-field .result) (c .before .before .before .find-field2 .result) (c .before .field-end .result) (c .before .before .before .before .find-field .ensures) (c .before .before .before .find-field2 .ensures) (c .before .field-end .ensures) (sym (c .before .before .before .before .before .before .begins-with .ensures) ∙ not-false _ (c .before .before .before .before .before .if1 .left)) (c .if2 .taken)
+returns-2 c =
+    let at-field-end = c .before in
+    let at-find-field2 = at-field-end .before .before in
+    let at-find-field = at-find-field2 .before in
+    let at-if1 = at-find-field .before in
+    let at-begins-with = at-if1 .before in
+    let at-start = at-begins-with .before .before in
+    scanned-open (at-start .args .message .now) (at-find-field .find-field .result) (at-find-field2 .find-field2 .result)
+    (at-field-end .field-end .result) (at-find-field .find-field .ensures) (at-find-field2 .find-field2 .ensures) (at-field-end .field-end .ensures)
+    (sym (at-begins-with .begins-with .ensures) ∙ not-false _ (at-if1 .if1 .left)) (c .if2 .taken)
 
 returns-3 : tie.Need-returns-3
-returns-3 c = scanned-empty (c .before .before .before .before .before .before .before .before .before .before .args .message .now) (c .before .before .before .before .before .before .find-field .result) (c .before .before .before .before .before .find-field2 .result) (c .before .before .before .field-end .result) (c .before .before .before .before .before .before .find-field .ensures) (c .before .before .before .before .before .find-field2 .ensures) (c .before .before .before .field-end .ensures) (sym (c .before .before .before .before .before .before .before .before .begins-with .ensures) ∙ not-false _ (c .before .before .before .before .before .before .before .if1 .left)) (c .before .before .if2 .left) (c .if3 .taken)
+returns-3 c =
+    let at-field-end = c .before .before .before in
+    let at-find-field2 = at-field-end .before .before in
+    let at-find-field = at-find-field2 .before in
+    let at-if1 = at-find-field .before in
+    let at-begins-with = at-if1 .before in
+    let at-start = at-begins-with .before .before in
+    scanned-empty (at-start .args .message .now) (at-find-field .find-field .result) (at-find-field2 .find-field2 .result)
+    (at-field-end .field-end .result) (at-find-field .find-field .ensures) (at-find-field2 .find-field2 .ensures) (at-field-end .field-end .ensures)
+    (sym (at-begins-with .begins-with .ensures) ∙ not-false _ (at-if1 .if1 .left)) (c .before .before .if2 .left) (c .if3 .taken)
 
 returns-4 : tie.Need-returns-4
-returns-4 c = scanned-long (c .before .before .before .before .before .before .before .before .before .before .before .before .args .message .now) (c .before .before .before .before .before .before .before .before .find-field .result) (c .before .before .before .before .before .before .before .find-field2 .result) (c .before .before .before .before .before .field-end .result) (c .before .before .before .before .before .before .before .before .find-field .ensures) (c .before .before .before .before .before .before .before .find-field2 .ensures) (c .before .before .before .before .before .field-end .ensures) (sym (c .before .before .before .before .before .before .before .before .before .before .begins-with .ensures) ∙ not-false _ (c .before .before .before .before .before .before .before .before .before .if1 .left)) (c .before .before .before .before .if2 .left) (c .before .before .if3 .left) (c .if4 .taken)
+returns-4 c =
+    let at-if2 = c .before .before .before .before in
+    let at-field-end = at-if2 .before in
+    let at-find-field2 = at-field-end .before .before in
+    let at-find-field = at-find-field2 .before in
+    let at-if1 = at-find-field .before in
+    let at-begins-with = at-if1 .before in
+    let at-start = at-begins-with .before .before in
+    scanned-long (at-start .args .message .now) (at-find-field .find-field .result) (at-find-field2 .find-field2 .result)
+    (at-field-end .field-end .result) (at-find-field .find-field .ensures) (at-find-field2 .find-field2 .ensures) (at-field-end .field-end .ensures)
+    (sym (at-begins-with .begins-with .ensures) ∙ not-false _ (at-if1 .if1 .left)) (at-if2 .if2 .left) (c .before .before .if3 .left) (c .if4 .taken)
 
 returns-5 : tie.Need-returns-5
-returns-5 c = scanned-read (c .before .before .before .before .before .before .before .before .before .before .before .before .args .message .now) (c .before .before .before .before .before .before .before .before .find-field .result) (c .before .before .before .before .before .before .before .find-field2 .result) (c .before .before .before .before .before .field-end .result) (c .before .before .before .before .before .before .before .before .find-field .ensures) (c .before .before .before .before .before .before .before .find-field2 .ensures) (c .before .before .before .before .before .field-end .ensures) (sym (c .before .before .before .before .before .before .before .before .before .before .begins-with .ensures) ∙ not-false _ (c .before .before .before .before .before .before .before .before .before .if1 .left)) (c .before .before .before .before .if2 .left) (c .before .before .if3 .left) (c .if4 .left)
+returns-5 c =
+    let at-if2 = c .before .before .before .before in
+    let at-field-end = at-if2 .before in
+    let at-find-field2 = at-field-end .before .before in
+    let at-find-field = at-find-field2 .before in
+    let at-if1 = at-find-field .before in
+    let at-begins-with = at-if1 .before in
+    let at-start = at-begins-with .before .before in
+    scanned-read (at-start .args .message .now) (at-find-field .find-field .result) (at-find-field2 .find-field2 .result)
+    (at-field-end .field-end .result) (at-find-field .find-field .ensures) (at-find-field2 .find-field2 .ensures) (at-field-end .field-end .ensures)
+    (sym (at-begins-with .begins-with .ensures) ∙ not-false _ (at-if1 .if1 .left)) (at-if2 .if2 .left) (c .before .before .if3 .left) (c .if4 .left)
 
 pub scan-header-spec : {M : Type 1} → statement M
 scan-header-spec =

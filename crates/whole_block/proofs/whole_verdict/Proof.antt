@@ -58,23 +58,23 @@ add-if5 c = omega (arith, begins (c .before .before .before .before .before) .st
 returns-5 : tie.Need-returns-5
 returns-5 c = check-early _ _ _ (begins (c .before .before .before .before .before .before)) (c .before .before .if2 .left) (end-byte (c .before .before .before .before .before .before) (omega (arith, begins (c .before .before .before .before .before .before) .stop .most)) (c .before .before .if2 .left)) (omega (arith, begins (c .before .before .before .before .before .before) .stop .most))
 
-sub-outcome-of : tie.Need-sub-outcome-of
-sub-outcome-of c = search needs
+sub-end-verdict : tie.Need-sub-end-verdict
+sub-end-verdict c = search needs
 
-part-outcome-of-start : tie.Need-part-outcome-of-start
-part-outcome-of-start c = search needs
+part-end-verdict-start : tie.Need-part-end-verdict-start
+part-end-verdict-start c = search needs
 
-part-outcome-of-end : tie.Need-part-outcome-of-end
-part-outcome-of-end c = search needs
+part-end-verdict-end : tie.Need-part-end-verdict-end
+part-end-verdict-end c = search needs
 
-shared-slice-read-outcome-of : tie.Need-shared-slice-read-outcome-of
-shared-slice-read-outcome-of c = search needs
+shared-slice-read-end-verdict : tie.Need-shared-slice-read-end-verdict
+shared-slice-read-end-verdict c = search needs
 
-outcome-of-requires : tie.Need-outcome-of-requires
-outcome-of-requires c κs = search needs
+end-verdict-requires : tie.Need-end-verdict-requires
+end-verdict-requires c κs = search needs
 
 returns-6 : tie.Need-returns-6
-returns-6 c = c .outcome-of .ensures ∙ check-verdict (c .before .before .before .before .before .before .before .before .before .before .before .before .args .settings) (c .before .before .before .before .before .before .before .before .before .before .before .before .args .block .now) (c .before .before .before .before .before .before .before .before .before .find-stop .result) (begins (c .before .before .before .before .before .before .before .before .before)) (c .before .before .before .before .before .if2 .left) (end-byte (c .before .before .before .before .before .before .before .before .before) (omega (arith, begins (c .before .before .before .before .before .before .before .before .before) .stop .most)) (c .before .before .before .before .before .if2 .left)) (c .before .before .before .if5 .left)
+returns-6 c = c .end-verdict .ensures ∙ check-verdict (c .before .before .before .before .before .before .before .before .before .before .before .before .args .settings) (c .before .before .before .before .before .before .before .before .before .before .before .before .args .block .now) (c .before .before .before .before .before .before .before .before .before .find-stop .result) (begins (c .before .before .before .before .before .before .before .before .before)) (c .before .before .before .before .before .if2 .left) (end-byte (c .before .before .before .before .before .before .before .before .before) (omega (arith, begins (c .before .before .before .before .before .before .before .before .before) .stop .most)) (c .before .before .before .before .before .if2 .left)) (c .before .before .before .if5 .left)
 
 pub whole-verdict-spec : {M : Type 1} → statement M
 whole-verdict-spec =
@@ -93,9 +93,9 @@ whole-verdict-spec =
     returns-4
     add-if5
     returns-5
-    sub-outcome-of
-    part-outcome-of-start
-    part-outcome-of-end
-    shared-slice-read-outcome-of
-    outcome-of-requires
+    sub-end-verdict
+    part-end-verdict-start
+    part-end-verdict-end
+    shared-slice-read-end-verdict
+    end-verdict-requires
     returns-6)

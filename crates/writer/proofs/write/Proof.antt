@@ -1,9 +1,7 @@
-use mathlib.Core.Path.{sym, ap, _∙_}
+-- `writer::write` meets its contract.
+use mathlib.Core.Path.{sym, _∙_}
 use borrow.Author.Tests.{not-true, not-false}
-use Rattle.block.specs.Format.{hybridBlock, minimalBlock, blockOf}
-use Rattle.writer.specs.Write.{refused}
-use Rattle.writer.specs.declared.Written.the-variants.{Byte}
-use Rattle.writer.proofs.Laws.{write-setting, write-too-short, write-long, write-shape, write-byte, write-all, block-hybrid, block-minimal, wrote-is, space-hybrid, space-minimal}
+use Rattle.writer.proofs.Laws.{write-setting, write-framed}
 use borrow.Author.Needs.{needs}
 use Rattle.writer.proofs.write.Statement.{statement}
 use Rattle.writer.proofs.write.Tie as tie
@@ -13,160 +11,21 @@ is-valid-requires c κs = search needs
 
 returns : tie.Need-returns
 returns c =
-    let at1 = c in
-    let a = at1 .before .before .before .before .args in
-    let settings = sym (at1 .before .is-valid .ensures) ∙ not-true _ (at1 .if1 .taken) in
-    write-setting (a .settings) (a .t) (a .content .now) (a .start) (a .buffer .now) settings
+    let a = c .before .before .before .before .args in
+    write-setting (a .settings) (a .t) (a .content .now) (a .start) (a .buffer .now) (sym (c .before .is-valid .ensures) ∙ not-true _ (c .if1 .taken))
 
 frame-requires : tie.Need-frame-requires
 frame-requires c κs = search needs
 
-is-long-enough-requires : tie.Need-is-long-enough-requires
-is-long-enough-requires c κs = search needs
-
-returns-2 : tie.Need-returns-2
-returns-2 c =
-    let at2 = c in
-    let at1 = at2 .before .before .before in
-    let a = at1 .before .before .before .before .args in
-    let settings = sym (at1 .before .is-valid .ensures) ∙ not-false _ (at1 .if1 .left) in
-    let enough = sym (rw (at2 .before .before .frame .ensures) at (at2 .before .is-long-enough .ensures)) ∙ not-true _ (at2 .if2 .taken) in
-    write-too-short (a .settings) (a .t) (a .content .now) (a .start) (a .buffer .now) settings enough
-
-returns-3 : tie.Need-returns-3
-returns-3 c =
-    let at3 = c in
-    let at2 = at3 .before .before in
-    let at1 = at2 .before .before .before in
-    let a = at1 .before .before .before .before .args in
-    let settings = sym (at1 .before .is-valid .ensures) ∙ not-false _ (at1 .if1 .left) in
-    let enough = sym (rw (at2 .before .before .frame .ensures) at (at2 .before .is-long-enough .ensures)) ∙ not-false _ (at2 .if2 .left) in
-    write-long (a .settings) (a .t) (a .content .now) (a .start) (a .buffer .now) settings enough (at3 .if3 .taken)
-
-type-valid-requires : tie.Need-type-valid-requires
-type-valid-requires c κs = search needs
-
-returns-4 : tie.Need-returns-4
-returns-4 c =
-    let at4 = c in
-    let at3 = at4 .before .before in
-    let at2 = at3 .before .before in
-    let at1 = at2 .before .before .before in
-    let a = at1 .before .before .before .before .args in
-    let settings = sym (at1 .before .is-valid .ensures) ∙ not-false _ (at1 .if1 .left) in
-    let enough = sym (rw (at2 .before .before .frame .ensures) at (at2 .before .is-long-enough .ensures)) ∙ not-false _ (at2 .if2 .left) in
-    let type = sym (at4 .before .type-valid .ensures) ∙ not-true _ (at4 .if4 .taken) in
-    write-shape (a .settings) (a .t) (a .content .now) (a .start) (a .buffer .now) settings enough (at3 .if3 .left) type
-
-are-allowed-requires : tie.Need-are-allowed-requires
-are-allowed-requires c κs = search needs
-
-first-forbidden-requires : tie.Need-first-forbidden-requires
-first-forbidden-requires c κs = search needs
-
-returns-5 : tie.Need-returns-5
-returns-5 c =
-    let at5 = c .before in
-    let at4 = at5 .before .before in
-    let at3 = at4 .before .before in
-    let at2 = at3 .before .before in
-    let at1 = at2 .before .before .before in
-    let a = at1 .before .before .before .before .args in
-    let settings = sym (at1 .before .is-valid .ensures) ∙ not-false _ (at1 .if1 .left) in
-    let enough = sym (rw (at2 .before .before .frame .ensures) at (at2 .before .is-long-enough .ensures)) ∙ not-false _ (at2 .if2 .left) in
-    let type = sym (at4 .before .type-valid .ensures) ∙ not-false _ (at4 .if4 .left) in
-    let bytes = sym (at5 .before .are-allowed .ensures) ∙ not-true _ (at5 .if5 .taken) in
-    ap (λ n. refused (Byte n) (a .buffer .now)) (c .first-forbidden .ensures)
-    ∙ write-byte (a .settings) (a .t) (a .content .now) (a .start) (a .buffer .now) settings enough (at3 .if3 .left) type bytes
-
-enum-told : tie.Need-enum-told
-enum-told c = search needs
-
-write-block-requires : tie.Need-write-block-requires
-write-block-requires c κs =
-    let at5 = c .before .before .before in
-    let at4 = at5 .before .before in
-    let at3 = at4 .before .before in
-    let at2 = at3 .before .before in
-    let at1 = at2 .before .before .before in
-    let a = at1 .before .before .before .before .args in
-    let enough = sym (rw (at2 .before .before .frame .ensures) at (at2 .before .is-long-enough .ensures)) ∙ not-false _ (at2 .if2 .left) in
-    space-hybrid (a .settings .kind) (a .start) _ (a .content .now) enough (c .before .enum-told .given .1)
-
-enum-told-2 : tie.Need-enum-told-2
-enum-told-2 c = search needs
-
-write-block-requires-2 : tie.Need-write-block-requires-2
-write-block-requires-2 c κs =
-    let at5 = c .before .before .before in
-    let at4 = at5 .before .before in
-    let at3 = at4 .before .before in
-    let at2 = at3 .before .before in
-    let at1 = at2 .before .before .before in
-    let a = at1 .before .before .before .before .args in
-    let enough = sym (rw (at2 .before .before .frame .ensures) at (at2 .before .is-long-enough .ensures)) ∙ not-false _ (at2 .if2 .left) in
-    space-minimal (a .settings .kind) (a .start) _ (a .content .now) enough (c .before .enum-told2 .given .1)
-
 same-length : tie.Need-same-length
 same-length c = search needs
 
-returns-6 : tie.Need-returns-6
-returns-6 c =
-    let at5 = c .before .before .before .before .before .before in
-    let at4 = at5 .before .before in
-    let at3 = at4 .before .before in
-    let at2 = at3 .before .before in
-    let at1 = at2 .before .before .before in
-    let a = at1 .before .before .before .before .args in
-    let settings = sym (at1 .before .is-valid .ensures) ∙ not-false _ (at1 .if1 .left) in
-    let enough = sym (rw (at2 .before .before .frame .ensures) at (at2 .before .is-long-enough .ensures)) ∙ not-false _ (at2 .if2 .left) in
-    let type = sym (at4 .before .type-valid .ensures) ∙ not-false _ (at4 .if4 .left) in
-    let bytes = sym (at5 .before .are-allowed .ensures) ∙ not-false _ (at5 .if5 .left) in
-    let block = c .before .before .write-block in
-    wrote-is (a .buffer .now) (a .start) (block .result) _ (hybridBlock (a .settings) (a .t) (a .content .now)) (blockOf (a .settings) (a .t) (a .content .now)) (block .ensures .0)
-    (block .ensures .1) (block-hybrid (a .settings) (a .t) (a .content .now) (a .start) (a .buffer .now) (c .before .before .before .before .enum-told .given .1))
-    ∙ write-all (a .settings) (a .t) (a .content .now) (a .start) (a .buffer .now) settings enough (at3 .if3 .left) type bytes
-
-same-length-2 : tie.Need-same-length-2
-same-length-2 c = search needs
-
-returns-7 : tie.Need-returns-7
-returns-7 c =
-    let at5 = c .before .before .before .before .before .before in
-    let at4 = at5 .before .before in
-    let at3 = at4 .before .before in
-    let at2 = at3 .before .before in
-    let at1 = at2 .before .before .before in
-    let a = at1 .before .before .before .before .args in
-    let settings = sym (at1 .before .is-valid .ensures) ∙ not-false _ (at1 .if1 .left) in
-    let enough = sym (rw (at2 .before .before .frame .ensures) at (at2 .before .is-long-enough .ensures)) ∙ not-false _ (at2 .if2 .left) in
-    let type = sym (at4 .before .type-valid .ensures) ∙ not-false _ (at4 .if4 .left) in
-    let bytes = sym (at5 .before .are-allowed .ensures) ∙ not-false _ (at5 .if5 .left) in
-    let block = c .before .before .write-block2 in
-    wrote-is (a .buffer .now) (a .start) (block .result) _ (minimalBlock (a .settings) (a .content .now)) (blockOf (a .settings) (a .t) (a .content .now)) (block .ensures .0)
-    (block .ensures .1) (block-minimal (a .settings) (a .t) (a .content .now) (a .start) (a .buffer .now) (c .before .before .before .before .enum-told2 .given .1))
-    ∙ write-all (a .settings) (a .t) (a .content .now) (a .start) (a .buffer .now) settings enough (at3 .if3 .left) type bytes
+returns-2 : tie.Need-returns-2
+returns-2 c =
+    let test = c .before .before .before .before in
+    let a = test .before .before .before .before .args in
+    c .before .before .frame .ensures
+    ∙ write-framed (a .settings) (a .t) (a .content .now) (a .start) (a .buffer .now) (sym (test .before .is-valid .ensures) ∙ not-false _ (test .if1 .left))
 
 pub write-spec : {M : Type 1} → statement M
-write-spec =
-    tie.close
-    (tie.spec
-    is-valid-requires
-    returns
-    frame-requires
-    is-long-enough-requires
-    returns-2
-    returns-3
-    type-valid-requires
-    returns-4
-    are-allowed-requires
-    first-forbidden-requires
-    returns-5
-    enum-told
-    write-block-requires
-    enum-told-2
-    write-block-requires-2
-    same-length
-    returns-6
-    same-length-2
-    returns-7)
+write-spec = tie.close (tie.spec is-valid-requires returns frame-requires same-length returns-2)

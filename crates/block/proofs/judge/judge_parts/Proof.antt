@@ -1,10 +1,11 @@
 -- `block::judge::judge_parts` meets its contract.
 use mathlib.Core.Path.{sym, ap, _∙_}
+use Prim.Native.Nat.{ℕ}
 use borrow.Author.Tests.{not-true, not-false}
 use borrow.Author.Needs.{needs}
 use Rattle.block.proofs.Laws.{parts-shape, parts-byte, parts-count, parts-check, parts-accepted}
 use Rattle.block.specs.Format.{countField}
-use Rattle.verdict.specs.declared.Verdict.the-variants.{Byte}
+use Rattle.refusal.specs.declared.Verdict.the-variants.{Refused}
 use Rattle.block.proofs.judge.judge_parts.Statement.{statement}
 use Rattle.block.proofs.judge.judge_parts.Tie as tie
 
@@ -23,7 +24,7 @@ first-forbidden-requires c κs = search needs
 returns-2 : tie.Need-returns-2
 returns-2 c =
     let a = c .before .before .before .before .before .before .before .before .args in
-    ap Byte (c .first-forbidden .ensures) ∙ parts-byte (a .start-block) (a .t) (a .s .now) (a .count .now) (a .sum .now)
+    ap (λ (i : ℕ). Refused 3 i) (c .first-forbidden .ensures) ∙ parts-byte (a .start-block) (a .t) (a .s .now) (a .count .now) (a .sum .now)
     (sym (c .before .before .before .before .type-matches .ensures) ∙ not-false _ (c .before .before .before .if1 .left)) (sym (c .before .before .are-allowed .ensures) ∙ not-true _ (c .before .if2 .taken))
 
 add-is-five-digits : tie.Need-add-is-five-digits

@@ -1,14 +1,14 @@
 -- `giamuvich::fresh::fresh_words` meets its contract.
 use lib.ListN.{length}
-use borrow.Author.Tests.{lt-ltb, le-ltb}
+use borrow.Author.Tests.{lt-leb, le-leb}
 use borrow.Author.Needs.{needs}
-use Rattle.block_calls.specs.ReadCalls.{freshCall}
+use Rattle.block_calls.specs.ReadCalls.{freshReaderCall}
 use Rattle.block_calls.proofs.fresh.fresh_words.Statement.{statement}
 use Rattle.block_calls.proofs.fresh.fresh_words.Tie as tie
 
 returns : tie.Need-returns
-unfolding freshCall
-returns c = rw (lt-ltb (length (c .before .before .args .state .now)) 4 (c .if1 .taken))
+unfolding freshReaderCall
+returns c = rw (lt-leb 4 (length (c .before .before .args .state .now)) (c .if1 .taken))
 
 new-requires : tie.Need-new-requires
 new-requires c κs = search needs
@@ -20,8 +20,8 @@ same-length : tie.Need-same-length
 same-length c = search needs
 
 returns-2 : tie.Need-returns-2
-unfolding freshCall
-returns-2 c = rw (le-ltb (length (c .before .before .before .before .before .before .before .args .state .now)) 4 (c .before .before .before .before .before .if1 .left), c .before .before .write-reader .ensures, c .before .before .before .new .ensures)
+unfolding freshReaderCall
+returns-2 c = rw (le-leb 4 (length (c .before .before .before .before .before .before .before .args .state .now)) (c .before .before .before .before .before .if1 .left), c .before .before .write-reader .ensures, c .before .before .before .new .ensures)
 
 pub fresh-words-spec : {M : Type 1} → statement M
 fresh-words-spec =

@@ -19,8 +19,8 @@ returns-2 c = rw (c .before .before .made .given .1) (write-few _ _ (c .before .
 type-byte-requires : tie.Need-type-byte-requires
 type-byte-requires c κs = search needs
 
-write-requires : tie.Need-write-requires
-write-requires c κs = search needs
+frame-requires : tie.Need-frame-requires
+frame-requires c κs = search needs
 
 report-written-requires : tie.Need-report-written-requires
 report-written-requires c κs = search needs
@@ -34,8 +34,8 @@ same-length-2 c = search needs
 returns-3 : tie.Need-returns-3
 returns-3 c =
     let a = c .before .before .before .before .before .before .before .before .before .before .before .before .before .before .before .before .args in
-    rw (c .before .before .before .before .before .before .before .before .before .before .before .made .given .1) (write-done (c .before .before .before .before .before .before .before .before .before .before .before .made .given .0 .0) (a .t) (a .content .now) (a .buffer .now) (a .start) (a .report .now) (c .before .before .before .before .before .before .write .last .1 .1 .1 .0) (c .before .before .report-written .last .1 .0) (c .before .before .before .before .before .before .write .result) (c .before .before .report-written .result)
-    (c .before .before .before .before .before .before .before .before .before .if1 .left) (c .before .before .report-written .ensures) (rw (c .before .before .before .before .before .before .before .before .type-byte .ensures) at (c .before .before .before .before .before .before .write .ensures)))
+    rw (c .before .before .before .before .before .before .before .before .before .before .before .made .given .1) (write-done (c .before .before .before .before .before .before .before .before .before .before .before .made .given .0 .0) (a .t) (a .content .now) (a .buffer .now) (a .start) (a .report .now) (c .before .before .before .before .before .before .frame .last .1 .1 .1 .0) (c .before .before .report-written .last .1 .0) (c .before .before .before .before .before .before .frame .result) (c .before .before .report-written .result)
+    (c .before .before .before .before .before .before .before .before .before .if1 .left) (c .before .before .report-written .ensures) (rw (c .before .before .before .before .before .before .before .before .type-byte .ensures) at (c .before .before .before .before .before .before .frame .ensures)))
 
 pub write-words-spec : {M : Type 1} → statement M
 write-words-spec =
@@ -46,7 +46,7 @@ write-words-spec =
     returns
     returns-2
     type-byte-requires
-    write-requires
+    frame-requires
     report-written-requires
     same-length
     same-length-2

@@ -6,6 +6,9 @@ use Rattle.giamuvich.proofs.blocks.gmv_minimal_write.Tie as tie
 minimal-requires : tie.Need-minimal-requires
 minimal-requires c κs = search needs
 
+cast-write-words : tie.Need-cast-write-words
+cast-write-words c = search needs
+
 write-words-requires : tie.Need-write-words-requires
 write-words-requires c κs = search needs
 
@@ -20,4 +23,4 @@ returns c = rw (c .before .before .before .before .before .before .before .minim
 
 pub gmv-minimal-write-spec : {M : Type 1} → statement M
 gmv-minimal-write-spec =
-    tie.close (tie.spec minimal-requires write-words-requires same-length same-length-2 returns)
+    tie.close (tie.spec minimal-requires cast-write-words write-words-requires same-length same-length-2 returns)

@@ -3,8 +3,8 @@ use borrow.Author.Needs.{needs}
 use Rattle.giamuvich.proofs.receiver.gmv_hybrid_receive.Statement.{statement}
 use Rattle.giamuvich.proofs.receiver.gmv_hybrid_receive.Tie as tie
 
-hybrid-requires : tie.Need-hybrid-requires
-hybrid-requires c κs = search needs
+hybrid-link-requires : tie.Need-hybrid-link-requires
+hybrid-link-requires c κs = search needs
 
 received-words-requires : tie.Need-received-words-requires
 received-words-requires c κs = search needs
@@ -19,13 +19,13 @@ same-length-3 : tie.Need-same-length-3
 same-length-3 c = search needs
 
 returns : tie.Need-returns
-returns c = rw (c .before .before .before .before .before .before .before .before .before .before .hybrid .ensures) at (c .before .before .before .before .before .before .received-words .ensures)
+returns c = rw (c .before .before .before .before .before .before .before .before .before .before .hybrid-link .ensures) at (c .before .before .before .before .before .before .received-words .ensures)
 
 pub gmv-hybrid-receive-spec : {M : Type 1} → statement M
 gmv-hybrid-receive-spec =
     tie.close
     (tie.spec
-    hybrid-requires
+    hybrid-link-requires
     received-words-requires
     same-length
     same-length-2

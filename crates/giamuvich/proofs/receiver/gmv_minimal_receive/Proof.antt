@@ -3,8 +3,8 @@ use borrow.Author.Needs.{needs}
 use Rattle.giamuvich.proofs.receiver.gmv_minimal_receive.Statement.{statement}
 use Rattle.giamuvich.proofs.receiver.gmv_minimal_receive.Tie as tie
 
-minimal-requires : tie.Need-minimal-requires
-minimal-requires c κs = search needs
+minimal-link-requires : tie.Need-minimal-link-requires
+minimal-link-requires c κs = search needs
 
 received-words-requires : tie.Need-received-words-requires
 received-words-requires c κs = search needs
@@ -19,13 +19,13 @@ same-length-3 : tie.Need-same-length-3
 same-length-3 c = search needs
 
 returns : tie.Need-returns
-returns c = rw (c .before .before .before .before .before .before .before .before .before .before .minimal .ensures) at (c .before .before .before .before .before .before .received-words .ensures)
+returns c = rw (c .before .before .before .before .before .before .before .before .before .before .minimal-link .ensures) at (c .before .before .before .before .before .before .received-words .ensures)
 
 pub gmv-minimal-receive-spec : {M : Type 1} → statement M
 gmv-minimal-receive-spec =
     tie.close
     (tie.spec
-    minimal-requires
+    minimal-link-requires
     received-words-requires
     same-length
     same-length-2

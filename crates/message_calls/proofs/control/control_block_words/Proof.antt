@@ -1,9 +1,8 @@
 -- `message_calls::control::control_block_words` meets its contract.
 use borrow.Author.Needs.{needs}
-use Rattle.message_calls.proofs.ControlLaws.{call-is, no-link, few-words, all-done}
-use Rattle.block_calls.proofs.WriteLaws.{finished-with}
-use borrow.Author.Tests.{not-true, not-false}
 use mathlib.Core.Path.{refl, sym, _∙_}
+use Rattle.message_calls.proofs.Laws.{done, few}
+use Rattle.message_calls.proofs.ControlLaws.{call-is}
 use Rattle.message_calls.proofs.control.control_block_words.Statement.{statement}
 use Rattle.message_calls.proofs.control.control_block_words.Tie as tie
 
@@ -14,7 +13,9 @@ enum-told : tie.Need-enum-told
 enum-told c = search needs
 
 returns : tie.Need-returns
-returns c = let a = c .before .before .before .before .before .args in call-is (a .letters .now) (a .number) (a .buffer .now) (a .start) (a .report .now) (a .made) _ _ _ (c .enum-told .given .1) refl refl
+returns c =
+    let a = c .before .before .before .before .before .args in
+    call-is (a .letters .now) (a .number) (a .buffer .now) (a .start) (a .report .now) (a .made) _ _ _ (c .enum-told .given .1) refl refl
 
 from-letters-requires : tie.Need-from-letters-requires
 from-letters-requires c κs = search needs
@@ -26,10 +27,13 @@ enum-told-2 : tie.Need-enum-told-2
 enum-told-2 c = search needs
 
 returns-2 : tie.Need-returns-2
-returns-2 c = let a = c .before .before .before .before .before .before .before .before .before .args in call-is (a .letters .now) (a .number) (a .buffer .now) (a .start) (a .report .now) (a .made) _ _ _ (c .before .before .before .before .made .given .1) (sym (c .before .before .from-letters .ensures) ∙ c .enum-told2 .given .1) refl
+returns-2 c =
+    let a = c .before .before .before .before .before .before .before .before .before .args in
+    call-is (a .letters .now) (a .number) (a .buffer .now) (a .start) (a .report .now) (a .made) _ _ _ (c .before .before .before .before .made .given .1)
+    (sym (c .before .before .from-letters .ensures) ∙ c .enum-told2 .given .1) refl
 
-control-of-requires : tie.Need-control-of-requires
-control-of-requires c κs = search needs
+control-from-requires : tie.Need-control-from-requires
+control-from-requires c κs = search needs
 
 enum-known-control : tie.Need-enum-known-control
 enum-known-control c = search needs
@@ -38,22 +42,17 @@ enum-told-3 : tie.Need-enum-told-3
 enum-told-3 c = search needs
 
 returns-3 : tie.Need-returns-3
-returns-3 c = let a = c .before .before .before .before .before .before .before .before .before .before .before .before .before .args in call-is (a .letters .now) (a .number) (a .buffer .now) (a .start) (a .report .now) (a .made) _ _ _ (c .before .before .before .before .before .before .before .before .made .given .1) (sym (c .before .before .before .before .before .before .from-letters .ensures) ∙ c .before .before .before .before .name .given .1) (sym (c .before .before .control-of .ensures) ∙ c .enum-told3 .given .1)
-
-is-link-requires : tie.Need-is-link-requires
-is-link-requires c κs = search needs
+returns-3 c =
+    let a = c .before .before .before .before .before .before .before .before .before .before .before .before .before .args in
+    call-is (a .letters .now) (a .number) (a .buffer .now) (a .start) (a .report .now) (a .made) _ _ _ (c .before .before .before .before .before .before .before .before .made .given .1)
+    (sym (c .before .before .before .before .before .before .from-letters .ensures) ∙ c .before .before .before .before .name .given .1) (sym (c .before .before .control-from .ensures) ∙ c .enum-told3 .given .1)
 
 returns-4 : tie.Need-returns-4
 returns-4 c =
-    let a = c .before .before .before .before .before .before .before .before .before .before .before .before .before .before .before .before .args in
-    no-link (c .before .before .before .before .before .before .before .before .before .before .before .made .given .0 .0) (c .before .before .before .before .before .before .before .name .given .0 .0) (c .before .before .before .control .given .0 .0) (a .buffer .now) (a .start) (a .report .now) (sym (c .before .is-link .ensures) ∙ not-true _ (c .if1 .taken))
-    ∙ call-is (a .letters .now) (a .number) (a .buffer .now) (a .start) (a .report .now) (a .made) _ _ _ (c .before .before .before .before .before .before .before .before .before .before .before .made .given .1) (sym (c .before .before .before .before .before .before .before .before .before .from-letters .ensures) ∙ c .before .before .before .before .before .before .before .name .given .1) (sym (c .before .before .before .before .before .control-of .ensures) ∙ c .before .before .before .control .given .1)
-
-returns-5 : tie.Need-returns-5
-returns-5 c =
-    let a = c .before .before .before .before .before .before .before .before .before .before .before .before .before .before .before .before .before .args in
-    few-words (c .before .before .before .before .before .before .before .before .before .before .before .before .made .given .0 .0) (c .before .before .before .before .before .before .before .before .name .given .0 .0) (c .before .before .before .before .control .given .0 .0) (a .buffer .now) (a .start) (a .report .now) (sym (c .before .before .is-link .ensures) ∙ not-false _ (c .before .if1 .left)) (c .if2 .taken)
-    ∙ call-is (a .letters .now) (a .number) (a .buffer .now) (a .start) (a .report .now) (a .made) _ _ _ (c .before .before .before .before .before .before .before .before .before .before .before .before .made .given .1) (sym (c .before .before .before .before .before .before .before .before .before .before .from-letters .ensures) ∙ c .before .before .before .before .before .before .before .before .name .given .1) (sym (c .before .before .before .before .before .before .control-of .ensures) ∙ c .before .before .before .before .control .given .1)
+    let a = c .before .before .before .before .before .before .before .before .before .before .before .before .before .before .before .args in
+    few (a .buffer .now) (a .report .now) _ (c .if1 .taken)
+    ∙ call-is (a .letters .now) (a .number) (a .buffer .now) (a .start) (a .report .now) (a .made) _ _ _ (c .before .before .before .before .before .before .before .before .before .before .made .given .1)
+    (sym (c .before .before .before .before .before .before .before .before .from-letters .ensures) ∙ c .before .before .before .before .before .before .name .given .1) (sym (c .before .before .before .before .control-from .ensures) ∙ c .before .before .control .given .1)
 
 write-control-block-requires : tie.Need-write-control-block-requires
 write-control-block-requires c κs = search needs
@@ -67,12 +66,15 @@ same-length c = search needs
 same-length-2 : tie.Need-same-length-2
 same-length-2 c = search needs
 
-returns-6 : tie.Need-returns-6
-returns-6 c =
-    let a = c .before .before .before .before .before .before .before .before .before .before .before .before .before .before .before .before .before .before .before .before .before .before .before .before .before .args in
-    finished-with (a .report .now) _ _ (c .before .before .before .before .before .before .write-control-block .result) (c .before .before .report-written .result) _ (c .before .before .report-written .ensures) (c .before .before .before .before .before .before .write-control-block .ensures)
-    ∙ all-done (c .before .before .before .before .before .before .before .before .before .before .before .before .before .before .before .before .before .before .before .before .made .given .0 .0) (c .before .before .before .before .before .before .before .before .before .before .before .before .before .before .before .before .name .given .0 .0) (c .before .before .before .before .before .before .before .before .before .before .before .before .control .given .0 .0) (a .buffer .now) (a .start) (a .report .now) (sym (c .before .before .before .before .before .before .before .before .before .before .is-link .ensures) ∙ not-false _ (c .before .before .before .before .before .before .before .before .before .if1 .left)) (c .before .before .before .before .before .before .before .before .if2 .left)
-    ∙ call-is (a .letters .now) (a .number) (a .buffer .now) (a .start) (a .report .now) (a .made) _ _ _ (c .before .before .before .before .before .before .before .before .before .before .before .before .before .before .before .before .before .before .before .before .made .given .1) (sym (c .before .before .before .before .before .before .before .before .before .before .before .before .before .before .before .before .before .before .from-letters .ensures) ∙ c .before .before .before .before .before .before .before .before .before .before .before .before .before .before .before .before .name .given .1) (sym (c .before .before .before .before .before .before .before .before .before .before .before .before .before .before .control-of .ensures) ∙ c .before .before .before .before .before .before .before .before .before .before .before .before .control .given .1)
+returns-5 : tie.Need-returns-5
+returns-5 c =
+    let test = c .before .before .before .before .before .before .before .before in
+    let a = test .before .before .before .before .before .before .before .before .before .before .before .before .before .before .before .args in
+    let written = c .before .before .before .before .before .before .write-control-block in
+    let report = c .before .before .report-written in
+    done (a .buffer .now) (a .report .now) _ _ (written .result) (report .result) _ (test .if1 .left) (report .ensures) (written .ensures)
+    ∙ call-is (a .letters .now) (a .number) (a .buffer .now) (a .start) (a .report .now) (a .made) _ _ _ (test .before .before .before .before .before .before .before .before .before .before .made .given .1)
+    (sym (test .before .before .before .before .before .before .before .before .from-letters .ensures) ∙ test .before .before .before .before .before .before .name .given .1) (sym (test .before .before .before .before .control-from .ensures) ∙ test .before .before .control .given .1)
 
 pub control-block-words-spec : {M : Type 1} → statement M
 control-block-words-spec =
@@ -85,15 +87,13 @@ control-block-words-spec =
     enum-known-name
     enum-told-2
     returns-2
-    control-of-requires
+    control-from-requires
     enum-known-control
     enum-told-3
     returns-3
-    is-link-requires
     returns-4
-    returns-5
     write-control-block-requires
     report-written-requires
     same-length
     same-length-2
-    returns-6)
+    returns-5)

@@ -14,7 +14,9 @@ field-end-requires : tie.Need-field-end-requires
 field-end-requires c κs = search needs
 
 returns-3 : tie.Need-returns-3
-returns-3 c = id-free (c .before .before .before .before .args .control-id .now) (c .field-end .result) (c .field-end .ensures) (c .before .before .if1 .left) (c .before .if2 .left)
+returns-3 c =
+    let at-start = c .before .before .before .before in
+    id-free (at-start .args .control-id .now) (c .field-end .result) (c .field-end .ensures) (c .before .before .if1 .left) (c .before .if2 .left)
 
 pub is-control-id-spec : {M : Type 1} → statement M
 is-control-id-spec = tie.close (tie.spec returns returns-2 field-end-requires returns-3)

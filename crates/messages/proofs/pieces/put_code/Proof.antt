@@ -34,19 +34,25 @@ same-length : tie.Need-same-length
 same-length c = search needs
 
 returns : tie.Need-returns
-returns c = rw (c .before .before .before .before .before .enum-told .given .1) (c .before .before .put-piece .ensures)
+returns c =
+    let at-enum-told = c .before .before .before .before .before in
+    rw (at-enum-told .enum-told .given .1) (c .before .before .put-piece .ensures)
 
 same-length-2 : tie.Need-same-length-2
 same-length-2 c = search needs
 
 returns-2 : tie.Need-returns-2
-returns-2 c = rw (c .before .before .before .before .before .enum-told2 .given .1) (c .before .before .put-piece2 .ensures)
+returns-2 c =
+    let at-enum-told2 = c .before .before .before .before .before in
+    rw (at-enum-told2 .enum-told2 .given .1) (c .before .before .put-piece2 .ensures)
 
 same-length-3 : tie.Need-same-length-3
 same-length-3 c = search needs
 
 returns-3 : tie.Need-returns-3
-returns-3 c = rw (c .before .before .before .before .before .enum-told3 .given .1) (c .before .before .put-piece3 .ensures)
+returns-3 c =
+    let at-enum-told3 = c .before .before .before .before .before in
+    rw (at-enum-told3 .enum-told3 .given .1) (c .before .before .put-piece3 .ensures)
 
 pub put-code-spec : {M : Type 1} → statement M
 put-code-spec =

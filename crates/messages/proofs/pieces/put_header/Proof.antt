@@ -2,10 +2,11 @@
 use borrow.Author.Needs.{needs}
 use Rattle.messages.proofs.pieces.put_header.Statement.{statement}
 use Rattle.messages.proofs.pieces.put_header.Tie as tie
-use mathlib.Core.List.{List, [], _∷_, _++_}
-use Prim.Native.Nat.{ℕ, _+_, _≤_}
+use mathlib.Core.List.{_++_}
+use Prim.Native.Nat.{_+_, _≤_}
 use native.Mathlib.Omega.{arith}
 use lib.ListN.{length, length-append}
+use Rattle.lists.specs.Bytes.{bytes}
 use Rattle.messages.proofs.Laws.{then}
 
 slice-aggregate-put-piece : tie.Need-slice-aggregate-put-piece
@@ -37,19 +38,23 @@ same-length c = search needs
 
 returns : tie.Need-returns
 returns c =
-    let a = c .before .before .before .before .before .before .before .before .before .before .before .before .before .before .before .before .before .before .before .before .before .before .before .before .before .before .args in
-    let p = c .before .before .before .before .before .before .before .before .before .before .before .before .before .before .before .before .before .before .before .before .before .before .before .before .before .before .pre in
-    let start : List ℕ = 77 ∷ 83 ∷ 72 ∷ 124 ∷ 94 ∷ 126 ∷ 92 ∷ 38 ∷ 124 ∷ 124 ∷ 124 ∷ 124 ∷ 124 ∷ 124 ∷ 124 ∷ [] in
-    let b : List ℕ = 124 ∷ [] in
+    let at-put-piece4 = c .before .before .before .before .before .before .before in
+    let at-put-piece3 = at-put-piece4 .before .before .before .before in
+    let at-put-piece2 = at-put-piece3 .before .before .before .before .before in
+    let at-put-piece = at-put-piece2 .before .before .before .before in
+    let at-start = at-put-piece .before .before .before .before .before .before in
+    let a = at-start .args in
+    let start = bytes "MSH|^~\\&|||||||" in
+    let b = bytes "|" in
     let name = a .name .now in
     let id = a .control-id .now in
-    let h1 : a .at + length start ≤ length (a .out .now) = omega (arith, p) in
-    let h2 : a .at + length (start ++ name) ≤ length (a .out .now) = simp length-append (omega (arith, p)) in
-    let h3 : a .at + length (start ++ name ++ b) ≤ length (a .out .now) = simp length-append (omega (arith, p)) in
-    let h4 : a .at + length (start ++ name ++ b ++ id) ≤ length (a .out .now) = simp length-append (omega (arith, p)) in
-    let two = then start name (c .before .before .before .before .before .before .before .before .before .before .before .before .before .before .before .before .before .before .before .before .put-piece .ensures) h1 (c .before .before .before .before .before .before .before .before .before .before .before .before .before .before .before .before .put-piece2 .ensures) in
-    let three = then (start ++ name) b two h2 (c .before .before .before .before .before .before .before .before .before .before .before .put-piece3 .ensures) in
-    let four = then (start ++ name ++ b) id three h3 (c .before .before .before .before .before .before .before .put-piece4 .ensures) in
+    let h1 : a .at + length start ≤ length (a .out .now) = omega (arith, (at-start .pre)) in
+    let h2 : a .at + length (start ++ name) ≤ length (a .out .now) = simp length-append (omega (arith, (at-start .pre))) in
+    let h3 : a .at + length (start ++ name ++ b) ≤ length (a .out .now) = simp length-append (omega (arith, (at-start .pre))) in
+    let h4 : a .at + length (start ++ name ++ b ++ id) ≤ length (a .out .now) = simp length-append (omega (arith, (at-start .pre))) in
+    let two = then start name (at-put-piece .put-piece .ensures) h1 (at-put-piece2 .put-piece2 .ensures) in
+    let three = then (start ++ name) b two h2 (at-put-piece3 .put-piece3 .ensures) in
+    let four = then (start ++ name ++ b) id three h3 (at-put-piece4 .put-piece4 .ensures) in
     then (start ++ name ++ b ++ id) _ four h4 (c .before .before .put-piece5 .ensures)
 
 pub put-header-spec : {M : Type 1} → statement M

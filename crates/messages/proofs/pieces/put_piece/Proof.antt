@@ -2,7 +2,7 @@
 use borrow.Author.Needs.{needs}
 use Rattle.messages.proofs.pieces.put_piece.Statement.{statement}
 use Rattle.messages.proofs.pieces.put_piece.Tie as tie
-use Rattle.messages.proofs.Laws.{copied}
+use Rattle.messages.proofs.Laws.{piece-copied}
 
 sub-copy-bytes : tie.Need-sub-copy-bytes
 sub-copy-bytes c = search needs
@@ -23,7 +23,11 @@ same-length : tie.Need-same-length
 same-length c = search needs
 
 returns : tie.Need-returns
-returns c = copied (c .before .before .before .before .before .before .args .out .now) (c .before .before .before .before .before .before .args .piece .now) (c .before .before .copy-bytes .last .0) (c .before .before .before .before .before .before .args .at) (c .before .before .before .before .before .before .pre) (c .before .before .copy-bytes .ensures)
+returns c =
+    let at-copy-bytes = c .before .before in
+    let at-start = at-copy-bytes .before .before .before .before in
+    let a = at-start .args in
+    piece-copied (a .out .now) (a .piece .now) (at-copy-bytes .copy-bytes .last .0) (a .at) (at-start .pre) (at-copy-bytes .copy-bytes .ensures)
 
 pub put-piece-spec : {M : Type 1} → statement M
 put-piece-spec =

@@ -1,13 +1,14 @@
 -- `numbers::compare::are_same` meets its contract.
 use Rattle.numbers.proofs.compare.are_same.Statement.{statement}
 use Rattle.numbers.proofs.compare.are_same.Tie as tie
-use mathlib.Core.Path.{_≡_, refl, sym, _∙_}
+use mathlib.Core.Path.{_≡_, refl, _∙_}
 use Prim.Native.Nat.{_≤_, _-_}
 use native.Mathlib.Omega.{arith}
 use lib.ListN.{length, drop}
 use borrow.Author.Needs.{needs}
 use Rattle.lists.specs.Bytes.{same}
-use Rattle.numbers.proofs.Texts.{same-lengths, same-differ, same-more, same-end}
+use Rattle.lists.proofs.Same.{same-lengths}
+use Rattle.numbers.proofs.Texts.{same-differ, same-more, same-end}
 
 abbrev Inv-loop : tie.InvT-loop
 Inv-loop a b i₀ i = (i ≤ length a) × (same (drop i a) (drop i b) ≡ same a b)
@@ -28,7 +29,14 @@ shared-slice-read-y : tie.Need-shared-slice-read-y Inv-loop μ-loop
 shared-slice-read-y c = search needs
 
 returns-2 : tie.Need-returns-2 Inv-loop μ-loop
-returns-2 c = same-differ (c .before .before .before .before .before .before .args .a .now) (c .before .before .before .before .before .before .args .b .now) (c .before .before .before .before .loop .i) (c .before .before .before .loop-test .taken) (omega (arith, c .before .before .before .before .before .if1 .left)) (c .if2 .taken) ∙ c .before .before .before .before .loop .inv .1
+returns-2 c =
+    let at-loop-test = c .before .before .before in
+    let at-loop = at-loop-test .before in
+    let at-if1 = at-loop .before in
+    let at-start = at-if1 .before in
+    same-differ (at-start .args .a .now) (at-start .args .b .now) (at-loop .loop .i) (at-loop-test .loop-test .taken)
+    (omega (arith, at-if1 .if1 .left)) (c .if2 .taken)
+    ∙ at-loop .loop .inv .1
 
 add-i : tie.Need-add-i Inv-loop μ-loop
 add-i c = search needs
@@ -37,10 +45,23 @@ loop-less : tie.Need-loop-less Inv-loop μ-loop
 loop-less c = search needs
 
 loop-again : tie.Need-loop-again Inv-loop μ-loop
-loop-again c = (search needs, same-more (c .before .before .before .before .before .before .args .a .now) (c .before .before .before .before .before .before .args .b .now) (c .before .before .before .before .loop .i) (c .before .before .before .loop-test .taken) (omega (arith, c .before .before .before .before .before .if1 .left)) (c .if2 .left) ∙ c .before .before .before .before .loop .inv .1)
+loop-again c =
+    let at-loop-test = c .before .before .before in
+    let at-loop = at-loop-test .before in
+    let at-if1 = at-loop .before in
+    let at-start = at-if1 .before in (
+      search needs,
+      same-more (at-start .args .a .now) (at-start .args .b .now) (at-loop .loop .i) (at-loop-test .loop-test .taken)
+          (omega (arith, at-if1 .if1 .left)) (c .if2 .left)
+          ∙ at-loop .loop .inv .1,
+    )
 
 returns-3 : tie.Need-returns-3 Inv-loop μ-loop
-returns-3 c = same-end (c .before .before .before .args .a .now) (c .before .before .before .args .b .now) (c .before .loop .i) (c .loop-test .left) (omega (arith, c .before .before .if1 .left)) ∙ c .before .loop .inv .1
+returns-3 c =
+    let at-loop = c .before in
+    let at-start = at-loop .before .before in
+    same-end (at-start .args .a .now) (at-start .args .b .now) (at-loop .loop .i) (c .loop-test .left) (omega (arith, c .before .before .if1 .left))
+    ∙ at-loop .loop .inv .1
 
 pub are-same-spec : {M : Type 1} → statement M
 are-same-spec =

@@ -6,11 +6,12 @@ use mathlib.Core.Path.{_≡_, sym, _∙_}
 use Prim.Native.Nat.{_≤_, _-_}
 use lib.ListN.{length, drop}
 use borrow.Author.Needs.{needs}
-use Rattle.numbers.specs.Numbers.{allDigits}
-use Rattle.numbers.proofs.Laws.{digits-more, digits-none}
+use Rattle.numbers.specs.Numbers.{isDigit}
+use Rattle.lists.specs.Bytes.{all}
+use Rattle.lists.proofs.All.{all-more, all-none}
 
 abbrev Inv-loop : tie.InvT-loop
-Inv-loop s good₀ i₀ good i = (i ≤ length s) × ((good && allDigits (drop i s)) ≡ allDigits s)
+Inv-loop s good₀ i₀ good i = (i ≤ length s) × ((good && all isDigit (drop i s)) ≡ all isDigit s)
 
 abbrev μ-loop : tie.MeasureT-loop
 μ-loop s good₀ i₀ good i = length s - i
@@ -28,10 +29,14 @@ loop-less : tie.Need-loop-less Inv-loop μ-loop
 loop-less c = search needs
 
 loop-again : tie.Need-loop-again Inv-loop μ-loop
-loop-again c = (search needs, digits-more _ (c .before .before .loop .i) (c .before .before .loop .good) (c .before .loop-test .taken) ∙ c .before .before .loop .inv .1)
+loop-again c = (
+  search needs,
+  all-more isDigit _ (c .before .before .loop .i) (c .before .before .loop .good) (c .before .loop-test .taken)
+      ∙ c .before .before .loop .inv .1,
+)
 
 returns : tie.Need-returns Inv-loop μ-loop
-returns c = sym (digits-none _ (c .before .loop .i) (c .before .loop .good) (c .loop-test .left)) ∙ c .before .loop .inv .1
+returns c = sym (all-none isDigit _ (c .before .loop .i) (c .before .loop .good) (c .loop-test .left)) ∙ c .before .loop .inv .1
 
 pub are-digits-spec : {M : Type 1} → statement M
 are-digits-spec =

@@ -7,11 +7,12 @@ use Prim.Native.Nat.{_≤_, _<_, _-_, _^_}
 use native.Mathlib.Omega.{arith}
 use lib.ListN.{length, drop, getD}
 use borrow.Author.Needs.{needs}
-use Rattle.numbers.specs.Numbers.{allDigits, valueFrom, value}
+use Rattle.lists.specs.Bytes.{all}
+use Rattle.numbers.specs.Numbers.{isDigit, valueFrom, value}
 use Rattle.numbers.proofs.Laws.{digit-least, digit-most, digits-after, value-more, value-none, power-more, power-most}
 
 abbrev Inv-loop : tie.InvT-loop
-Inv-loop s sum₀ i₀ sum i = (i ≤ length s) × (sum < 10 ^ i) × (allDigits (drop i s) ≡ true) × (valueFrom sum (drop i s) ≡ value s)
+Inv-loop s sum₀ i₀ sum i = (i ≤ length s) × (sum < 10 ^ i) × (all isDigit (drop i s) ≡ true) × (valueFrom sum (drop i s) ≡ value s)
 
 abbrev μ-loop : tie.MeasureT-loop
 μ-loop s sum₀ i₀ sum i = length s - i
@@ -32,7 +33,13 @@ cast-sum : tie.Need-cast-sum Inv-loop μ-loop
 cast-sum c = omega (arith, digit-most _ (c .before .before .loop .i) (c .before .loop-test .taken) (c .before .before .loop .inv .2))
 
 add-sum : tie.Need-add-sum Inv-loop μ-loop
-add-sum c = omega (arith, power-most (c .before .before .loop .sum) (c .before .before .loop .i) (c .before .before .loop .inv .1) (omega arith), digit-most _ (c .before .before .loop .i) (c .before .loop-test .taken) (c .before .before .loop .inv .2))
+add-sum c =
+    omega (
+      arith,
+      power-most (c .before .before .loop .sum) (c .before .before .loop .i) (c .before .before .loop .inv .1) (omega arith),
+      digit-most _
+          (c .before .before .loop .i) (c .before .loop-test .taken) (c .before .before .loop .inv .2),
+    )
 
 add-i : tie.Need-add-i Inv-loop μ-loop
 add-i c = search needs
@@ -42,11 +49,17 @@ loop-less c = search needs
 
 loop-again : tie.Need-loop-again Inv-loop μ-loop
 loop-again c =
-    let s = c .before .before .before .args .s .now in (
+    let at-loop-test = c .before in
+    let at-loop = at-loop-test .before in
+    let at-start = at-loop .before in
+    let s = at-start .args .s .now in (
       omega arith,
-      power-more (c .before .before .loop .sum) (getD s (c .before .before .loop .i) 0) (c .before .before .loop .i) (c .before .before .loop .inv .1) (digit-most s (c .before .before .loop .i) (c .before .loop-test .taken) (c .before .before .loop .inv .2)),
-      digits-after s (c .before .before .loop .i) (c .before .loop-test .taken) (c .before .before .loop .inv .2),
-      value-more s (c .before .before .loop .i) (c .before .loop-test .taken) (c .before .before .loop .sum) ∙ c .before .before .loop .inv .3,
+      power-more (at-loop .loop .sum) (getD s (at-loop .loop .i) 0) (at-loop .loop .i) (at-loop .loop .inv .1)
+          (digit-most s (at-loop .loop .i) (at-loop-test .loop-test .taken) (at-loop .loop .inv .2)),
+      digits-after s (at-loop .loop .i)
+          (at-loop-test .loop-test .taken) (at-loop .loop .inv .2),
+      value-more s (at-loop .loop .i) (at-loop-test .loop-test .taken) (at-loop .loop .sum)
+          ∙ at-loop .loop .inv .3,
     )
 
 returns : tie.Need-returns Inv-loop μ-loop

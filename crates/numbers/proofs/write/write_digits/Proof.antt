@@ -2,7 +2,7 @@
 use Rattle.numbers.proofs.write.write_digits.Statement.{statement}
 use Rattle.numbers.proofs.write.write_digits.Tie as tie
 use mathlib.Core.Path.{_≡_, refl, _∙_}
-use Prim.Native.Nat.{_≤_, _+_}
+use Prim.Native.Nat.{_≤_}
 use native.Mathlib.Omega.{arith}
 use lib.ListN.{length, length-set}
 use borrow.Author.Needs.{needs}
@@ -11,16 +11,13 @@ use Rattle.numbers.specs.Numbers.{decimal}
 use Rattle.numbers.proofs.Laws.{length-more, length-least, put-digit, put-last}
 
 abbrev Inv-loop : tie.InvT-loop
-Inv-loop out₀ start n i₀ rest₀ out i rest = (i ≤ length out) × (length out ≡ length out₀) × (i ≡ start + length (decimal rest)) × (put out start (decimal rest) ≡ put out₀ start (decimal n))
+Inv-loop out₀ n i₀ rest₀ out i rest = (i ≤ length out) × (length out ≡ length out₀) × (i ≡ length (decimal rest)) × (put out 0 (decimal rest) ≡ put out₀ 0 (decimal n))
 
 abbrev μ-loop : tie.MeasureT-loop
-μ-loop out₀ start n i₀ rest₀ out i rest = rest
+μ-loop out₀ n i₀ rest₀ out i rest = rest
 
 digit-count-requires : tie.Need-digit-count-requires Inv-loop μ-loop
 digit-count-requires c κs = search needs
-
-add-i : tie.Need-add-i Inv-loop μ-loop
-add-i c = omega (arith, c .digit-count .ensures)
 
 loop-holds : tie.Need-loop-holds Inv-loop μ-loop
 loop-holds c = (omega (arith, c .digit-count .ensures), refl, omega (arith, c .digit-count .ensures), refl)
@@ -41,8 +38,12 @@ loop-again : tie.Need-loop-again Inv-loop μ-loop
 loop-again c = (
   simp length-set (omega arith),
   simp length-set (c .before .before .loop .inv .1),
-  omega (arith, length-more (c .before .before .loop .rest) (omega arith)),
-  put-digit (c .before .before .loop .out) (c .before .before .before .before .before .args .start) (c .before .before .loop .i) (c .before .before .loop .rest) _ (c .before .before .loop .inv .2) (c .before .before .loop .inv .0) (c .digit-of .ensures) (c .before .loop-test .taken) ∙ c .before .before .loop .inv .3,
+  omega
+      (arith, length-more (c .before .before .loop .rest) (omega arith)),
+  put-digit (c .before .before .loop .out) (c .before .before .loop .i)
+      (c .before .before .loop .rest) _ (c .before .before .loop .inv .2) (c .before .before .loop .inv .0) (c .digit-of .ensures)
+      (c .before .loop-test .taken)
+      ∙ c .before .before .loop .inv .3,
 )
 
 digit-of-requires-2 : tie.Need-digit-of-requires-2 Inv-loop μ-loop
@@ -58,7 +59,10 @@ same-length : tie.Need-same-length Inv-loop μ-loop
 same-length c = simp length-set (c .before .before .loop .inv .1)
 
 returns : tie.Need-returns Inv-loop μ-loop
-returns c = put-last (c .before .before .loop .out) (c .before .before .before .before .before .args .start) (c .before .before .loop .i) (c .before .before .loop .rest) _ (c .before .before .loop .inv .2) (c .before .before .loop .inv .0) (c .digit-of2 .ensures) (omega arith) ∙ c .before .before .loop .inv .3
+returns c =
+    put-last (c .before .before .loop .out) (c .before .before .loop .i) (c .before .before .loop .rest) _ (c .before .before .loop .inv .2)
+    (c .before .before .loop .inv .0) (c .digit-of2 .ensures) (omega arith)
+    ∙ c .before .before .loop .inv .3
 
 pub write-digits-spec : {M : Type 1} → statement M
 write-digits-spec =
@@ -67,7 +71,6 @@ write-digits-spec =
     Inv-loop
     μ-loop
     digit-count-requires
-    add-i
     loop-holds
     sub-i
     digit-of-requires

@@ -2,12 +2,10 @@
 use borrow.Author.Needs.{needs}
 use Rattle.receiver.proofs.deciding.decide_data.Statement.{statement}
 use Rattle.receiver.proofs.deciding.decide_data.Tie as tie
-use mathlib.Core.Path.{sym, _∙_}
+use mathlib.Core.Path.{sym, ap, _∙_}
 use borrow.Author.Tests.{not-true, not-false}
-use Rattle.receiver.proofs.Laws.{field-fits}
-use mathlib.Core.Path.{ap}
 use Rattle.settings.specs.DataBytes.{allAllowed}
-use Rattle.receiver.proofs.Laws.{header-forbidden, header-answers}
+use Rattle.receiver.proofs.Laws.{field-fits, header-forbidden, header-answers}
 
 read-header-requires : tie.Need-read-header-requires
 read-header-requires c κs = search needs
@@ -35,8 +33,14 @@ refused-by-requires-2 c κs = search needs
 
 returns-2 : tie.Need-returns-2
 returns-2 c =
-    let a = c .before .before .before .before .before .before .before .before .before .args in
-    c .refused-by2 .ensures ∙ rw (← (c .before .before .before .before .before .before .before .read-header .ensures), c .before .before .before .before .before .control-id .given .1) (header-forbidden (a .kind) (a .application) (a .expected) (a .content .now) (c .before .before .before .before .before .control-id .given .0 .0) (c .before .before .before .before .before .control-id .given .0 .1 .0) (ap allAllowed (sym (c .before .before .before .field-content .ensures)) ∙ sym (c .before .before .are-allowed .ensures) ∙ not-true _ (c .before .if1 .taken)))
+    let looked = c .before .before in
+    let known = looked .before .before .before in
+    let read = known .before .before in
+    let a = read .before .before .args in
+    c .refused-by2 .ensures
+    ∙ rw (← (read .read-header .ensures), known .control-id .given .1)
+    (header-forbidden (a .kind) (a .application) (a .expected) (a .content .now) (known .control-id .given .0 .0) (known .control-id .given .0 .1 .0)
+    (ap allAllowed (sym (looked .before .field-content .ensures)) ∙ sym (looked .are-allowed .ensures) ∙ not-true _ (c .before .if1 .taken)))
 
 field-content-requires-2 : tie.Need-field-content-requires-2
 field-content-requires-2 c κs = search needs
@@ -49,8 +53,14 @@ table-row-requires c κs = rw (c .read-number .ensures) (field-fits _)
 
 returns-3 : tie.Need-returns-3
 returns-3 c =
-    let a = c .before .before .before .before .before .before .before .before .before .before .before .args in
-    rw (c .table-row .ensures, c .before .read-number .ensures, c .before .before .field-content2 .ensures, ← (c .before .before .before .before .before .before .before .before .before .read-header .ensures), c .before .before .before .before .before .before .before .control-id .given .1) (header-answers (a .kind) (a .application) (a .expected) (a .content .now) (c .before .before .before .before .before .before .before .control-id .given .0 .0) (c .before .before .before .before .before .before .before .control-id .given .0 .1 .0) (ap allAllowed (sym (c .before .before .before .before .before .field-content .ensures)) ∙ sym (c .before .before .before .before .are-allowed .ensures) ∙ not-false _ (c .before .before .before .if1 .left)))
+    let tested = c .before .before .before in
+    let looked = tested .before in
+    let known = looked .before .before .before in
+    let read = known .before .before in
+    let a = read .before .before .args in
+    rw (c .table-row .ensures, c .before .read-number .ensures, c .before .before .field-content2 .ensures, ← (read .read-header .ensures), known .control-id .given .1)
+    (header-answers (a .kind) (a .application) (a .expected) (a .content .now) (known .control-id .given .0 .0) (known .control-id .given .0 .1 .0)
+    (ap allAllowed (sym (looked .before .field-content .ensures)) ∙ sym (looked .are-allowed .ensures) ∙ not-false _ (tested .if1 .left)))
 
 pub decide-data-spec : {M : Type 1} → statement M
 decide-data-spec =

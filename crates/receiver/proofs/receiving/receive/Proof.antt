@@ -1,14 +1,13 @@
 -- `receiver::receiving::receive` meets its contract.
 use borrow.Author.Needs.{needs}
-use Rattle.receiver.proofs.receiving.receive.Statement.{statement}
-use Rattle.receiver.proofs.receiving.receive.Tie as tie
-use mathlib.Core.Path.{sym, _∙_}
 use borrow.Author.Tests.{not-true, not-false}
-use Rattle.receiver.proofs.Laws.{possible}
-use Rattle.receiver.proofs.Replying.{receive-setting, receive-short, receive-state, receive-replied, linked, link-limit}
-use mathlib.Core.Path.{ap}
+use mathlib.Core.Path.{sym, ap, _∙_}
 use Rattle.receiver.specs.Receiver.{repliedOf}
 use Rattle.receiver.specs.declared.Decision.{Decision}
+use Rattle.receiver.proofs.Laws.{possible}
+use Rattle.receiver.proofs.Replying.{receive-setting, receive-short, receive-state, receive-replied, linked}
+use Rattle.receiver.proofs.receiving.receive.Statement.{statement}
+use Rattle.receiver.proofs.receiving.receive.Tie as tie
 
 is-link-requires : tie.Need-is-link-requires
 is-link-requires c κs = search needs
@@ -17,16 +16,27 @@ nothing-new-requires : tie.Need-nothing-new-requires
 nothing-new-requires c κs = search needs
 
 returns : tie.Need-returns
-returns c = rw (c .nothing-new .ensures) (receive-setting (c .before .before .before .before .before .args .settings) (c .before .before .before .before .before .args .application) (c .before .before .before .before .before .args .expected) (c .before .before .before .before .before .args .verdict) (c .before .before .before .before .before .args .content .now) (c .before .before .before .before .before .args .start) (c .before .before .before .before .before .args .buffer .now) (sym (c .before .before .is-link .ensures) ∙ not-true _ (c .before .if1 .taken)))
+returns c =
+    let link = c .before .before in
+    let a = link .before .before .before .args in
+    rw (c .nothing-new .ensures)
+    (receive-setting (a .settings) (a .application) (a .expected) (a .verdict) (a .content .now) (a .start) (a .buffer .now)
+    (sym (link .is-link .ensures) ∙ not-true _ (c .before .if1 .taken)))
 
 is-long-enough-requires : tie.Need-is-long-enough-requires
-is-long-enough-requires c κs = link-limit (c .before .before .before .before .args .settings) (sym (c .before .is-link .ensures) ∙ not-false _ (c .if1 .left))
+is-long-enough-requires c κs = sym (c .before .is-link .ensures) ∙ not-false _ (c .if1 .left)
 
 nothing-new-requires-2 : tie.Need-nothing-new-requires-2
 nothing-new-requires-2 c κs = search needs
 
 returns-2 : tie.Need-returns-2
-returns-2 c = rw (c .nothing-new2 .ensures) (receive-short (c .before .before .before .before .before .before .before .args .settings) (c .before .before .before .before .before .before .before .args .application) (c .before .before .before .before .before .before .before .args .expected) (c .before .before .before .before .before .before .before .args .verdict) (c .before .before .before .before .before .before .before .args .content .now) (c .before .before .before .before .before .before .before .args .start) (c .before .before .before .before .before .before .before .args .buffer .now) (sym (c .before .before .before .before .is-link .ensures) ∙ not-false _ (c .before .before .before .if1 .left)) (sym (c .before .before .is-long-enough .ensures) ∙ not-true _ (c .before .if2 .taken)))
+returns-2 c =
+    let long = c .before .before in
+    let link = long .before .before in
+    let a = link .before .before .before .args in
+    rw (c .nothing-new2 .ensures)
+    (receive-short (a .settings) (a .application) (a .expected) (a .verdict) (a .content .now) (a .start) (a .buffer .now)
+    (sym (link .is-link .ensures) ∙ not-false _ (long .before .if1 .left)) (sym (long .is-long-enough .ensures) ∙ not-true _ (c .before .if2 .taken)))
 
 is-expected-requires : tie.Need-is-expected-requires
 is-expected-requires c κs = search needs
@@ -35,24 +45,48 @@ nothing-new-requires-3 : tie.Need-nothing-new-requires-3
 nothing-new-requires-3 c κs = search needs
 
 returns-3 : tie.Need-returns-3
-returns-3 c = rw (c .nothing-new3 .ensures) (receive-state (c .before .before .before .before .before .before .before .before .before .args .settings) (c .before .before .before .before .before .before .before .before .before .args .application) (c .before .before .before .before .before .before .before .before .before .args .expected) (c .before .before .before .before .before .before .before .before .before .args .verdict) (c .before .before .before .before .before .before .before .before .before .args .content .now) (c .before .before .before .before .before .before .before .before .before .args .start) (c .before .before .before .before .before .before .before .before .before .args .buffer .now) (sym (c .before .before .before .before .before .before .is-link .ensures) ∙ not-false _ (c .before .before .before .before .before .if1 .left)) (sym (c .before .before .before .before .is-long-enough .ensures) ∙ not-false _ (c .before .before .before .if2 .left)) (sym (c .before .before .is-expected .ensures) ∙ not-true _ (c .before .if3 .taken)))
+returns-3 c =
+    let expected = c .before .before in
+    let long = expected .before .before in
+    let link = long .before .before in
+    let a = link .before .before .before .args in
+    rw (c .nothing-new3 .ensures)
+    (receive-state (a .settings) (a .application) (a .expected) (a .verdict) (a .content .now) (a .start) (a .buffer .now)
+    (sym (link .is-link .ensures) ∙ not-false _ (long .before .if1 .left)) (sym (long .is-long-enough .ensures) ∙ not-false _ (expected .before .if2 .left))
+    (sym (expected .is-expected .ensures) ∙ not-true _ (c .before .if3 .taken)))
 
 decide-requires : tie.Need-decide-requires
 decide-requires c κs = search needs
 
 reply-requires : tie.Need-reply-requires
 reply-requires c κs =
-    let a = c .before .before .before .before .before .before .before .before .before .before .args in
-    (linked (a .settings) (a .application) (a .expected) (a .verdict) (a .content .now) (a .start) (a .buffer .now) (sym (c .before .before .before .before .before .before .before .is-link .ensures) ∙ not-false _ (c .before .before .before .before .before .before .if1 .left)) (sym (c .before .before .before .before .before .is-long-enough .ensures) ∙ not-false _ (c .before .before .before .before .if2 .left)), rw (c .before .decide .ensures) (possible (a .settings .kind) (a .application) (a .expected) (a .verdict) (a .content .now) (sym (c .before .before .before .is-expected .ensures) ∙ not-false _ (c .before .before .if3 .left))))
+    let decided = c .before in
+    let expected = decided .before .before in
+    let long = expected .before .before in
+    let link = long .before .before in
+    let a = link .before .before .before .args in
+    let ready = linked (a .settings) (a .application) (a .expected) (a .verdict) (a .content .now) (a .start) (a .buffer .now)
+    (sym (link .is-link .ensures) ∙ not-false _ (long .before .if1 .left)) (sym (long .is-long-enough .ensures) ∙ not-false _ (expected .before .if2 .left)) in
+    let able = possible (a .settings .kind) (a .application) (a .expected) (a .content .now) (a .verdict)
+    (sym (expected .is-expected .ensures) ∙ not-false _ (decided .before .if3 .left)) in
+    (ready, rw (decided .decide .ensures) able)
 
 same-length : tie.Need-same-length
 same-length c = search needs
 
 returns-4 : tie.Need-returns-4
 returns-4 c =
-    let a = c .before .before .before .before .before .before .before .before .before .before .before .before .before .args in
-    c .before .before .reply .ensures ∙ ap (λ (z : Decision). repliedOf (a .settings) (a .expected) (a .content .now) (a .start) (a .buffer .now) z) (c .before .before .before .before .decide .ensures)
-    ∙ receive-replied (a .settings) (a .application) (a .expected) (a .verdict) (a .content .now) (a .start) (a .buffer .now) (sym (c .before .before .before .before .before .before .before .before .before .before .is-link .ensures) ∙ not-false _ (c .before .before .before .before .before .before .before .before .before .if1 .left)) (sym (c .before .before .before .before .before .before .before .before .is-long-enough .ensures) ∙ not-false _ (c .before .before .before .before .before .before .before .if2 .left)) (sym (c .before .before .before .before .before .before .is-expected .ensures) ∙ not-false _ (c .before .before .before .before .before .if3 .left))
+    let replied = c .before .before in
+    let decided = replied .before .before in
+    let expected = decided .before .before in
+    let long = expected .before .before in
+    let link = long .before .before in
+    let a = link .before .before .before .args in
+    replied .reply .ensures
+    ∙ ap (λ (z : Decision). repliedOf (a .settings) (a .expected) (a .content .now) (a .start) (a .buffer .now) z) (decided .decide .ensures)
+    ∙ receive-replied (a .settings) (a .application) (a .expected) (a .verdict) (a .content .now) (a .start) (a .buffer .now)
+    (sym (link .is-link .ensures) ∙ not-false _ (long .before .if1 .left)) (sym (long .is-long-enough .ensures) ∙ not-false _ (expected .before .if2 .left))
+    (sym (expected .is-expected .ensures) ∙ not-false _ (decided .before .if3 .left))
 
 pub receive-spec : {M : Type 1} → statement M
 receive-spec =

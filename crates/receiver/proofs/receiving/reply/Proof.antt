@@ -2,10 +2,7 @@
 use borrow.Author.Needs.{needs}
 use Rattle.receiver.proofs.receiving.reply.Statement.{statement}
 use Rattle.receiver.proofs.receiving.reply.Tie as tie
-use mathlib.Core.Path.{_∙_}
-use Rattle.receiver.proofs.Replying.{nak-replied, answer-replied}
-use mathlib.Core.Path.{sym}
-use Rattle.receiver.specs.Receiver.{unchanged}
+use Rattle.receiver.proofs.Replying.{replied-as}
 
 enum-known-decision : tie.Need-enum-known-decision
 enum-known-decision c = search needs
@@ -17,7 +14,7 @@ enum-known-decision-2 : tie.Need-enum-known-decision-2
 enum-known-decision-2 c = search needs
 
 write-nak-requires : tie.Need-write-nak-requires
-write-nak-requires c κs = (c .before .before .before .before .before .before .pre .0, rw (c .before .before .decision2 .given .1) at (c .before .before .before .before .before .before .pre .1))
+write-nak-requires c κs = search needs
 
 nothing-new-requires-2 : tie.Need-nothing-new-requires-2
 nothing-new-requires-2 c κs = search needs
@@ -29,7 +26,10 @@ field-content-requires : tie.Need-field-content-requires
 field-content-requires c κs = search needs
 
 write-answer-requires : tie.Need-write-answer-requires
-write-answer-requires c κs = (c .before .before .before .before .before .before .before .before .pre .0, rw (c .before .field-content .ensures) (rw (c .before .before .before .before .decision3 .given .1) at (c .before .before .before .before .before .before .before .before .pre .1)))
+write-answer-requires c κs =
+    let known = c .before .before .before .before in
+    let start = known .before .before .before .before in
+    (start .pre .0, rw (c .before .field-content .ensures) (rw (known .decision3 .given .1) at (start .pre .1)))
 
 returns : tie.Need-returns
 returns c = rw (c .before .before .decision .given .1, c .nothing-new .ensures)
@@ -38,13 +38,25 @@ same-length : tie.Need-same-length
 same-length c = search needs
 
 returns-2 : tie.Need-returns-2
-returns-2 c = rw (c .before .before .before .before .before .before .decision2 .given .1, c .nothing-new2 .ensures) (nak-replied (c .before .before .before .before .before .before .before .before .before .before .args .settings) (c .before .before .before .before .before .before .before .before .before .before .args .expected) (c .before .before .before .before .before .before .before .before .before .before .args .content .now) (c .before .before .before .before .before .before .before .before .before .before .args .start) (c .before .before .before .before .before .before .before .before .before .before .args .buffer .now) (c .before .before .before .before .before .before .decision2 .given .0 .0) (c .before .before .before .before .before .before .decision2 .given .0 .1 .0) (c .before .before .before .write-nak .result) _ (c .before .before .before .write-nak .ensures))
+returns-2 c =
+    let wrote = c .before .before .before in
+    let known = wrote .before .before .before in
+    let a = known .before .before .before .before .args in
+    rw (known .decision2 .given .1, c .nothing-new2 .ensures)
+    (replied-as (known .decision2 .given .0 .0) _ (wrote .write-nak .result) _ _ (a .start) (a .buffer .now) (wrote .write-nak .ensures))
 
 same-length-2 : tie.Need-same-length-2
 same-length-2 c = search needs
 
 returns-3 : tie.Need-returns-3
-returns-3 c = rw (c .before .before .before .before .before .before .before .decision3 .given .1) (answer-replied (c .before .before .before .before .before .before .before .before .before .before .before .args .settings) (c .before .before .before .before .before .before .before .before .before .before .before .args .expected) (c .before .before .before .before .before .before .before .before .before .before .before .args .content .now) (c .before .before .before .before .before .before .before .before .before .before .before .args .start) (c .before .before .before .before .before .before .before .before .before .before .before .args .buffer .now) (c .before .before .before .before .before .before .before .decision3 .given .0 .0) (c .before .before .before .before .before .before .before .decision3 .given .0 .1 .0) (c .before .before .write-answer .result) _ (rw (c .before .before .before .before .field-content .ensures) at (c .before .before .write-answer .ensures)))
+returns-3 c =
+    let wrote = c .before .before in
+    let read = wrote .before .before in
+    let known = read .before .before .before in
+    let a = known .before .before .before .before .args in
+    rw (known .decision3 .given .1)
+    (replied-as 0 (known .decision3 .given .0 .1 .0 .persisted) (wrote .write-answer .result) _ _ (a .start) (a .buffer .now)
+    (rw (read .field-content .ensures) at (wrote .write-answer .ensures)))
 
 pub reply-spec : {M : Type 1} → statement M
 reply-spec =

@@ -2,26 +2,39 @@
 use borrow.Author.Needs.{needs}
 use Rattle.receiver.proofs.receiving.write_nak.Statement.{statement}
 use Rattle.receiver.proofs.receiving.write_nak.Tie as tie
-use Rattle.receiver.proofs.Replying.{nak-written, replied}
+use mathlib.Core.Path.{ap, _∙_}
+use mathlib.Core.List.{[], _∷_}
+use Prim.Native.Nat.{ℕ}
+use Prim.Native.Char.{code}
+use Rattle.writer.specs.Write.{frameOf}
+use Rattle.receiver.proofs.Replying.{nak-framed, framed-as}
 
-slice-aggregate-write : tie.Need-slice-aggregate-write
-slice-aggregate-write c = search needs
+reason-of-requires : tie.Need-reason-of-requires
+reason-of-requires c κs = search needs
 
-write-requires : tie.Need-write-requires
-write-requires c κs = search needs
+slice-aggregate-frame : tie.Need-slice-aggregate-frame
+slice-aggregate-frame c = search needs
 
-block-length-requires : tie.Need-block-length-requires
-block-length-requires c κs = search needs
+frame-requires : tie.Need-frame-requires
+frame-requires c κs = search needs
+
+length-requires : tie.Need-length-requires
+length-requires c κs = search needs
 
 same-length : tie.Need-same-length
 same-length c = search needs
 
 returns : tie.Need-returns
 returns c =
-    let a = c .before .before .before .before .before .before .before .args in
-    replied (a .buffer .now) _ (a .start) (c .block-length .result) (c .before .before .before .write .result) _ _ (c .block-length .ensures) (c .before .before .before .write .ensures) (nak-written (a .settings) (a .start) (a .buffer .now) (c .before .before .before .before .before .before .before .pre .0) (a .reason) (c .before .before .before .before .before .before .before .pre .1))
+    let wrote = c .before .before .before in
+    let reason = wrote .before .before .before in
+    let start = reason .before .before in
+    let a = start .args in
+    framed-as (c .length .result) (wrote .frame .result) _ _ _ (a .start) (a .buffer .now) (c .length .ensures) (wrote .frame .ensures)
+    (ap (λ (z : ℕ). frameOf (a .settings) (code "N") (z ∷ []) (a .start) (a .buffer .now)) (reason .reason-of .ensures)
+    ∙ nak-framed (a .settings) (a .start) (a .buffer .now) (start .pre) (a .number))
 
 pub write-nak-spec : {M : Type 1} → statement M
 write-nak-spec =
     tie.close
-    (tie.spec slice-aggregate-write write-requires block-length-requires same-length returns)
+    (tie.spec reason-of-requires slice-aggregate-frame frame-requires length-requires same-length returns)

@@ -4,6 +4,7 @@ use Rattle.receiver.proofs.table.number_row.Statement.{statement}
 use Rattle.receiver.proofs.table.number_row.Tie as tie
 use mathlib.Core.Path.{_∙_}
 use borrow.Author.Tests.{leb-true}
+use Rattle.receiver.specs.Receiver.{rowOf}
 
 enum-told : tie.Need-enum-told
 enum-told c = search needs
@@ -18,15 +19,16 @@ enum-told-2 : tie.Need-enum-told-2
 enum-told-2 c = search needs
 
 unknown-row-requires : tie.Need-unknown-row-requires
-unknown-row-requires c κs = leb-true _ _ (rw (c .before .before .before .number .given .1) at (c .before .before .before .before .before .pre))
+unknown-row-requires c κs = let known = c .before .before .before in leb-true _ _ (rw (known .number .given .1) at (known .before .before .pre))
 
 enum-known-expected : tie.Need-enum-known-expected
 enum-known-expected c = search needs
 
 next-row-requires : tie.Need-next-row-requires
-next-row-requires c κs = leb-true _ _ (rw (c .before .before .before .before .number .given .1) at (c .before .before .before .before .before .before .pre))
+next-row-requires c κs = let known = c .before .before .before .before in leb-true _ _ (rw (known .number .given .1) at (known .before .before .pre))
 
 returns : tie.Need-returns
+unfolding rowOf
 returns c = c .row-without .ensures ∙ rw (c .before .enum-told .given .1)
 
 returns-2 : tie.Need-returns-2

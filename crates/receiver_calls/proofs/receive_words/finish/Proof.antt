@@ -2,17 +2,15 @@
 use borrow.Author.Needs.{needs}
 use Rattle.receiver_calls.proofs.receive_words.finish.Statement.{statement}
 use Rattle.receiver_calls.proofs.receive_words.finish.Tie as tie
-use mathlib.Core.Path.{refl, sym, ap, _∙_}
 use native.Mathlib.Omega.{arith}
 use lib.ListN.{length-set}
-use borrow.Author.Tests.{not-true, not-false, lt-ltb, le-ltb, eq-eqb, ne-eqb}
+use borrow.Author.Tests.{eq-eqb, ne-eqb}
 use Rattle.receiver_calls.proofs.Laws.{finish-refused, finish-written}
 
-is-refusal-requires : tie.Need-is-refusal-requires
-is-refusal-requires c κs = search needs
-
 returns : tie.Need-returns
-returns c = finish-refused (c .before .before .before .before .args .state .now) (c .before .before .before .before .args .report .now) (c .before .before .before .before .args .received) (sym (c .before .is-refusal .ensures) ∙ c .if1 .taken)
+returns c =
+    let a = c .before .before .before .before .args in
+    finish-refused (a .state .now) (a .report .now) (a .received) (ne-eqb _ 0 (c .if1 .taken))
 
 expected-word-requires : tie.Need-expected-word-requires
 expected-word-requires c κs = search needs
@@ -39,13 +37,18 @@ same-length-2 : tie.Need-same-length-2
 same-length-2 c = search needs
 
 returns-2 : tie.Need-returns-2
-returns-2 c = rw (c .before .expected-word .ensures, c .transaction-word .ensures) (finish-written (c .before .before .before .before .before .before .before .args .state .now) (c .before .before .before .before .before .before .before .args .report .now) (c .before .before .before .before .before .before .before .args .received) (sym (c .before .before .before .before .is-refusal .ensures) ∙ c .before .before .before .if1 .left) (c .before .before .before .before .before .before .before .pre .0) (c .before .before .before .before .before .before .before .pre .1))
+returns-2 c =
+    let words = c .before in
+    let tested = words .before .before in
+    let start = tested .before .before .before .before in
+    let a = start .args in
+    rw (words .expected-word .ensures, c .transaction-word .ensures)
+    (finish-written (a .state .now) (a .report .now) (a .received) (eq-eqb _ 0 (tested .if1 .left)) (start .pre .0) (start .pre .1))
 
 pub finish-spec : {M : Type 1} → statement M
 finish-spec =
     tie.close
     (tie.spec
-    is-refusal-requires
     returns
     expected-word-requires
     slice-write-state

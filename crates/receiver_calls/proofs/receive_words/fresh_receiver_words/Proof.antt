@@ -2,10 +2,6 @@
 use borrow.Author.Needs.{needs}
 use Rattle.receiver_calls.proofs.receive_words.fresh_receiver_words.Statement.{statement}
 use Rattle.receiver_calls.proofs.receive_words.fresh_receiver_words.Tie as tie
-use mathlib.Core.Path.{refl, sym, ap, _∙_}
-use native.Mathlib.Omega.{arith}
-use lib.ListN.{length-set}
-use borrow.Author.Tests.{not-true, not-false, lt-ltb, le-ltb, eq-eqb, ne-eqb}
 use Rattle.receiver_calls.proofs.Laws.{fresh-few, fresh-done}
 
 returns : tie.Need-returns

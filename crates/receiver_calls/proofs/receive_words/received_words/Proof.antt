@@ -3,12 +3,10 @@ use borrow.Author.Needs.{needs}
 use Rattle.receiver_calls.proofs.receive_words.received_words.Statement.{statement}
 use Rattle.receiver_calls.proofs.receive_words.received_words.Tie as tie
 use mathlib.Core.Path.{refl, sym, ap, _∙_}
-use native.Mathlib.Omega.{arith}
-use lib.ListN.{length-set}
-use borrow.Author.Tests.{not-true, not-false, lt-ltb, le-ltb, eq-eqb, ne-eqb}
-use Rattle.receiver_calls.proofs.Laws.{done, call-is, made-as, call-link, call-state, call-report, call-done}
-use Rattle.receiver.specs.declared.Expected.{Expected}
+use borrow.Author.Tests.{not-true, not-false}
 use Rattle.receiver.specs.Receiver.{receiveOf}
+use Rattle.receiver.specs.declared.Expected.{Expected}
+use Rattle.receiver_calls.proofs.Laws.{state-enough, report-enough, done, call-as, call-short, call-done}
 
 enum-known-made : tie.Need-enum-known-made
 enum-known-made c = search needs
@@ -19,24 +17,28 @@ enum-told c = search needs
 returns : tie.Need-returns
 returns c =
     let a = c .before .before .before .before .before .before .args in
-    made-as (a .state .now) (a .content .now) (a .buffer .now) (a .start) (a .report .now) (a .made) _ _ _ (c .enum-told .given .1) ∙ call-is (a .state .now) (a .content .now) (a .buffer .now) (a .start) (a .report .now) (a .made) (a .application) (a .number) (a .t) _ _ refl refl
+    call-as (a .state .now) (a .content .now) (a .buffer .now) (a .start) (a .report .now) (a .made) (a .application) (a .number) (a .t) _ _ _
+    (c .enum-told .given .1) refl refl
 
-application-of-requires : tie.Need-application-of-requires
-application-of-requires c κs = search needs
+application-from-requires : tie.Need-application-from-requires
+application-from-requires c κs = search needs
 
-enum-known-verdict-of-application : tie.Need-enum-known-verdict-of-application
-enum-known-verdict-of-application c = search needs
+enum-known-application-verdict : tie.Need-enum-known-application-verdict
+enum-known-application-verdict c = search needs
 
 enum-told-2 : tie.Need-enum-told-2
 enum-told-2 c = search needs
 
 returns-2 : tie.Need-returns-2
 returns-2 c =
-    let a = c .before .before .before .before .before .before .before .before .before .before .args in
-    made-as (a .state .now) (a .content .now) (a .buffer .now) (a .start) (a .report .now) (a .made) _ _ _ (c .before .before .before .before .made .given .1) ∙ call-is (a .state .now) (a .content .now) (a .buffer .now) (a .start) (a .report .now) (a .made) (a .application) (a .number) (a .t) _ _ (sym (c .before .before .application-of .ensures) ∙ c .enum-told2 .given .1) refl
+    let application = c .before .before in
+    let made = application .before .before in
+    let a = made .before .before .before .before .before .before .args in
+    call-as (a .state .now) (a .content .now) (a .buffer .now) (a .start) (a .report .now) (a .made) (a .application) (a .number) (a .t) _ _ _
+    (made .made .given .1) (sym (application .application-from .ensures) ∙ c .enum-told2 .given .1) refl
 
-verdict-of-requires : tie.Need-verdict-of-requires
-verdict-of-requires c κs = search needs
+verdict-from-requires : tie.Need-verdict-from-requires
+verdict-from-requires c κs = search needs
 
 enum-known-verdict : tie.Need-enum-known-verdict
 enum-known-verdict c = search needs
@@ -46,41 +48,46 @@ enum-told-3 c = search needs
 
 returns-3 : tie.Need-returns-3
 returns-3 c =
-    let a = c .before .before .before .before .before .before .before .before .before .before .before .before .before .before .args in
-    made-as (a .state .now) (a .content .now) (a .buffer .now) (a .start) (a .report .now) (a .made) _ _ _ (c .before .before .before .before .before .before .before .before .made .given .1) ∙ call-is (a .state .now) (a .content .now) (a .buffer .now) (a .start) (a .report .now) (a .made) (a .application) (a .number) (a .t) _ _ (sym (c .before .before .before .before .before .before .application-of .ensures) ∙ c .before .before .before .before .verdict-of-application .given .1) (sym (c .before .before .verdict-of .ensures) ∙ c .enum-told3 .given .1)
-
-is-link-requires : tie.Need-is-link-requires
-is-link-requires c κs = search needs
+    let verdict = c .before .before in
+    let chosen = verdict .before .before in
+    let application = chosen .before .before in
+    let made = application .before .before in
+    let a = made .before .before .before .before .before .before .args in
+    call-as (a .state .now) (a .content .now) (a .buffer .now) (a .start) (a .report .now) (a .made) (a .application) (a .number) (a .t) _ _ _
+    (made .made .given .1) (sym (application .application-from .ensures) ∙ chosen .application-verdict .given .1)
+    (sym (verdict .verdict-from .ensures) ∙ c .enum-told3 .given .1)
 
 returns-4 : tie.Need-returns-4
 returns-4 c =
+    let judged = c .before .before in
+    let verdict = judged .before .before in
+    let chosen = verdict .before .before in
+    let application = chosen .before .before in
+    let made = application .before .before in
+    let a = made .before .before .before .before .before .before .args in
+    call-short (a .state .now) (a .content .now) (a .buffer .now) (a .start) (a .report .now) (made .made .given .0 .0)
+    (chosen .application-verdict .given .0 .0) (judged .verdict .given .0 .0) (not-true _ (c .if1 .taken))
+    ∙ call-as (a .state .now) (a .content .now) (a .buffer .now) (a .start) (a .report .now) (a .made) (a .application) (a .number) (a .t) _ _ _
+    (made .made .given .1) (sym (application .application-from .ensures) ∙ chosen .application-verdict .given .1)
+    (sym (verdict .verdict-from .ensures) ∙ judged .verdict .given .1)
+
+slice-read-expected-from : tie.Need-slice-read-expected-from
+slice-read-expected-from c =
     let a = c .before .before .before .before .before .before .before .before .before .before .before .before .before .before .before .before .before .args in
-    call-link (a .state .now) (a .content .now) (a .buffer .now) (a .start) (a .report .now) (c .before .before .before .before .before .before .before .before .before .before .before .made .given .0 .0) (c .before .before .before .before .before .before .before .verdict-of-application .given .0 .0) (c .before .before .before .verdict .given .0 .0) (sym (c .before .is-link .ensures) ∙ not-true _ (c .if1 .taken))
-    ∙ made-as (a .state .now) (a .content .now) (a .buffer .now) (a .start) (a .report .now) (a .made) _ _ _ (c .before .before .before .before .before .before .before .before .before .before .before .made .given .1) ∙ call-is (a .state .now) (a .content .now) (a .buffer .now) (a .start) (a .report .now) (a .made) (a .application) (a .number) (a .t) _ _ (sym (c .before .before .before .before .before .before .before .before .before .application-of .ensures) ∙ c .before .before .before .before .before .before .before .verdict-of-application .given .1) (sym (c .before .before .before .before .before .verdict-of .ensures) ∙ c .before .before .before .verdict .given .1)
+    let l = state-enough (a .state .now) (a .report .now) (not-false _ (c .before .if1 .left)) in search needs
 
-returns-5 : tie.Need-returns-5
-returns-5 c =
-    let a = c .before .before .before .before .before .before .before .before .before .before .before .before .before .before .before .before .before .before .args in
-    call-state (a .state .now) (a .content .now) (a .buffer .now) (a .start) (a .report .now) (c .before .before .before .before .before .before .before .before .before .before .before .before .made .given .0 .0) (c .before .before .before .before .before .before .before .before .verdict-of-application .given .0 .0) (c .before .before .before .before .verdict .given .0 .0) (sym (c .before .before .is-link .ensures) ∙ not-false _ (c .before .if1 .left)) (c .if2 .taken)
-    ∙ made-as (a .state .now) (a .content .now) (a .buffer .now) (a .start) (a .report .now) (a .made) _ _ _ (c .before .before .before .before .before .before .before .before .before .before .before .before .made .given .1) ∙ call-is (a .state .now) (a .content .now) (a .buffer .now) (a .start) (a .report .now) (a .made) (a .application) (a .number) (a .t) _ _ (sym (c .before .before .before .before .before .before .before .before .before .before .application-of .ensures) ∙ c .before .before .before .before .before .before .before .before .verdict-of-application .given .1) (sym (c .before .before .before .before .before .before .verdict-of .ensures) ∙ c .before .before .before .before .verdict .given .1)
-
-returns-6 : tie.Need-returns-6
-returns-6 c =
-    let a = c .before .before .before .before .before .before .before .before .before .before .before .before .before .before .before .before .before .before .before .args in
-    call-report (a .state .now) (a .content .now) (a .buffer .now) (a .start) (a .report .now) (c .before .before .before .before .before .before .before .before .before .before .before .before .before .made .given .0 .0) (c .before .before .before .before .before .before .before .before .before .verdict-of-application .given .0 .0) (c .before .before .before .before .before .verdict .given .0 .0) (sym (c .before .before .before .is-link .ensures) ∙ not-false _ (c .before .before .if1 .left)) (c .before .if2 .left) (c .if3 .taken)
-    ∙ made-as (a .state .now) (a .content .now) (a .buffer .now) (a .start) (a .report .now) (a .made) _ _ _ (c .before .before .before .before .before .before .before .before .before .before .before .before .before .made .given .1) ∙ call-is (a .state .now) (a .content .now) (a .buffer .now) (a .start) (a .report .now) (a .made) (a .application) (a .number) (a .t) _ _ (sym (c .before .before .before .before .before .before .before .before .before .before .before .application-of .ensures) ∙ c .before .before .before .before .before .before .before .before .before .verdict-of-application .given .1) (sym (c .before .before .before .before .before .before .before .verdict-of .ensures) ∙ c .before .before .before .before .before .verdict .given .1)
-
-slice-read-expected-of : tie.Need-slice-read-expected-of
-slice-read-expected-of c = search needs
-
-expected-of-requires : tie.Need-expected-of-requires
-expected-of-requires c κs = search needs
+expected-from-requires : tie.Need-expected-from-requires
+expected-from-requires c κs = search needs
 
 receive-requires : tie.Need-receive-requires
 receive-requires c κs = search needs
 
 finish-requires : tie.Need-finish-requires
-finish-requires c κs = search needs
+finish-requires c κs =
+    let tested = c .before .before .before .before .before .before .before .before in
+    let a = tested .before .before .before .before .before .before .before .before .before .before .before .before .before .before .before .before .args in
+    let enough = not-false _ (tested .if1 .left) in
+    (state-enough (a .state .now) (a .report .now) enough, report-enough (a .state .now) (a .report .now) enough)
 
 same-length : tie.Need-same-length
 same-length c = search needs
@@ -91,15 +98,28 @@ same-length-2 c = search needs
 same-length-3 : tie.Need-same-length-3
 same-length-3 c = search needs
 
-returns-7 : tie.Need-returns-7
-returns-7 c =
-    let a = c .before .before .before .before .before .before .before .before .before .before .before .before .before .before .before .before .before .before .before .before .before .before .before .before .before .before .before .before .before .before .before .before .args in
-    let g = c .before .before .before .before .before .before .before .before .before .before .before .before .before .before .before .before .before .before .before .before .before .before .before .before .before .before .made .given .0 .0 in
-    let app = c .before .before .before .before .before .before .before .before .before .before .before .before .before .before .before .before .before .before .before .before .before .before .verdict-of-application .given .0 .0 in
-    let v = c .before .before .before .before .before .before .before .before .before .before .before .before .before .before .before .before .before .before .verdict .given .0 .0 in
-    done (a .state .now) (a .report .now) (c .before .before .before .before .before .before .before .before .before .receive .result) (c .before .before .before .before .before .before .before .before .before .receive .last .1 .1 .1 .1 .1 .0) (c .before .before .before .before .finish .result) (c .before .before .before .before .finish .last .1 .0) (c .before .before .before .before .finish .last .1 .1 .0) _ (c .before .before .before .before .finish .ensures) (c .before .before .before .before .before .before .before .before .before .receive .ensures ∙ ap (λ (z : Expected). receiveOf g app z v (a .content .now) (a .start) (a .buffer .now)) (c .before .before .before .before .before .before .before .before .before .before .before .expected-of .ensures))
-    ∙ call-done (a .state .now) (a .content .now) (a .buffer .now) (a .start) (a .report .now) g app v (sym (c .before .before .before .before .before .before .before .before .before .before .before .before .before .before .before .before .is-link .ensures) ∙ not-false _ (c .before .before .before .before .before .before .before .before .before .before .before .before .before .before .before .if1 .left)) (c .before .before .before .before .before .before .before .before .before .before .before .before .before .before .if2 .left) (c .before .before .before .before .before .before .before .before .before .before .before .before .before .if3 .left)
-    ∙ made-as (a .state .now) (a .content .now) (a .buffer .now) (a .start) (a .report .now) (a .made) _ _ _ (c .before .before .before .before .before .before .before .before .before .before .before .before .before .before .before .before .before .before .before .before .before .before .before .before .before .before .made .given .1) ∙ call-is (a .state .now) (a .content .now) (a .buffer .now) (a .start) (a .report .now) (a .made) (a .application) (a .number) (a .t) _ _ (sym (c .before .before .before .before .before .before .before .before .before .before .before .before .before .before .before .before .before .before .before .before .before .before .before .before .application-of .ensures) ∙ c .before .before .before .before .before .before .before .before .before .before .before .before .before .before .before .before .before .before .before .before .before .before .verdict-of-application .given .1) (sym (c .before .before .before .before .before .before .before .before .before .before .before .before .before .before .before .before .before .before .before .before .verdict-of .ensures) ∙ c .before .before .before .before .before .before .before .before .before .before .before .before .before .before .before .before .before .before .verdict .given .1)
+returns-5 : tie.Need-returns-5
+returns-5 c =
+    let finished = c .before .before .before .before in
+    let received = finished .before .before .before .before .before in
+    let expected = received .before .before in
+    let tested = expected .before .before in
+    let judged = tested .before .before in
+    let verdict = judged .before .before in
+    let chosen = verdict .before .before in
+    let application = chosen .before .before in
+    let made = application .before .before in
+    let a = made .before .before .before .before .before .before .args in
+    let g = made .made .given .0 .0 in
+    let app = chosen .application-verdict .given .0 .0 in
+    let v = judged .verdict .given .0 .0 in
+    done (a .state .now) (a .report .now) (received .receive .result) (received .receive .last .1 .1 .1 .1 .1 .0) (finished .finish .result)
+    (finished .finish .last .1 .0) (finished .finish .last .1 .1 .0) _ (finished .finish .ensures)
+    (received .receive .ensures ∙ ap (λ (z : Expected). receiveOf g app z v (a .content .now) (a .start) (a .buffer .now)) (expected .expected-from .ensures))
+    ∙ call-done (a .state .now) (a .content .now) (a .buffer .now) (a .start) (a .report .now) g app v (not-false _ (tested .if1 .left))
+    ∙ call-as (a .state .now) (a .content .now) (a .buffer .now) (a .start) (a .report .now) (a .made) (a .application) (a .number) (a .t) _ _ _
+    (made .made .given .1) (sym (application .application-from .ensures) ∙ chosen .application-verdict .given .1)
+    (sym (verdict .verdict-from .ensures) ∙ judged .verdict .given .1)
 
 pub received-words-spec : {M : Type 1} → statement M
 received-words-spec =
@@ -108,23 +128,20 @@ received-words-spec =
     enum-known-made
     enum-told
     returns
-    application-of-requires
-    enum-known-verdict-of-application
+    application-from-requires
+    enum-known-application-verdict
     enum-told-2
     returns-2
-    verdict-of-requires
+    verdict-from-requires
     enum-known-verdict
     enum-told-3
     returns-3
-    is-link-requires
     returns-4
-    returns-5
-    returns-6
-    slice-read-expected-of
-    expected-of-requires
+    slice-read-expected-from
+    expected-from-requires
     receive-requires
     finish-requires
     same-length
     same-length-2
     same-length-3
-    returns-7)
+    returns-5)

@@ -1,48 +1,96 @@
 -- `sender::blocks::block_read` meets its contract.
 use borrow.Author.Needs.{needs}
+use borrow.Author.Tests.{lt-leb, le-leb, eq-eqb, ne-eqb}
+use mathlib.Core.Path.{_∙_}
+use Rattle.lists.proofs.Calls.{met, unmet}
+use Rattle.lists.proofs.Tests.{and-left}
+use Rattle.sender.proofs.Laws.{passed, failed, bounded}
+use Rattle.sender.specs.Sender.{blockReadOf}
 use Rattle.sender.proofs.blocks.block_read.Statement.{statement}
 use Rattle.sender.proofs.blocks.block_read.Tie as tie
-use mathlib.Core.Path.{sym, _∙_}
-use borrow.Author.Tests.{not-true, not-false}
-use Rattle.sender.proofs.Laws.{bounded, checked-setting, checked-none, checked-some, block-is, block-closed, block-open}
 
 refuse-requires : tie.Need-refuse-requires
 refuse-requires c κs = search needs
 
 returns : tie.Need-returns
-returns c =
-    let a = c .before .before .before .args in
-    c .refuse .ensures ∙ checked-setting (a .resends) (a .sender) _ (c .before .if1 .taken) ∙ block-is (a .resends) (a .sender) (a .verdict) (a .content .now)
+unfolding blockReadOf
+returns c = c .refuse .ensures ∙ unmet _ _ _ (lt-leb _ _ (c .before .if1 .taken))
 
-is-state-requires : tie.Need-is-state-requires
-is-state-requires c κs = search needs
+is-on-circuit-requires : tie.Need-is-on-circuit-requires
+is-on-circuit-requires c κs = search needs
 
 refuse-state-requires : tie.Need-refuse-state-requires
 refuse-state-requires c κs = search needs
 
 returns-2 : tie.Need-returns-2
+unfolding blockReadOf
 returns-2 c =
-    let a = c .before .before .before .before .before .args in
-    c .refuse-state .ensures ∙ checked-none (a .resends) (a .sender) _ (c .before .before .before .if1 .left) (sym (c .before .before .is-state .ensures) ∙ not-true _ (c .before .if2 .taken)) ∙ block-is (a .resends) (a .sender) (a .verdict) (a .content .now)
+    let at-is-on-circuit = c .before .before in
+    let at-if1 = at-is-on-circuit .before in
+    c .refuse-state .ensures ∙ unmet _ _ _ (failed (at-is-on-circuit .is-on-circuit .ensures) (c .before .if2 .taken)) ∙ met _ _ _ (le-leb _ _ (at-if1 .if1 .left))
 
-is-open-requires : tie.Need-is-open-requires
-is-open-requires c κs = search needs
+enum-known-verdict : tie.Need-enum-known-verdict
+enum-known-verdict c = search needs
 
-refuse-requires-2 : tie.Need-refuse-requires-2
-refuse-requires-2 c κs = search needs
+resend-requires : tie.Need-resend-requires
+resend-requires c κs =
+    let at-if2 = c .before .before .before .before in
+    let at-is-on-circuit = at-if2 .before in
+    let at-if1 = at-is-on-circuit .before in
+    let at-args = at-if1 .before .before in
+    let circuit = passed (at-is-on-circuit .is-on-circuit .ensures) (at-if2 .if2 .left) in
+    (at-if1 .if1 .left, bounded (at-args .args .sender) (and-left _ _ circuit))
 
 returns-3 : tie.Need-returns-3
+unfolding blockReadOf
 returns-3 c =
-    let a = c .before .before .before .before .before .before .before .args in
-    c .refuse2 .ensures ∙ block-closed (a .resends) (a .sender) (a .verdict) (a .content .now) (sym (c .before .before .is-open .ensures) ∙ not-true _ (c .before .if3 .taken)) ∙ checked-some (a .resends) (a .sender) _ (c .before .before .before .before .before .if1 .left) (sym (c .before .before .before .before .is-state .ensures) ∙ not-false _ (c .before .before .before .if2 .left)) ∙ block-is (a .resends) (a .sender) (a .verdict) (a .content .now)
+    let at-verdict = c .before .before .before in
+    let at-if2 = at-verdict .before .before in
+    let at-is-on-circuit = at-if2 .before in
+    let at-if1 = at-is-on-circuit .before in
+    let circuit = passed (at-is-on-circuit .is-on-circuit .ensures) (at-if2 .if2 .left) in
+    c .resend .ensures ∙ rw (at-verdict .verdict .given .1) (met _ _ _ (eq-eqb _ _ (c .before .if3 .taken)) ∙ met _ _ _ circuit ∙ met _ _ _ (le-leb _ _ (at-if1 .if1 .left)))
 
-read-in-requires : tie.Need-read-in-requires
-read-in-requires c κs = (c .before .before .before .before .if1 .left, bounded (c .before .before .before .before .before .before .args .sender) (sym (c .before .before .before .is-state .ensures) ∙ not-false _ (c .before .before .if2 .left)))
+read-data-requires : tie.Need-read-data-requires
+read-data-requires c κs =
+    let at-if2 = c .before .before .before .before in
+    let at-is-on-circuit = at-if2 .before in
+    let at-if1 = at-is-on-circuit .before in
+    let at-args = at-if1 .before .before in
+    let circuit = passed (at-is-on-circuit .is-on-circuit .ensures) (at-if2 .if2 .left) in
+    (at-if1 .if1 .left, bounded (at-args .args .sender) (and-left _ _ circuit))
+
+enum-known-verdict-2 : tie.Need-enum-known-verdict-2
+enum-known-verdict-2 c = search needs
+
+resend-for-requires : tie.Need-resend-for-requires
+resend-for-requires c κs =
+    let at-if2 = c .before .before .before in
+    let at-is-on-circuit = at-if2 .before in
+    let at-if1 = at-is-on-circuit .before in
+    let at-args = at-if1 .before .before in
+    let circuit = passed (at-is-on-circuit .is-on-circuit .ensures) (at-if2 .if2 .left) in
+    (at-if1 .if1 .left, bounded (at-args .args .sender) (and-left _ _ circuit))
 
 returns-4 : tie.Need-returns-4
+unfolding blockReadOf
 returns-4 c =
-    let a = c .before .before .before .before .before .before .before .args in
-    c .read-in .ensures ∙ block-open (a .resends) (a .sender) (a .verdict) (a .content .now) (sym (c .before .before .is-open .ensures) ∙ not-false _ (c .before .if3 .left)) ∙ checked-some (a .resends) (a .sender) _ (c .before .before .before .before .before .if1 .left) (sym (c .before .before .before .before .is-state .ensures) ∙ not-false _ (c .before .before .before .if2 .left)) ∙ block-is (a .resends) (a .sender) (a .verdict) (a .content .now)
+    let at-verdict = c .before .before .before in
+    let at-if2 = at-verdict .before .before in
+    let at-is-on-circuit = at-if2 .before in
+    let at-if1 = at-is-on-circuit .before in
+    let circuit = passed (at-is-on-circuit .is-on-circuit .ensures) (at-if2 .if2 .left) in
+    c .read-data .ensures ∙ rw (at-verdict .verdict .given .1) (unmet _ _ _ (ne-eqb _ _ (c .before .if3 .left)) ∙ met _ _ _ circuit ∙ met _ _ _ (le-leb _ _ (at-if1 .if1 .left)))
+
+returns-5 : tie.Need-returns-5
+unfolding blockReadOf
+returns-5 c =
+    let at-verdict2 = c .before .before in
+    let at-if2 = at-verdict2 .before .before in
+    let at-is-on-circuit = at-if2 .before in
+    let at-if1 = at-is-on-circuit .before in
+    let circuit = passed (at-is-on-circuit .is-on-circuit .ensures) (at-if2 .if2 .left) in
+    c .resend-for .ensures ∙ rw (at-verdict2 .verdict2 .given .1) (met _ _ _ circuit ∙ met _ _ _ (le-leb _ _ (at-if1 .if1 .left)))
 
 pub block-read-spec : {M : Type 1} → statement M
 block-read-spec =
@@ -50,11 +98,14 @@ block-read-spec =
     (tie.spec
     refuse-requires
     returns
-    is-state-requires
+    is-on-circuit-requires
     refuse-state-requires
     returns-2
-    is-open-requires
-    refuse-requires-2
+    enum-known-verdict
+    resend-requires
     returns-3
-    read-in-requires
-    returns-4)
+    read-data-requires
+    enum-known-verdict-2
+    resend-for-requires
+    returns-4
+    returns-5)

@@ -1,11 +1,10 @@
 -- `sender::blocks::read_data` meets its contract.
 use borrow.Author.Needs.{needs}
+use mathlib.Core.Path.{sym, _∙_}
+use Rattle.lists.proofs.Calls.{met, unmet}
+use Rattle.sender.proofs.Laws.{passed, failed}
 use Rattle.sender.proofs.blocks.read_data.Statement.{statement}
 use Rattle.sender.proofs.blocks.read_data.Tie as tie
-use mathlib.Core.Path.{sym, _∙_}
-use borrow.Author.Tests.{not-true, not-false}
-use Rattle.sender.proofs.Laws.{data-as, answered-as}
-use Rattle.sender.proofs.Laws.{data-dropped, data-heard}
 
 read-acknowledgment-requires : tie.Need-read-acknowledgment-requires
 read-acknowledgment-requires c κs = search needs
@@ -16,14 +15,11 @@ enum-known-code c = search needs
 enum-told : tie.Need-enum-told
 enum-told c = search needs
 
-fall-due-requires : tie.Need-fall-due-requires
-fall-due-requires c κs = search needs
-
-with-block-requires : tie.Need-with-block-requires
-with-block-requires c κs = search needs
+resend-for-requires : tie.Need-resend-for-requires
+resend-for-requires c κs = search needs
 
 returns : tie.Need-returns
-returns c = c .with-block .ensures ∙ rw (c .before .fall-due .ensures) (data-as (c .before .before .before .before .before .before .args .resends) (c .before .before .before .before .before .before .args .sender) (c .before .before .before .before .before .before .args .content .now) _ _ (sym (c .before .before .before .before .read-acknowledgment .ensures) ∙ c .before .before .enum-told .given .1))
+returns c = c .resend-for .ensures ∙ sym (rw (sym (c .before .before .before .read-acknowledgment .ensures) ∙ c .before .enum-told .given .1))
 
 waiting-message-requires : tie.Need-waiting-message-requires
 waiting-message-requires c κs = search needs
@@ -34,13 +30,16 @@ enum-known-number c = search needs
 enum-told-2 : tie.Need-enum-told-2
 enum-told-2 c = search needs
 
-stay-requires : tie.Need-stay-requires
-stay-requires c κs = search needs
+act-requires : tie.Need-act-requires
+act-requires c κs = search needs
 
 returns-2 : tie.Need-returns-2
 returns-2 c =
-    let a = c .before .before .before .before .before .before .before .before .before .before .args in
-    c .stay .ensures ∙ answered-as (a .sender) _ _ _ _ _ (sym (c .before .before .before .waiting-message .ensures) ∙ c .before .enum-told2 .given .1) ∙ data-as (a .resends) (a .sender) (a .content .now) _ _ (sym (c .before .before .before .before .before .before .before .before .read-acknowledgment .ensures) ∙ c .before .before .before .before .before .before .code .given .1)
+    let at-waiting-message = c .before .before .before in
+    let at-code = at-waiting-message .before .before in
+    let at-read-acknowledgment = at-code .before .before in
+    c .act .ensures
+    ∙ sym (rw (sym (at-read-acknowledgment .read-acknowledgment .ensures) ∙ at-code .code .given .1, sym (at-waiting-message .waiting-message .ensures) ∙ c .before .enum-told2 .given .1))
 
 field-content-requires : tie.Need-field-content-requires
 field-content-requires c κs = search needs
@@ -48,14 +47,21 @@ field-content-requires c κs = search needs
 is-text-requires : tie.Need-is-text-requires
 is-text-requires c κs = search needs
 
-stay-requires-2 : tie.Need-stay-requires-2
-stay-requires-2 c κs = search needs
+act-requires-2 : tie.Need-act-requires-2
+act-requires-2 c κs = search needs
 
 returns-3 : tie.Need-returns-3
 returns-3 c =
-    let a = c .before .before .before .before .before .before .before .before .before .before .before .before .before .before .args in
-    let t = c .before .before .before .before .before .before .before .before .before .before .code .given in
-    c .stay2 .ensures ∙ data-dropped (a .resends) (a .sender) (a .content .now) (t .0 .0) (t .0 .1 .0) (t .0 .1 .1 .0) (c .before .before .before .before .before .number .given .0 .0) (sym (c .before .before .before .before .before .before .before .before .before .before .before .before .read-acknowledgment .ensures) ∙ t .1) (sym (c .before .before .before .before .before .before .before .waiting-message .ensures) ∙ c .before .before .before .before .before .number .given .1) (rw (c .before .before .before .field-content .ensures) at (sym (c .before .before .is-text .ensures) ∙ not-true _ (c .before .if1 .taken)))
+    let at-is-text = c .before .before in
+    let at-field-content = at-is-text .before in
+    let at-number = at-field-content .before .before in
+    let at-waiting-message = at-number .before .before in
+    let at-code = at-waiting-message .before .before in
+    let at-read-acknowledgment = at-code .before .before in
+    let parsed = sym (at-read-acknowledgment .read-acknowledgment .ensures) ∙ at-code .code .given .1 in
+    let waits = sym (at-waiting-message .waiting-message .ensures) ∙ at-number .number .given .1 in
+    let other = rw (at-field-content .field-content .ensures) at (failed (at-is-text .is-text .ensures) (c .before .if1 .taken)) in
+    c .act2 .ensures ∙ rw (parsed, waits) (unmet _ _ _ other)
 
 field-content-requires-2 : tie.Need-field-content-requires-2
 field-content-requires-2 c κs = search needs
@@ -69,14 +75,26 @@ field-content-requires-3 c κs = search needs
 read-number-requires : tie.Need-read-number-requires
 read-number-requires c κs = search needs
 
-hear-requires : tie.Need-hear-requires
-hear-requires c κs = search needs
+answer-requires : tie.Need-answer-requires
+answer-requires c κs = search needs
 
 returns-4 : tie.Need-returns-4
 returns-4 c =
-    let a = c .before .before .before .before .before .before .before .before .before .before .before .before .before .before .before .before .before .before .args in
-    let t = c .before .before .before .before .before .before .before .before .before .before .before .before .before .before .code .given in
-    c .hear .ensures ∙ rw (c .before .before .before .read-code .ensures, c .before .before .before .before .field-content2 .ensures, c .before .read-number .ensures, c .before .before .field-content3 .ensures) (data-heard (a .resends) (a .sender) (a .content .now) (t .0 .0) (t .0 .1 .0) (t .0 .1 .1 .0) (c .before .before .before .before .before .before .before .before .before .number .given .0 .0) (sym (c .before .before .before .before .before .before .before .before .before .before .before .before .before .before .before .before .read-acknowledgment .ensures) ∙ t .1) (sym (c .before .before .before .before .before .before .before .before .before .before .before .waiting-message .ensures) ∙ c .before .before .before .before .before .before .before .before .before .number .given .1) (rw (c .before .before .before .before .before .before .before .field-content .ensures) at (sym (c .before .before .before .before .before .before .is-text .ensures) ∙ not-false _ (c .before .before .before .before .before .if1 .left))))
+    let at-field-content3 = c .before .before in
+    let at-read-code = at-field-content3 .before in
+    let at-field-content2 = at-read-code .before in
+    let at-if1 = at-field-content2 .before in
+    let at-is-text = at-if1 .before in
+    let at-field-content = at-is-text .before in
+    let at-number = at-field-content .before .before in
+    let at-waiting-message = at-number .before .before in
+    let at-code = at-waiting-message .before .before in
+    let at-read-acknowledgment = at-code .before .before in
+    let parsed = sym (at-read-acknowledgment .read-acknowledgment .ensures) ∙ at-code .code .given .1 in
+    let waits = sym (at-waiting-message .waiting-message .ensures) ∙ at-number .number .given .1 in
+    let same = rw (at-field-content .field-content .ensures) at (passed (at-is-text .is-text .ensures) (at-if1 .if1 .left)) in
+    c .answer .ensures
+    ∙ rw (at-read-code .read-code .ensures, at-field-content2 .field-content2 .ensures, c .before .read-number .ensures, at-field-content3 .field-content3 .ensures, parsed, waits) (met _ _ _ same)
 
 pub read-data-spec : {M : Type 1} → statement M
 read-data-spec =
@@ -85,21 +103,20 @@ read-data-spec =
     read-acknowledgment-requires
     enum-known-code
     enum-told
-    fall-due-requires
-    with-block-requires
+    resend-for-requires
     returns
     waiting-message-requires
     enum-known-number
     enum-told-2
-    stay-requires
+    act-requires
     returns-2
     field-content-requires
     is-text-requires
-    stay-requires-2
+    act-requires-2
     returns-3
     field-content-requires-2
     read-code-requires
     field-content-requires-3
     read-number-requires
-    hear-requires
+    answer-requires
     returns-4)

@@ -1,10 +1,12 @@
 -- `sender::circuit::operator_reset` meets its contract.
 use borrow.Author.Needs.{needs}
+use borrow.Author.Tests.{not-true, not-false}
+use mathlib.Core.Path.{_∙_}
+use Rattle.lists.proofs.Calls.{met, unmet}
+use Rattle.sender.proofs.Laws.{passed, failed}
+use Rattle.sender.specs.Sender.{resetOf}
 use Rattle.sender.proofs.circuit.operator_reset.Statement.{statement}
 use Rattle.sender.proofs.circuit.operator_reset.Tie as tie
-use mathlib.Core.Path.{sym, _∙_}
-use borrow.Author.Tests.{not-true, not-false}
-use Rattle.sender.proofs.Laws.{reset-none, reset-thawed, reset-frozen}
 
 is-state-requires : tie.Need-is-state-requires
 is-state-requires c κs = search needs
@@ -13,22 +15,30 @@ refuse-state-requires : tie.Need-refuse-state-requires
 refuse-state-requires c κs = search needs
 
 returns : tie.Need-returns
-returns c = c .refuse-state .ensures ∙ reset-none (c .before .before .before .args .sender) (sym (c .before .before .is-state .ensures) ∙ not-true _ (c .before .if1 .taken))
+unfolding resetOf
+returns c = c .refuse-state .ensures ∙ unmet _ _ _ (failed (c .before .before .is-state .ensures) (c .before .if1 .taken))
 
 refuse-requires : tie.Need-refuse-requires
 refuse-requires c κs = search needs
 
 returns-2 : tie.Need-returns-2
-returns-2 c = c .refuse .ensures ∙ reset-thawed (c .before .before .before .before .before .before .args .sender) (sym (c .before .before .before .before .before .is-state .ensures) ∙ not-false _ (c .before .before .before .before .if1 .left)) (not-true _ (c .before .if2 .taken))
+unfolding resetOf
+returns-2 c =
+    let at-if1 = c .before .before .before .before in
+    let at-is-state = at-if1 .before in
+    let at-args = at-is-state .before in
+    c .refuse .ensures ∙ unmet _ _ _ (not-true (at-args .args .sender .persisted .frozen) (c .before .if2 .taken)) ∙ met _ _ _ (passed (at-is-state .is-state .ensures) (at-if1 .if1 .left))
 
-thaw-requires : tie.Need-thaw-requires
-thaw-requires c κs = search needs
-
-close-requires : tie.Need-close-requires
-close-requires c κs = search needs
+end-circuit-requires : tie.Need-end-circuit-requires
+end-circuit-requires c κs = search needs
 
 returns-3 : tie.Need-returns-3
-returns-3 c = c .close .ensures ∙ rw (c .before .thaw .ensures) (reset-frozen (c .before .before .before .before .before .before .before .args .sender) (sym (c .before .before .before .before .before .before .is-state .ensures) ∙ not-false _ (c .before .before .before .before .before .if1 .left)) (not-false _ (c .before .before .if2 .left)))
+unfolding resetOf
+returns-3 c =
+    let at-if1 = c .before .before .before .before in
+    let at-is-state = at-if1 .before in
+    let at-args = at-is-state .before in
+    c .end-circuit .ensures ∙ met _ _ _ (not-false (at-args .args .sender .persisted .frozen) (c .before .if2 .left)) ∙ met _ _ _ (passed (at-is-state .is-state .ensures) (at-if1 .if1 .left))
 
 pub operator-reset-spec : {M : Type 1} → statement M
 operator-reset-spec =
@@ -39,6 +49,5 @@ operator-reset-spec =
     returns
     refuse-requires
     returns-2
-    thaw-requires
-    close-requires
+    end-circuit-requires
     returns-3)

@@ -1,31 +1,47 @@
 -- `sender::circuit::timer_ran_out` meets its contract.
 use borrow.Author.Needs.{needs}
+use borrow.Author.Tests.{lt-leb, le-leb}
+use mathlib.Core.Path.{_∙_}
+use Rattle.lists.proofs.Calls.{met, unmet}
+use Rattle.lists.proofs.Tests.{and-left}
+use Rattle.sender.proofs.Laws.{passed, failed, bounded}
+use Rattle.sender.specs.Sender.{timerOf}
 use Rattle.sender.proofs.circuit.timer_ran_out.Statement.{statement}
 use Rattle.sender.proofs.circuit.timer_ran_out.Tie as tie
-use mathlib.Core.Path.{sym, _∙_}
-use borrow.Author.Tests.{not-true, not-false}
-use Rattle.sender.proofs.Laws.{bounded, checked-setting, checked-none, checked-some, timer-is}
 
 refuse-requires : tie.Need-refuse-requires
 refuse-requires c κs = search needs
 
 returns : tie.Need-returns
-returns c = c .refuse .ensures ∙ checked-setting (c .before .before .args .resends) (c .before .before .args .sender) _ (c .before .if1 .taken) ∙ timer-is (c .before .before .args .resends) (c .before .before .args .sender)
+unfolding timerOf
+returns c = c .refuse .ensures ∙ unmet _ _ _ (lt-leb _ _ (c .before .if1 .taken))
 
-is-state-requires : tie.Need-is-state-requires
-is-state-requires c κs = search needs
+is-on-circuit-requires : tie.Need-is-on-circuit-requires
+is-on-circuit-requires c κs = search needs
 
 refuse-state-requires : tie.Need-refuse-state-requires
 refuse-state-requires c κs = search needs
 
 returns-2 : tie.Need-returns-2
-returns-2 c = c .refuse-state .ensures ∙ checked-none (c .before .before .before .before .args .resends) (c .before .before .before .before .args .sender) _ (c .before .before .before .if1 .left) (sym (c .before .before .is-state .ensures) ∙ not-true _ (c .before .if2 .taken)) ∙ timer-is (c .before .before .before .before .args .resends) (c .before .before .before .before .args .sender)
+unfolding timerOf
+returns-2 c =
+    let at-is-on-circuit = c .before .before in
+    let at-if1 = at-is-on-circuit .before in
+    c .refuse-state .ensures ∙ unmet _ _ _ (failed (at-is-on-circuit .is-on-circuit .ensures) (c .before .if2 .taken)) ∙ met _ _ _ (le-leb _ _ (at-if1 .if1 .left))
 
-fall-due-requires : tie.Need-fall-due-requires
-fall-due-requires c κs = (c .before .before .if1 .left, bounded (c .before .before .before .args .sender) (sym (c .before .is-state .ensures) ∙ not-false _ (c .if2 .left)))
+resend-requires : tie.Need-resend-requires
+resend-requires c κs =
+    let at-if1 = c .before .before in
+    let at-args = at-if1 .before in
+    let circuit = passed (c .before .is-on-circuit .ensures) (c .if2 .left) in
+    (at-if1 .if1 .left, bounded (at-args .args .sender) (and-left _ _ circuit))
 
 returns-3 : tie.Need-returns-3
-returns-3 c = c .fall-due .ensures ∙ checked-some (c .before .before .before .before .args .resends) (c .before .before .before .before .args .sender) _ (c .before .before .before .if1 .left) (sym (c .before .before .is-state .ensures) ∙ not-false _ (c .before .if2 .left)) ∙ timer-is (c .before .before .before .before .args .resends) (c .before .before .before .before .args .sender)
+unfolding timerOf
+returns-3 c =
+    let at-is-on-circuit = c .before .before in
+    let at-if1 = at-is-on-circuit .before in
+    c .resend .ensures ∙ met _ _ _ (passed (at-is-on-circuit .is-on-circuit .ensures) (c .before .if2 .left)) ∙ met _ _ _ (le-leb _ _ (at-if1 .if1 .left))
 
 pub timer-ran-out-spec : {M : Type 1} → statement M
 timer-ran-out-spec =
@@ -33,8 +49,8 @@ timer-ran-out-spec =
     (tie.spec
     refuse-requires
     returns
-    is-state-requires
+    is-on-circuit-requires
     refuse-state-requires
     returns-2
-    fall-due-requires
+    resend-requires
     returns-3)

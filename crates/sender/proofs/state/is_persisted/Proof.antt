@@ -1,23 +1,17 @@
 -- `sender::state::is_persisted` meets its contract.
-use borrow.Author.Needs.{needs}
-use Rattle.sender.proofs.Laws.{delivered-most, no-numbers, some-numbers}
-use borrow.Author.Tests.{not-true, not-false}
-use native.Mathlib.Omega.{arith}
-use mathlib.Core.Path.{sym, _∙_}
+use borrow.Author.Tests.{lt-leb, le-leb}
+use mathlib.Core.Path.{sym}
 use Rattle.sender.proofs.state.is_persisted.Statement.{statement}
 use Rattle.sender.proofs.state.is_persisted.Tie as tie
 
-are-numbers-requires : tie.Need-are-numbers-requires
-are-numbers-requires c κs = search needs
-
 returns : tie.Need-returns
-returns c = no-numbers (c .before .before .args .p) (sym (c .before .are-numbers .ensures) ∙ not-true _ (c .if1 .taken))
-
-add-result : tie.Need-add-result
-add-result c = let l = delivered-most (c .before .before .before .args .p) (sym (c .before .before .are-numbers .ensures) ∙ not-false _ (c .before .if1 .left)) in omega arith
+returns c = sym (rw (lt-leb 1 (c .before .before .args .p .first) (c .if1 .taken)))
 
 returns-2 : tie.Need-returns-2
-returns-2 c = some-numbers (c .before .before .before .before .before .args .p) (sym (c .before .before .before .before .are-numbers .ensures) ∙ not-false _ (c .before .before .before .if1 .left))
+returns-2 c =
+    let at-if1 = c .before .before .before .before .before .before .before in
+    let at-args = at-if1 .before .before in
+    sym (rw (le-leb 1 (at-args .args .p .first) (at-if1 .if1 .left)))
 
 pub is-persisted-spec : {M : Type 1} → statement M
-is-persisted-spec = tie.close (tie.spec are-numbers-requires returns add-result returns-2)
+is-persisted-spec = tie.close (tie.spec returns returns-2)

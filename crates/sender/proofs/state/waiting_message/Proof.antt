@@ -1,5 +1,6 @@
 -- `sender::state::waiting_message` meets its contract.
 use borrow.Author.Needs.{needs}
+use Rattle.sender.proofs.Laws.{no-message}
 use Rattle.sender.proofs.state.waiting_message.Statement.{statement}
 use Rattle.sender.proofs.state.waiting_message.Tie as tie
 
@@ -12,29 +13,22 @@ enum-told-2 c = search needs
 enum-told-3 : tie.Need-enum-told-3
 enum-told-3 c = search needs
 
-enum-told-4 : tie.Need-enum-told-4
-enum-told-4 c = search needs
-
-enum-told-5 : tie.Need-enum-told-5
-enum-told-5 c = search needs
-
-add-t6 : tie.Need-add-t6
-add-t6 c = search needs
+add-t7 : tie.Need-add-t7
+add-t7 c = search needs
 
 returns : tie.Need-returns
-returns c = rw (c .enum-told .given .1)
+returns c =
+    let s = c .before .before .args .sender in
+    no-message (s .persisted) (s .waiting) (c .match .keys1)
 
 returns-2 : tie.Need-returns-2
-returns-2 c = rw (c .enum-told2 .given .1)
+returns-2 c = rw (c .enum-told .given .1)
 
 returns-3 : tie.Need-returns-3
-returns-3 c = rw (c .enum-told3 .given .1)
+returns-3 c = rw (c .enum-told2 .given .1)
 
 returns-4 : tie.Need-returns-4
-returns-4 c = rw (c .enum-told4 .given .1)
-
-returns-5 : tie.Need-returns-5
-returns-5 c = rw (c .before .enum-told5 .given .1)
+returns-4 c = rw (c .before .enum-told3 .given .1)
 
 pub waiting-message-spec : {M : Type 1} → statement M
 waiting-message-spec =
@@ -43,11 +37,8 @@ waiting-message-spec =
     enum-told
     enum-told-2
     enum-told-3
-    enum-told-4
-    enum-told-5
-    add-t6
+    add-t7
     returns
     returns-2
     returns-3
-    returns-4
-    returns-5)
+    returns-4)

@@ -1,10 +1,11 @@
 -- `sender::submission::submit_header` meets its contract.
 use borrow.Author.Needs.{needs}
+use borrow.Author.Tests.{not-true, not-false}
+use mathlib.Core.Bool.{_&&_}
+use mathlib.Core.Path.{sym, _∙_}
+use Rattle.lists.proofs.Calls.{met, unmet}
 use Rattle.sender.proofs.submission.submit_header.Statement.{statement}
 use Rattle.sender.proofs.submission.submit_header.Tie as tie
-use mathlib.Core.Path.{sym, _∙_}
-use borrow.Author.Tests.{not-true, not-false}
-use Rattle.sender.proofs.Laws.{header-as, header-other, header-next}
 
 read-header-requires : tie.Need-read-header-requires
 read-header-requires c κs = search needs
@@ -19,7 +20,10 @@ refuse-requires : tie.Need-refuse-requires
 refuse-requires c κs = search needs
 
 returns : tie.Need-returns
-returns c = c .refuse .ensures ∙ header-as (c .before .before .before .before .before .args .sender) (c .before .before .before .before .before .args .message .now) _ _ (sym (c .before .before .before .read-header .ensures) ∙ c .before .enum-told .given .1)
+returns c = c .refuse .ensures ∙ sym (rw (sym (c .before .before .before .read-header .ensures) ∙ c .before .enum-told .given .1))
+
+add-next : tie.Need-add-next
+add-next c = search needs
 
 field-content-requires : tie.Need-field-content-requires
 field-content-requires c κs = search needs
@@ -30,24 +34,45 @@ read-number-requires c κs = search needs
 field-content-requires-2 : tie.Need-field-content-requires-2
 field-content-requires-2 c κs = search needs
 
-is-next-requires : tie.Need-is-next-requires
-is-next-requires c κs = search needs
+is-text-requires : tie.Need-is-text-requires
+is-text-requires c κs = search needs
+
+is-number-requires : tie.Need-is-number-requires
+is-number-requires c κs = search needs
 
 refuse-requires-2 : tie.Need-refuse-requires-2
 refuse-requires-2 c κs = search needs
 
 returns-2 : tie.Need-returns-2
 returns-2 c =
-    let a = c .before .before .before .before .before .before .before .before .before .before .before .before .args in
-    c .refuse2 .ensures ∙ header-other (a .sender) (a .message .now) (c .before .before .before .before .before .before .before .before .control-id .given .0 .0) (c .before .before .before .before .before .before .before .before .control-id .given .0 .1 .0) (rw (c .before .before .before .field-content2 .ensures, c .before .before .before .before .read-number .ensures, c .before .before .before .before .before .field-content .ensures) at (sym (c .before .before .is-next .ensures) ∙ not-true _ (c .before .if1 .taken))) ∙ header-as (a .sender) (a .message .now) _ _ (sym (c .before .before .before .before .before .before .before .before .before .before .read-header .ensures) ∙ c .before .before .before .before .before .before .before .before .control-id .given .1)
+    let at-is-number = c .before .before in
+    let at-is-text = at-is-number .before in
+    let at-field-content2 = at-is-text .before in
+    let at-read-number = at-field-content2 .before in
+    let at-field-content = at-read-number .before in
+    let at-control-id = at-field-content .before .before .before in
+    let at-read-header = at-control-id .before .before in
+    let other =
+    rw (at-is-number .is-number .ensures, at-is-text .is-text .ensures, at-field-content2 .field-content2 .ensures, at-read-number .read-number .ensures, at-field-content .field-content .ensures)
+    at (not-true (at-is-number .is-number .result && at-is-text .is-text .result) (c .before .if1 .taken)) in
+    c .refuse2 .ensures ∙ rw (sym (at-read-header .read-header .ensures) ∙ at-control-id .control-id .given .1) (unmet _ _ _ other)
 
 take-requires : tie.Need-take-requires
 take-requires c κs = search needs
 
 returns-3 : tie.Need-returns-3
 returns-3 c =
-    let a = c .before .before .before .before .before .before .before .before .before .before .before .before .args in
-    c .take .ensures ∙ header-next (a .sender) (a .message .now) (c .before .before .before .before .before .before .before .before .control-id .given .0 .0) (c .before .before .before .before .before .before .before .before .control-id .given .0 .1 .0) (rw (c .before .before .before .field-content2 .ensures, c .before .before .before .before .read-number .ensures, c .before .before .before .before .before .field-content .ensures) at (sym (c .before .before .is-next .ensures) ∙ not-false _ (c .before .if1 .left))) ∙ header-as (a .sender) (a .message .now) _ _ (sym (c .before .before .before .before .before .before .before .before .before .before .read-header .ensures) ∙ c .before .before .before .before .before .before .before .before .control-id .given .1)
+    let at-is-number = c .before .before in
+    let at-is-text = at-is-number .before in
+    let at-field-content2 = at-is-text .before in
+    let at-read-number = at-field-content2 .before in
+    let at-field-content = at-read-number .before in
+    let at-control-id = at-field-content .before .before .before in
+    let at-read-header = at-control-id .before .before in
+    let next =
+    rw (at-is-number .is-number .ensures, at-is-text .is-text .ensures, at-field-content2 .field-content2 .ensures, at-read-number .read-number .ensures, at-field-content .field-content .ensures)
+    at (not-false (at-is-number .is-number .result && at-is-text .is-text .result) (c .before .if1 .left)) in
+    c .take .ensures ∙ rw (sym (at-read-header .read-header .ensures) ∙ at-control-id .control-id .given .1) (met _ _ _ next)
 
 pub submit-header-spec : {M : Type 1} → statement M
 submit-header-spec =
@@ -58,10 +83,12 @@ submit-header-spec =
     enum-told
     refuse-requires
     returns
+    add-next
     field-content-requires
     read-number-requires
     field-content-requires-2
-    is-next-requires
+    is-text-requires
+    is-number-requires
     refuse-requires-2
     returns-2
     take-requires

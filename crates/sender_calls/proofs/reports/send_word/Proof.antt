@@ -26,7 +26,10 @@ returns-3 : tie.Need-returns-3
 returns-3 c = search needs
 
 returns-4 : tie.Need-returns-4
-returns-4 c = rw (c .before .before .before .before .before .send .given .1, c .before .before .number .given .1, ne-eqb _ 0 (c .if1 .left))
+returns-4 c =
+    let at-number = c .before .before in
+    let at-send = at-number .before .before .before in
+    rw (at-send .send .given .1, at-number .number .given .1, ne-eqb _ 0 (c .if1 .left))
 
 pub send-word-spec : {M : Type 1} → statement M
 send-word-spec =

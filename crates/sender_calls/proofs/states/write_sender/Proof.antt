@@ -1,10 +1,10 @@
 -- `sender_calls::states::write_sender` meets its contract.
 use borrow.Author.Needs.{needs}
-use Rattle.lists.proofs.Over.{written-over}
+use lib.ListN.{length-set}
 use mathlib.Core.List.{[], _∷_}
 use mathlib.Core.Path.{_∙_}
 use native.Mathlib.Omega.{arith}
-use lib.ListN.{length-set}
+use Rattle.lists.proofs.Over.{written-over}
 use Rattle.sender_calls.proofs.states.write_sender.Statement.{statement}
 use Rattle.sender_calls.proofs.states.write_sender.Tie as tie
 
@@ -42,7 +42,11 @@ same-length : tie.Need-same-length
 same-length c = search needs
 
 returns : tie.Need-returns
-returns c = written-over (c .before .before .before .before .before .args .words .now) (_ ∷ _ ∷ _ ∷ _ ∷ _ ∷ _ ∷ _ ∷ []) (c .before .before .before .before .before .pre) ∙ rw (c .before .before .flag-word .ensures, c .before .flag-word2 .ensures, c .waiting-word .ensures)
+returns c =
+    let at-flag-word = c .before .before in
+    let at-args = at-flag-word .before .before .before in
+    written-over (at-args .args .words .now) (_ ∷ _ ∷ _ ∷ _ ∷ _ ∷ _ ∷ _ ∷ []) (at-args .pre)
+    ∙ rw (at-flag-word .flag-word .ensures, c .before .flag-word2 .ensures, c .waiting-word .ensures)
 
 pub write-sender-spec : {M : Type 1} → statement M
 write-sender-spec =

@@ -5,7 +5,8 @@ use Prim.Native.Nat.{_≤_, _-_}
 use lib.ListN.{length, drop}
 use borrow.Author.Needs.{needs}
 use Rattle.settings.specs.DataBytes.{allAllowed}
-use Rattle.settings.proofs.DataLaws.{allowed-more, allowed-none}
+use Rattle.lists.proofs.All.{all-more, all-none}
+use Rattle.settings.specs.Settings.{allowed}
 use Rattle.settings.proofs.bytes.are_allowed.Statement.{statement}
 use Rattle.settings.proofs.bytes.are_allowed.Tie as tie
 
@@ -28,10 +29,10 @@ loop-less : tie.Need-loop-less Inv-loop μ-loop
 loop-less c = search needs
 
 loop-again : tie.Need-loop-again Inv-loop μ-loop
-loop-again c = (search needs, allowed-more _ (c .before .before .loop .i) (c .before .before .loop .good) (c .before .loop-test .taken) ∙ c .before .before .loop .inv .1)
+loop-again c = (search needs, all-more allowed _ (c .before .before .loop .i) (c .before .before .loop .good) (c .before .loop-test .taken) ∙ c .before .before .loop .inv .1)
 
 returns : tie.Need-returns Inv-loop μ-loop
-returns c = sym (allowed-none _ (c .before .loop .i) (c .before .loop .good) (c .loop-test .left)) ∙ c .before .loop .inv .1
+returns c = sym (all-none allowed _ (c .before .loop .i) (c .before .loop .good) (c .loop-test .left)) ∙ c .before .loop .inv .1
 
 pub are-allowed-spec : {M : Type 1} → statement M
 are-allowed-spec =

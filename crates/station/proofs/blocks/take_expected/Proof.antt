@@ -1,30 +1,64 @@
 -- `station::blocks::take_expected` meets its contract.
 use borrow.Author.Needs.{needs}
-use Rattle.station.proofs.Laws.{too-long, fits}
-use Rattle.station.specs.declared.Acted.{Acted}
-use Rattle.station.specs.Station.{outcome}
-use mathlib.Core.Path.{ap, _∙_}
+use borrow.Author.Tests.{le-leb, lt-leb}
+use Prim.Native.Nat.{_+_, _≤_}
+use native.Mathlib.Omega.{arith}
+use lib.ListN.{length}
+use Rattle.lists.proofs.Put.{copied}
 use Rattle.station.proofs.blocks.take_expected.Statement.{statement}
 use Rattle.station.proofs.blocks.take_expected.Tie as tie
 
 sub-if1 : tie.Need-sub-if1
 sub-if1 c = search needs
 
-drop-unit-requires : tie.Need-drop-unit-requires
-drop-unit-requires c κs = search needs
+answer-requires : tie.Need-answer-requires
+answer-requires c κs = search needs
 
 returns : tie.Need-returns
-returns c = let a = c .before .before .before .before .args in ap (λ (z : Acted). outcome z (a .buffer .now)) (c .drop-unit .ensures) ∙ too-long (a .expected) (a .held) (a .ending) (a .text .now) (a .buffer .now) (c .before .if1 .taken) (c .before .before .before .before .pre .1)
+returns c =
+    let a = c .before .before .before .before .args in
+    rw (c .answer .ensures, lt-leb (a .held + length (a .text .now)) (length (a .buffer .now)) (omega arith))
 
-append-requires : tie.Need-append-requires
-append-requires c κs = search needs
+sub-copy-bytes : tie.Need-sub-copy-bytes
+sub-copy-bytes c = search needs
+
+part-copy-bytes-start : tie.Need-part-copy-bytes-start
+part-copy-bytes-start c = search needs
+
+part-copy-bytes-end : tie.Need-part-copy-bytes-end
+part-copy-bytes-end c = search needs
+
+copy-bytes-requires : tie.Need-copy-bytes-requires
+copy-bytes-requires c κs = search needs
+
+add-acknowledge : tie.Need-add-acknowledge
+add-acknowledge c = search needs
+
+acknowledge-requires : tie.Need-acknowledge-requires
+acknowledge-requires c κs = search needs
 
 same-length : tie.Need-same-length
 same-length c = search needs
 
 returns-2 : tie.Need-returns-2
-returns-2 c = let a = c .before .before .before .before .before .before .before .args in c .before .before .append .ensures ∙ fits (a .expected) (a .held) (a .ending) (a .text .now) (a .buffer .now) (c .before .before .before .before .if1 .left) (c .before .before .before .before .before .before .before .pre .1)
+returns-2 c =
+    let a = c .before .before .before .before .before .before .before .before .args in
+    let copy = c .before .before .before .copy-bytes in
+    let fits : a .held + length (a .text .now) ≤ length (a .buffer .now) = omega arith in
+    rw (c .acknowledge .ensures, copied (a .buffer .now) (a .text .now) (copy .last .0) (a .held) fits (copy .ensures), le-leb (a .held + length (a .text .now)) (length (a .buffer .now)) fits)
 
 pub take-expected-spec : {M : Type 1} → statement M
 take-expected-spec =
-    tie.close (tie.spec sub-if1 drop-unit-requires returns append-requires same-length returns-2)
+    tie.close
+    (tie.spec
+    sub-if1
+    answer-requires
+    returns
+    sub-copy-bytes
+    part-copy-bytes-start
+    part-copy-bytes-end
+    copy-bytes-requires
+    add-acknowledge
+    acknowledge-requires
+    same-length
+    returns-2)

@@ -1,27 +1,51 @@
 -- `station::units::end_of_transmission` meets its contract.
 use borrow.Author.Needs.{needs}
-use Rattle.station.proofs.Laws.{end-no-state, end-state}
-use borrow.Author.Tests.{not-true, not-false}
-use mathlib.Core.Path.{sym, _∙_}
+use borrow.Author.Tests.{le-leb, lt-leb}
+use mathlib.Core.Path.{sym, ap, _∙_}
+use Rattle.station.specs.Station.{eotOf}
 use Rattle.station.proofs.units.end_of_transmission.Statement.{statement}
 use Rattle.station.proofs.units.end_of_transmission.Tie as tie
 
-is-number-requires : tie.Need-is-number-requires
-is-number-requires c κs = search needs
+enum-known-station : tie.Need-enum-known-station
+enum-known-station c = search needs
 
-refuse-state-requires : tie.Need-refuse-state-requires
-refuse-state-requires c κs = search needs
+enum-told : tie.Need-enum-told
+enum-told c = search needs
+
+answer-requires : tie.Need-answer-requires
+answer-requires c κs = search needs
 
 returns : tie.Need-returns
-returns c = c .refuse-state .ensures ∙ end-no-state (c .before .before .before .args .station) (sym (c .before .before .is-number .ensures) ∙ not-true _ (c .before .if1 .taken))
+unfolding eotOf
+returns c = c .answer .ensures ∙ ap eotOf (sym (c .before .enum-told .given .1))
 
-drop-unit-requires : tie.Need-drop-unit-requires
-drop-unit-requires c κs = search needs
+refuse-station-requires : tie.Need-refuse-station-requires
+refuse-station-requires c κs = search needs
 
 returns-2 : tie.Need-returns-2
-returns-2 c = c .drop-unit .ensures ∙ end-state (c .before .before .before .args .station) (sym (c .before .before .is-number .ensures) ∙ not-false _ (c .before .if1 .left))
+unfolding eotOf
+returns-2 c =
+    let is-open = c .before .before .before .station .given in
+    c .refuse-station .ensures ∙ rw (is-open .1, lt-leb (is-open .0 .0) 7 (c .before .if1 .taken))
+
+answer-requires-2 : tie.Need-answer-requires-2
+answer-requires-2 c κs = search needs
+
+returns-3 : tie.Need-returns-3
+unfolding eotOf
+returns-3 c =
+    let is-open = c .before .before .before .station .given in
+    c .answer2 .ensures ∙ rw (is-open .1, le-leb (is-open .0 .0) 7 (c .before .if1 .left))
 
 pub end-of-transmission-spec : {M : Type 1} → statement M
 end-of-transmission-spec =
     tie.close
-    (tie.spec is-number-requires refuse-state-requires returns drop-unit-requires returns-2)
+    (tie.spec
+    enum-known-station
+    enum-told
+    answer-requires
+    returns
+    refuse-station-requires
+    returns-2
+    answer-requires-2
+    returns-3)

@@ -1,17 +1,17 @@
 -- `station_calls::acts::finish` meets its contract.
 use borrow.Author.Needs.{needs}
-use Rattle.station_calls.proofs.Laws.{finish-refused, finish-done}
+use borrow.Author.Tests.{eq-eqb, ne-eqb}
 use Rattle.station_calls.proofs.acts.finish.Statement.{statement}
 use Rattle.station_calls.proofs.acts.finish.Tie as tie
 
 returns : tie.Need-returns
-returns c = finish-refused (c .before .before .before .args .state .now) (c .before .before .before .args .report .now) (c .before .before .before .args .acted) (c .if1 .taken)
+returns c = rw (ne-eqb (c .before .before .before .args .acted .number) 0 (c .if1 .taken))
 
 write-station-requires : tie.Need-write-station-requires
 write-station-requires c κs = search needs
 
-write-act-requires : tie.Need-write-act-requires
-write-act-requires c κs = search needs
+write-report-requires : tie.Need-write-report-requires
+write-report-requires c κs = search needs
 
 same-length : tie.Need-same-length
 same-length c = search needs
@@ -20,7 +20,10 @@ same-length-2 : tie.Need-same-length-2
 same-length-2 c = search needs
 
 returns-2 : tie.Need-returns-2
-returns-2 c = rw (c .before .before .before .before .before .before .write-station .ensures, c .before .before .write-act .ensures) (finish-done (c .before .before .before .before .before .before .before .before .before .before .before .args .state .now) (c .before .before .before .before .before .before .before .before .before .before .before .args .report .now) (c .before .before .before .before .before .before .before .before .before .before .before .args .acted) (c .before .before .before .before .before .before .before .before .if1 .left))
+returns-2 c =
+    let tested = c .before .before .before .before .before .before .before .before in
+    let zero = eq-eqb (tested .before .before .before .args .acted .number) 0 (tested .if1 .left) in
+    rw (c .before .before .before .before .before .before .write-station .ensures, c .before .before .write-report .ensures, zero)
 
 pub finish-spec : {M : Type 1} → statement M
 finish-spec =
@@ -28,7 +31,7 @@ finish-spec =
     (tie.spec
     returns
     write-station-requires
-    write-act-requires
+    write-report-requires
     same-length
     same-length-2
     returns-2)

@@ -1,25 +1,34 @@
 -- `station_calls::acts::opened_words` meets its contract.
 use borrow.Author.Needs.{needs}
-use Rattle.station_calls.proofs.Laws.{few-state, few-report, act-done, finished-as, open-is}
-use Rattle.station.specs.Station.{openedOf}
-use mathlib.Core.Path.{ap, _∙_}
+use borrow.Author.Tests.{not-true, not-false}
+use mathlib.Core.Path.{sym, ap, _∙_}
+use mathlib.Core.List.{[]}
+use lib.ListN.{length}
+use Rattle.lists.specs.Outcome.{outcome}
+use Rattle.station.specs.declared.Acted.{Acted}
+use Rattle.station_calls.specs.StationCalls.{enoughWords, actWritten, openStationCall}
+use Rattle.lists.proofs.Calls.{met, unmet, state-words, report-words}
 use Rattle.station_calls.proofs.acts.opened_words.Statement.{statement}
 use Rattle.station_calls.proofs.acts.opened_words.Tie as tie
 
+enough-words-requires : tie.Need-enough-words-requires
+enough-words-requires c κs = search needs
+
 returns : tie.Need-returns
-returns c = few-state openedOf (c .before .before .before .args .state .now) (c .before .before .before .args .report .now) (c .if1 .taken) ∙ open-is (c .before .before .before .args .state .now) (c .before .before .before .args .report .now)
-
-returns-2 : tie.Need-returns-2
-returns-2 c = few-report openedOf (c .before .before .before .before .args .state .now) (c .before .before .before .before .args .report .now) (c .before .if1 .left) (c .if2 .taken) ∙ open-is (c .before .before .before .before .args .state .now) (c .before .before .before .before .args .report .now)
-
-read-station-requires : tie.Need-read-station-requires
-read-station-requires c κs = search needs
+unfolding openStationCall
+returns c =
+    let a = c .before .before .before .before .args in
+    unmet (enoughWords (length (a .state .now)) (length (a .report .now))) _ _ (sym (c .before .enough-words .ensures) ∙ not-true _ (c .if1 .taken))
 
 station-opened-requires : tie.Need-station-opened-requires
 station-opened-requires c κs = search needs
 
 finish-requires : tie.Need-finish-requires
-finish-requires c κs = search needs
+finish-requires c κs =
+    let tested = c .before .before .before in
+    let a = tested .before .before .before .before .args in
+    let enough = sym (tested .before .enough-words .ensures) ∙ not-false _ (tested .if1 .left) in
+    (state-words 3 4 (a .state .now) (a .report .now) enough, report-words 3 4 (a .state .now) (a .report .now) enough)
 
 same-length : tie.Need-same-length
 same-length c = search needs
@@ -27,19 +36,23 @@ same-length c = search needs
 same-length-2 : tie.Need-same-length-2
 same-length-2 c = search needs
 
-returns-3 : tie.Need-returns-3
-returns-3 c = c .before .before .before .before .finish .ensures ∙ finished-as (c .before .before .before .before .before .before .before .before .before .before .before .before .before .before .args .state .now) (c .before .before .before .before .before .before .before .before .before .before .before .before .before .before .args .report .now) _ _ (c .before .before .before .before .before .before .before .station-opened .ensures ∙ ap openedOf (c .before .before .before .before .before .before .before .before .read-station .ensures))
-    ∙ act-done openedOf (c .before .before .before .before .before .before .before .before .before .before .before .before .before .before .args .state .now) (c .before .before .before .before .before .before .before .before .before .before .before .before .before .before .args .report .now) (c .before .before .before .before .before .before .before .before .before .before .before .if1 .left) (c .before .before .before .before .before .before .before .before .before .before .if2 .left) ∙ open-is (c .before .before .before .before .before .before .before .before .before .before .before .before .before .before .args .state .now) (c .before .before .before .before .before .before .before .before .before .before .before .before .before .before .args .report .now)
+returns-2 : tie.Need-returns-2
+unfolding openStationCall
+returns-2 c =
+    let tested = c .before .before .before .before .before .before .before .before in
+    let a = tested .before .before .before .before .args in
+    c .before .before .before .before .finish .ensures
+    ∙ ap (λ (z : Acted). actWritten (a .state .now) (a .report .now) (outcome z [])) (c .before .before .before .before .before .before .before .station-opened .ensures)
+    ∙ met (enoughWords (length (a .state .now)) (length (a .report .now))) _ _ (sym (tested .before .enough-words .ensures) ∙ not-false _ (tested .if1 .left))
 
 pub opened-words-spec : {M : Type 1} → statement M
 opened-words-spec =
     tie.close
     (tie.spec
+    enough-words-requires
     returns
-    returns-2
-    read-station-requires
     station-opened-requires
     finish-requires
     same-length
     same-length-2
-    returns-3)
+    returns-2)

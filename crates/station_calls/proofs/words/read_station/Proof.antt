@@ -1,6 +1,8 @@
 -- `station_calls::words::read_station` meets its contract.
 use borrow.Author.Needs.{needs}
-use Rattle.station_calls.proofs.Laws.{in-open, in-closed, in-none}
+use borrow.Author.Tests.{eq-eqb, ne-eqb}
+use lib.ListN.{getD}
+use Rattle.station_calls.specs.StationCalls.{stationIn}
 use Rattle.station_calls.proofs.words.read_station.Statement.{statement}
 use Rattle.station_calls.proofs.words.read_station.Tie as tie
 
@@ -14,7 +16,8 @@ shared-slice-read-t9 : tie.Need-shared-slice-read-t9
 shared-slice-read-t9 c = search needs
 
 returns : tie.Need-returns
-returns c = in-open (c .before .before .before .before .args .words .now) (c .before .before .if1 .taken)
+unfolding stationIn
+returns c = rw (eq-eqb (getD (c .before .before .before .before .args .words .now) 0 0) 1 (c .before .before .if1 .taken))
 
 shared-slice-read-closed : tie.Need-shared-slice-read-closed
 shared-slice-read-closed c = search needs
@@ -26,10 +29,18 @@ shared-slice-read-closed-3 : tie.Need-shared-slice-read-closed-3
 shared-slice-read-closed-3 c = search needs
 
 returns-2 : tie.Need-returns-2
-returns-2 c = in-closed (c .before .before .before .before .before .before .args .words .now) (c .before .before .before .before .if1 .left) (c .if2 .taken)
+unfolding stationIn
+returns-2 c =
+    let tested = c .before .before .before .before in
+    let ws = tested .before .before .args .words .now in
+    rw (ne-eqb (getD ws 0 0) 1 (tested .if1 .left), c .if2 .taken)
 
 returns-3 : tie.Need-returns-3
-returns-3 c = in-none (c .before .before .before .before .before .before .args .words .now) (c .before .before .before .before .if1 .left) (c .if2 .left)
+unfolding stationIn
+returns-3 c =
+    let tested = c .before .before .before .before in
+    let ws = tested .before .before .args .words .now in
+    rw (ne-eqb (getD ws 0 0) 1 (tested .if1 .left), c .if2 .left)
 
 pub read-station-spec : {M : Type 1} → statement M
 read-station-spec =

@@ -6,7 +6,7 @@ use borrow.Author.Needs.{needs}
 use Rattle.settings.proofs.Laws.{valid-limit}
 use Rattle.stream.proofs.Returns.{read-setting, read-too-short, read-state, read-scanned}
 use Rattle.stream.specs.declared.Reading.{Reading}
-use Rattle.stream.specs.Scan.{given}
+use Rattle.lists.specs.Outcome.{outcome}
 use Rattle.stream.proofs.scan.read.Statement.{statement}
 use Rattle.stream.proofs.scan.read.Tie as tie
 
@@ -19,7 +19,7 @@ refuse-requires c κs = search needs
 returns : tie.Need-returns
 returns c =
     let a = c .before .before .before .before .before .args in
-    ap (λ (r : Reading). given r (a .buffer .now)) (c .refuse .ensures) ∙ read-setting (a .settings) (a .reader) (a .part .now) (a .buffer .now) (sym (c .before .before .is-valid .ensures) ∙ not-true _ (c .before .if1 .taken))
+    ap (λ (r : Reading). outcome r (a .buffer .now)) (c .refuse .ensures) ∙ read-setting (a .settings) (a .reader) (a .part .now) (a .buffer .now) (sym (c .before .before .is-valid .ensures) ∙ not-true _ (c .before .if1 .taken))
 
 capacity-requires : tie.Need-capacity-requires
 capacity-requires c κs = valid-limit (c .before .before .before .before .args .settings) (sym (c .before .is-valid .ensures) ∙ not-false _ (c .if1 .left))
@@ -31,7 +31,7 @@ returns-2 : tie.Need-returns-2
 returns-2 c =
     let a = c .before .before .before .before .before .before .before .args in
     let e = c .before .before .capacity .ensures in
-    ap (λ (r : Reading). given r (a .buffer .now)) (c .refuse2 .ensures) ∙ read-too-short (a .settings) (a .reader) (a .part .now) (a .buffer .now) (sym (c .before .before .before .before .is-valid .ensures) ∙ not-false _ (c .before .before .before .if1 .left)) (omega arith)
+    ap (λ (r : Reading). outcome r (a .buffer .now)) (c .refuse2 .ensures) ∙ read-too-short (a .settings) (a .reader) (a .part .now) (a .buffer .now) (sym (c .before .before .before .before .is-valid .ensures) ∙ not-false _ (c .before .before .before .if1 .left)) (omega arith)
 
 sub-if3 : tie.Need-sub-if3
 sub-if3 c = search needs
@@ -43,7 +43,7 @@ returns-3 : tie.Need-returns-3
 returns-3 c =
     let a = c .before .before .before .before .before .before .before .before .before .args in
     let e = c .before .before .before .before .capacity .ensures in
-    ap (λ (r : Reading). given r (a .buffer .now)) (c .refuse3 .ensures) ∙ read-state (a .settings) (a .reader) (a .part .now) (a .buffer .now) (sym (c .before .before .before .before .before .before .is-valid .ensures) ∙ not-false _ (c .before .before .before .before .before .if1 .left)) (omega arith) (c .before .if3 .taken)
+    ap (λ (r : Reading). outcome r (a .buffer .now)) (c .refuse3 .ensures) ∙ read-state (a .settings) (a .reader) (a .part .now) (a .buffer .now) (sym (c .before .before .before .before .before .before .is-valid .ensures) ∙ not-false _ (c .before .before .before .before .before .if1 .left)) (omega arith) (c .before .if3 .taken)
 
 read-part-requires : tie.Need-read-part-requires
 read-part-requires c κs =

@@ -5,7 +5,7 @@ use lib.Seq.{length-take-le}
 use borrow.Author.Tests.{lt-ltb, le-ltb, eq-eqb, ne-eqb}
 use borrow.Author.Needs.{needs}
 use Rattle.settings.specs.Settings.{capacityOf}
-use Rattle.stream.specs.Scan.{verdictOf}
+use Rattle.stream.specs.Scan.{storedVerdict}
 use Rattle.stream.proofs.scan.verdict_on.Statement.{statement}
 use Rattle.stream.proofs.scan.verdict_on.Tie as tie
 
@@ -13,14 +13,14 @@ capacity-requires : tie.Need-capacity-requires
 capacity-requires c κs = search needs
 
 returns : tie.Need-returns
-unfolding verdictOf
+unfolding storedVerdict
 returns c =
     let a = c .before .before .before .args in
     let e = c .before .capacity .ensures in
     rw (lt-ltb (capacityOf (a .settings)) (a .held) (omega arith))
 
 returns-2 : tie.Need-returns-2
-unfolding verdictOf
+unfolding storedVerdict
 returns-2 c =
     let a = c .before .before .before .before .args in
     let e = c .before .before .capacity .ensures in
@@ -35,7 +35,7 @@ judge-block-requires : tie.Need-judge-block-requires
 judge-block-requires c κs = search needs
 
 returns-3 : tie.Need-returns-3
-unfolding verdictOf
+unfolding storedVerdict
 returns-3 c =
     let a = c .before .before .before .before .before .before .args in
     let e = c .before .before .before .before .capacity .ensures in

@@ -1,0 +1,170 @@
+-- Demand 3, of every run: "It sends at once what waits .. and reports how many it made."
+use mathlib.Core.Path.{_≡_, refl, sym, ap, _∙_, subst}
+use mathlib.Core.List.{List, [], _∷_}
+use mathlib.Core.Bool.{true}
+use mathlib.Core.Logic.{_⊎_, inl, inr}
+use Prim.Native.Nat.{ℕ, _+_, _≤_, _<_}
+use native.Mathlib.Omega.{arith}
+use lib.Dec.{eqb}
+use Rattle.lists.proofs.Tests.{cond-ind}
+use Rattle.numbers.specs.declared.SequenceNumber.{SequenceNumber}
+use Rattle.numbers.specs.declared.SequenceNumber.the-variants.{Number}
+use Rattle.stream.specs.Stream.{Judged}
+use Rattle.receiver.specs.Receiver.{validExpected}
+use Rattle.receiver.specs.declared.Application.{Application}
+use Rattle.receiver.specs.declared.Expected.{Expected}
+use Rattle.sender.specs.Sender.{validSender, waitingMessage, waitsOf, openOf}
+use Rattle.sender.specs.declared.Persisted.{Persisted}
+use Rattle.sender.specs.declared.Waiting.{Waiting}
+use Rattle.sender.specs.declared.Waiting.the-variants.{Closed, Idle, Resynchronizing, Querying, Sending}
+use Rattle.sender.specs.declared.Sender.{Sender}
+use Rattle.sender.specs.declared.NumberedMessage.{NumberedMessage}
+use Rattle.sender.specs.declared.NumberedMessage.the-variants.{Numbered}
+use Rattle.sender.specs.declared.Event.{Event}
+use Rattle.link.specs.SenderActs.{Act, opened, ended, reset, timer, block, submit, actOf, resendsOf, afterCrash}
+use Rattle.link.specs.SenderHistory.{Entry, reported, crashed, isAbandoned, sendsToReport}
+use Rattle.link.proofs.Facts.{not-both}
+use Rattle.link.proofs.SenderValid.{right-from, WaitsRight}
+use Rattle.link.proofs.SenderSteps.{Step, refuses, keeps, starts, resends, abandons, shuts, steps}
+use Rattle.link.proofs.SenderInvariant.{act-valid}
+use Rattle.link.proofs.SenderCounts.{Counts, counts-step, reported-right, few-step, up-step}
+use Rattle.link.specs.Line.{readsByte, damages}
+use Rattle.link.specs.System.{Link, System, SendingEnd, startOf, actedEnd, samePersisted, requestWritten, sameStored, replyWritten, answersRead, senderRead}
+use Rattle.link.specs.System.{receiverRead, SystemAct, opens, ends, resets, submits}
+use Rattle.link.specs.System.{timer as timerRuns, senderPersists, senderWrites, senderReads, senderCrashes, receiverReads, receiverPersists, receiverWrites}
+use Rattle.link.specs.System.{receiverCrashes, damagesForward, damagesBack, afterAct, runOf}
+use Rattle.link.specs.Promise.{Ready}
+use Rattle.link.proofs.Safety.{run-keeps}
+
+-- ---- what an act of the link does at the sender's end: an act of the sender, persisting, a crash, or nothing
+module _ (l : Link) (P : Sender → Persisted → List Entry → Type 0)
+    (acts : (s : Sender) (p : Persisted) (h : List Entry) → validSender s ≡ true → P s p h → (a : Act) → resendsOf a ≤ l .resends → P (actOf a s .sender) p (reported (actOf a s) ∷ h)) where
+  abbrev At : SendingEnd → Type 0
+  At e = P (e .sender) (e .persisted) (e .history)
+
+  answers-at : (ws : List Judged) (e : SendingEnd) → validSender (e .sender) ≡ true → At e → At (answersRead l e ws)
+  answers-at [] e v c = c
+  answers-at (w ∷ ws) e v c =
+      let a = block (l .resends) (w .verdict) (w .content) in
+      answers-at ws (actedEnd e (actOf a (e .sender))) (act-valid a (e .sender) v) (acts (e .sender) (e .persisted) (e .history) v c a (omega arith))
+
+  module _ (y : System) (v : validSender (y .sending .sender) ≡ true) (now : At (y .sending)) (persists : P (y .sending .sender) (y .sending .sender .persisted) (y .sending .history))
+      (crashes : P (afterCrash (y .sending .persisted)) (y .sending .persisted) (crashed ∷ y .sending .history)) where
+    by : (a : Act) → resendsOf a ≤ l .resends → P (actOf a (y .sending .sender) .sender) (y .sending .persisted) (reported (actOf a (y .sending .sender)) ∷ y .sending .history)
+    by = acts (y .sending .sender) (y .sending .persisted) (y .sending .history) v now
+
+    written : (vs : List SequenceNumber) → At (requestWritten l y vs .sending)
+    written [] = now
+    written (x ∷ vs) = cond-ind (λ (z : System). At (z .sending)) (samePersisted (y .sending .sender .persisted) (y .sending .persisted)) _ _ (λ z. now) (λ z. now)
+
+    replied : (bs : List (List ℕ)) → At (replyWritten y bs .sending)
+    replied [] = now
+    replied (b ∷ bs) = cond-ind (λ (z : System). At (z .sending)) (sameStored (y .receiving .volatile) (y .receiving .persisted)) _ _ (λ z. now) (λ z. now)
+
+    answer-read : (xs : List ℕ) → At (senderRead l y xs .sending)
+    answer-read [] = now
+    answer-read (x ∷ xs) = answers-at (readsByte (l .settings) (y .back .reader) x .says) (y .sending) v now
+
+    request-read : (a : Application) (xs : List ℕ) → At (receiverRead l a y xs .sending)
+    request-read a [] = now
+    request-read a (x ∷ xs) = now
+
+    at-after : (d : SystemAct) → At (afterAct l d y .sending)
+    at-after opens = cond-ind (λ (z : System). At (z .sending)) (eqb (openOf (y .sending .sender) .number) 0) _ _ (λ z. by opened (omega arith)) (λ z. by opened (omega arith))
+    at-after ends = by ended (omega arith)
+    at-after resets = by reset (omega arith)
+    at-after timerRuns = by (timer (l .resends)) (omega arith)
+    at-after submits = by (submit (l .settings .«data_limit») (l .log (y .sending .sender .persisted .last + 1))) (omega arith)
+    at-after senderPersists = persists
+    at-after senderWrites = written (y .sending .named)
+    at-after senderReads = answer-read (y .back .bytes)
+    at-after senderCrashes = crashes
+    at-after (receiverReads a) = request-read a (y .forward .bytes)
+    at-after receiverPersists = now
+    at-after receiverWrites = replied (y .receiving .pending)
+    at-after receiverCrashes = now
+    at-after (damagesForward b) = cond-ind (λ (z : System). At (z .sending)) (damages (l .settings) (y .forward) b) _ _ (λ z. now) (λ z. now)
+    at-after (damagesBack b) = cond-ind (λ (z : System). At (z .sending)) (damages (l .settings) (y .back) b) _ _ (λ z. now) (λ z. now)
+
+module _ (l : Link) (rd : Ready l) (e : Expected) (v : validExpected e ≡ true) where
+  abbrev at : List SystemAct → System
+  at ds = runOf l (startOf l e) ds
+
+  pub run-valid : (ds : List SystemAct) → validSender (at ds .sending .sender) ≡ true
+  run-valid ds = run-keeps l rd e v ds .ends .valid
+
+  run-counts : (ds : List SystemAct) → Counts (at ds .sending .sender) (at ds .sending .history)
+  unfolding runOf
+  run-counts [] = λ m. refl
+  run-counts (d ∷ ds) =
+      at-after l (λ s p h. Counts s h) (λ s p h i c a r. counts-step h c (steps s i a)) (at ds) (run-valid ds) (run-counts ds) (run-counts ds) (λ m. refl) d
+
+  -- "and reports how many it made": the number that any act of the sender reports, at any moment of any run
+  pub reports : (ds : List SystemAct) (a : Act) → actOf a (at ds .sending .sender) .sends ≡ sendsToReport (at ds .sending .sender) (at ds .sending .history) (actOf a (at ds .sending .sender))
+  reports ds a =
+      reported-right (at ds .sending .sender) (at ds .sending .history) (actOf a (at ds .sending .sender)) (right-from (at ds .sending .sender) (run-valid ds)) (run-counts ds) (resendsOf a)
+      (steps (at ds .sending .sender) (run-valid ds) a)
+
+  -- "It sends at once what waits": what waits after an act is named by it, or waited before
+  pub sends-at-once : (ds : List SystemAct) (a : Act) (m : SequenceNumber) → waitsOf (actOf a (at ds .sending .sender) .sender) ≡ Numbered m
+      → (actOf a (at ds .sending .sender) .send ≡ Numbered m) ⊎ (waitsOf (at ds .sending .sender) ≡ Numbered m)
+  sends-at-once ds a m w = go (steps (at ds .sending .sender) (run-valid ds) a) w
+    where
+      go : {r n k : ℕ} {s t : Sender} {c : NumberedMessage} {x : Event} → Step r s n t c k x → waitsOf t ≡ Numbered m → (c ≡ Numbered m) ⊎ (waitsOf s ≡ Numbered m)
+      go (refuses q) z = inr z
+      go {s = s} (keeps {p = p} {w = u} q g j y) z = inr (ap (λ (i : Waiting). waitingMessage (s .persisted) i) q ∙ sym y ∙ z)
+      go (starts g j f) z = inl z
+      go (resends q j) z = inl z
+      go (abandons j q u) z = not-both cc
+      go (shuts g j) z = not-both cc
+
+  -- the other way: what an act names is what waits after it
+  pub named-waits : (ds : List SystemAct) (a : Act) (m : SequenceNumber) → actOf a (at ds .sending .sender) .send ≡ Numbered m → waitsOf (actOf a (at ds .sending .sender) .sender) ≡ Numbered m
+  named-waits ds a m w = go (steps (at ds .sending .sender) (run-valid ds) a) w
+    where
+      go : {r n k : ℕ} {s t : Sender} {c : NumberedMessage} {x : Event} → Step r s n t c k x → c ≡ Numbered m → waitsOf t ≡ Numbered m
+      go (refuses q) z = not-both cc
+      go (keeps q g j y) z = not-both cc
+      go (starts g j f) z = z
+      go (resends q j) z = z
+      go (abandons j q u) z = not-both cc
+      go (shuts g j) z = not-both cc
+
+  -- and where nothing waits on an open circuit, all that was submitted is delivered
+  pub nothing-left : (ds : List SystemAct) → at ds .sending .sender .waiting ≡ Idle → at ds .sending .sender .persisted .delivered ≡ at ds .sending .sender .persisted .last
+  nothing-left ds z =
+      subst (λ (w : Waiting). WaitsRight (at ds .sending .sender .persisted) w (at ds .sending .sender .sends)) z (right-from (at ds .sending .sender) (run-valid ds) .waits) .1 .all
+
+  -- ---- the log may be purged: the persisted delivered number never falls, and what waits is above it
+  pub stored-grows : (d : SystemAct) (ds : List SystemAct) → at ds .sending .persisted .delivered ≤ at (d ∷ ds) .sending .persisted .delivered
+  unfolding runOf
+  stored-grows d ds =
+      at-after l (λ s p h. at ds .sending .persisted .delivered ≤ p .delivered) (λ s p h i c a r. c) (at ds) (run-valid ds) (omega arith)
+      (run-keeps l rd e v ds .core .numbers .delivered-more) (omega arith) d
+
+  pub waits-above : (ds : List SystemAct) (n : ℕ) → waitsOf (at ds .sending .sender) ≡ Numbered (Number n) → 1 ≤ n → at ds .sending .persisted .delivered < n
+  waits-above ds n w z = go (at ds .sending .sender .waiting) w (run-keeps l rd e v ds .core .numbers .delivered-more)
+    where
+      go : (x : Waiting) → waitingMessage (at ds .sending .sender .persisted) x ≡ Numbered (Number n)
+          → at ds .sending .persisted .delivered ≤ at ds .sending .sender .persisted .delivered → at ds .sending .persisted .delivered < n
+      go Closed y q = not-both cc
+      go Idle y q = not-both cc
+      go Resynchronizing y q = not-both cc
+      go Querying y q = let r : _≡_ {A = ℕ} 0 n = cc in absurd (omega arith)
+      go Sending y q = let r : at ds .sending .sender .persisted .delivered + 1 ≡ n = cc in omega arith
+
+  -- ---- never more than r + 1 sends
+  run-within : (ds : List SystemAct) → at ds .sending .sender .sends ≤ l .resends + 1
+  unfolding runOf
+  run-within [] = omega arith
+  run-within (d ∷ ds) =
+      at-after l (λ s p h. s .sends ≤ l .resends + 1) (λ s p h i c a r. few-step (l .resends) r c (steps s i a) .after) (at ds) (run-valid ds) (run-within ds) (run-within ds) (omega arith) d
+
+  -- "gives up exactly when a resend falls due with its stated sends spent": an act that gives up, with the resends of the link, had made r + 1 sends
+  pub abandons-spent : (ds : List SystemAct) (a : Act) → resendsOf a ≡ l .resends → isAbandoned (actOf a (at ds .sending .sender) .event) ≡ true
+      → actOf a (at ds .sending .sender) .sends ≡ l .resends + 1
+  abandons-spent ds a q u =
+      let t = steps (at ds .sending .sender) (run-valid ds) a in
+      let x = few-step (l .resends) (omega arith) (run-within ds) t .reported in
+      let y = up-step t u in
+      omega arith

@@ -1,0 +1,19 @@
+-- What the contracts of the private functions cite. Nobody needs to believe these: no public function's contract cites them.
+use mathlib.Core.List.{List, [], _∷_}
+use Prim.Native.Nat.{ℕ}
+use lib.ListN.{length}
+use Rattle.lists.specs.Bytes.{over}
+use Rattle.lists.specs.Outcome.{need, Outcome, outcome}
+use Rattle.sender_calls.specs.SenderCalls.{senderIn, enoughWords}
+use Rattle.sender_calls.specs.declared.Decoded.{Decoded}
+use Rattle.sender_calls.specs.declared.Decoded.the-variants.{Unknown, Known}
+use Rattle.sender_calls.specs.declared.Found.{Found}
+use Rattle.sender_calls.specs.declared.Found.the-variants.{Refused, Known as ASender}
+
+-- what a call finds in its words, and what the report holds then
+abbrev pub foundAs : Decoded → List ℕ → Outcome Found
+foundAs Unknown p = outcome (Refused 11) (over p (0 ∷ 0 ∷ 0 ∷ 0 ∷ 0 ∷ 0 ∷ 0 ∷ 0 ∷ []))
+foundAs (Known s) p = outcome (ASender s) p
+
+abbrev pub foundIn : List ℕ → List ℕ → Outcome Found
+foundIn st p = need (enoughWords (length st) (length p)) (outcome (Refused 2) p) (foundAs (senderIn st) p)
