@@ -35,12 +35,26 @@ over-least t s = go (decLe (length s) (length t))
         rw (min-eq-right e, drop-length, drop-none t (length s) e)
 
 -- a part that begins at o and has n bytes, as many of them as there are
-pub part-none : (s : List ℕ) (o n : ℕ) → length s < o → take 0 s ≡ take n (drop o s)
-part-none s o n h = sym (rw (drop-none s o (omega arith), take-nil))
+drop-least : (s : List ℕ) (o : ℕ) → drop (min o (length s)) s ≡ drop o s
+drop-least s o = go (decLe o (length s))
+  where
+    go : Dec (o ≤ length s) → drop (min o (length s)) s ≡ drop o s
+    go (yes h) = rw (min-eq-left h)
+    go (no h) =
+        let e : length s ≤ o = omega arith in
+        rw (min-eq-right e, drop-length, drop-none s o e)
 
-pub part-rest : (s : List ℕ) (o n : ℕ) → o ≤ length s → length s - o < n → take (length s - o) (drop o s) ≡ take n (drop o s)
-part-rest s o n l m =
-    rw (take-all (length s - o) (drop o s) (simp length-drop (omega arith)), take-all n (drop o s) (simp length-drop (omega arith)))
+take-least : (s : List ℕ) (n : ℕ) → take (min n (length s)) s ≡ take n s
+take-least s n = go (decLe n (length s))
+  where
+    go : Dec (n ≤ length s) → take (min n (length s)) s ≡ take n s
+    go (yes h) = rw (min-eq-left h)
+    go (no h) =
+        let e : length s ≤ n = omega arith in
+        rw (min-eq-right e, take-length, take-all n s e)
 
-pub part-whole : (s : List ℕ) (o n : ℕ) → take (o + n - o) (drop o s) ≡ take n (drop o s)
-part-whole s o n = rw (add-sub-cancel-left o n)
+pub part-there : (s : List ℕ) (o n f k : ℕ) → f ≡ min o (length s) → k ≡ min n (length s - f) → take (f + k - f) (drop f s) ≡ take n (drop o s)
+part-there s o n f k e h =
+    let part : take k (drop f s) ≡ take n (drop f s) =
+        ap (λ (m : ℕ). take m (drop f s)) (h ∙ ap (λ (m : ℕ). min n m) (sym (length-drop f s))) ∙ take-least (drop f s) n in
+    rw (add-sub-cancel-left f k) (part ∙ ap (λ (l : List ℕ). take n l) (ap (λ (m : ℕ). drop m s) e ∙ drop-least s o))

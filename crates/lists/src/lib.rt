@@ -25,15 +25,12 @@ pub fn copy_bytes(target: &mut [u8], source: &[u8])
     }
 }
 
-// The part of s that begins at `start` and has `size` bytes, or as many of them as there are.
+// The part of s that begins at `start` and has `size` bytes, or as many of them as there are. No branch: callers ask for parts that
+// are there.
 pub fn part_of(s: &[u8], start: usize, size: usize) -> &[u8]
     ensures { λ r. ⌜ now r ≡ take size (drop start (now (s .entry))) ⌝ }
 {
-    if s.len() < start {
-        return &s[..0];
-    }
-    if s.len() - start < size {
-        return &s[start..];
-    }
-    &s[start..start + size]
+    let from = smaller(start, s.len());
+    let held = smaller(size, s.len() - from);
+    &s[from..from + held]
 }

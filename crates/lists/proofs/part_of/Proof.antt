@@ -1,17 +1,20 @@
 -- `lists::part_of` meets its contract.
 use borrow.Author.Needs.{needs}
-use Rattle.lists.proofs.Parts.{part-none, part-rest, part-whole}
+use Rattle.lists.proofs.Parts.{part-there}
 use Rattle.lists.proofs.part_of.Statement.{statement}
 use Rattle.lists.proofs.part_of.Tie as tie
 
-slice-aggregate-result : tie.Need-slice-aggregate-result
-slice-aggregate-result c = search needs
+smaller-requires : tie.Need-smaller-requires
+smaller-requires c κs = search needs
 
-returns : tie.Need-returns
-returns c = part-none (c .before .before .args .s .now) (c .before .before .args .start) (c .before .before .args .size) (c .before .if1 .taken)
+sub-smaller : tie.Need-sub-smaller
+sub-smaller c = search needs
 
-sub-if2 : tie.Need-sub-if2
-sub-if2 c = search needs
+smaller-requires-2 : tie.Need-smaller-requires-2
+smaller-requires-2 c κs = search needs
+
+add-result : tie.Need-add-result
+add-result c = search needs
 
 sub-result : tie.Need-sub-result
 sub-result c = search needs
@@ -22,37 +25,14 @@ part-result-start c = search needs
 part-result-end : tie.Need-part-result-end
 part-result-end c = search needs
 
-returns-2 : tie.Need-returns-2
-returns-2 c = part-rest (c .before .before .before .args .s .now) (c .before .before .before .args .start) (c .before .before .before .args .size) (c .before .before .if1 .left) (c .before .if2 .taken)
-
-add-result : tie.Need-add-result
-add-result c = search needs
-
-sub-result-2 : tie.Need-sub-result-2
-sub-result-2 c = search needs
-
-part-result-start-2 : tie.Need-part-result-start-2
-part-result-start-2 c = search needs
-
-part-result-end-2 : tie.Need-part-result-end-2
-part-result-end-2 c = search needs
-
-returns-3 : tie.Need-returns-3
-returns-3 c = part-whole (c .before .before .before .args .s .now) (c .before .before .before .args .start) (c .before .before .before .args .size)
+returns : tie.Need-returns
+returns c =
+    let called = c .before .before in
+    let given = called .before .before .args in
+    part-there (given .s .now) (given .start) (given .size) (called .smaller .result) (c .before .smaller2 .result)
+    (called .smaller .ensures)
+    (c .before .smaller2 .ensures)
 
 pub part-of-spec : {M : Type 1} → statement M
 part-of-spec =
-    tie.close
-    (tie.spec
-    slice-aggregate-result
-    returns
-    sub-if2
-    sub-result
-    part-result-start
-    part-result-end
-    returns-2
-    add-result
-    sub-result-2
-    part-result-start-2
-    part-result-end-2
-    returns-3)
+    tie.close (tie.spec smaller-requires sub-smaller smaller-requires-2 add-result sub-result part-result-start part-result-end returns)
