@@ -1,4 +1,4 @@
--- Document 01, 'Hybrid block' and 'Minimal block' (000, C.2.2 and C.4.2): the fields of digits, the checksum, and the bytes of a block.
+-- Document 01, 'Hybrid block' with its minimal block (000, C.2.2 and C.4.2): the fields of digits, the checksum, and the bytes of a block.
 use mathlib.Core.List.{List, [], _∷_, _++_}
 use Prim.Native.Nat.{ℕ, _+_, _/_}
 use lib.ListN.{length}

@@ -11,6 +11,7 @@ use Rattle.settings.specs.DataBytes.{allAllowed, firstForbidden}
 use Rattle.block.specs.Format.{version, countField, checksumOf, threeDigits}
 use Rattle.settings.specs.Settings.{byKind}
 use Rattle.settings.specs.declared.Settings.{Settings}
+use Rattle.refusal.specs.Refusal.{BYTE, SHAPE, COUNT, CHECK}
 use Rattle.refusal.specs.declared.Verdict.{Verdict}
 use Rattle.refusal.specs.declared.Verdict.the-variants.{Accepted, Refused}
 
@@ -35,10 +36,10 @@ checksumMatches sb t d xxx = same xxx (bytes "999") || same xxx (threeDigits (ch
 -- the fields t, data, ccccc and xxx, in the order 5, 3, 6, 7
 unfoldable pub judgeParts : ℕ → ℕ → List ℕ → List ℕ → List ℕ → Verdict
 judgeParts sb t d ccccc xxx =
-    need (typeMatches t d) (Refused 5 0)
-    (need (allAllowed d) (Refused 3 (firstForbidden d))
-    (need (same ccccc (countField d)) (Refused 6 0)
-    (need (checksumMatches sb t d xxx) (Refused 7 0)
+    need (typeMatches t d) (Refused SHAPE 0)
+    (need (allAllowed d) (Refused BYTE (firstForbidden d))
+    (need (same ccccc (countField d)) (Refused COUNT 0)
+    (need (checksumMatches sb t d xxx) (Refused CHECK 0)
     (Accepted t (length d)))))
 
 -- the data is all but the four bytes before it and the eight after it
@@ -47,12 +48,12 @@ dataOf body = take (length body - 12) (drop 4 body)
 
 unfoldable pub judgeHybrid : ℕ → List ℕ → Verdict
 judgeHybrid sb body =
-    need (headerOk body) (Refused 5 0)
+    need (headerOk body) (Refused SHAPE 0)
     (judgeParts sb (getD body 0 0) (dataOf body) (take 5 (drop (length body - 8) body)) (drop (length body - 3) body))
 
 -- "Minimal reading has 8, 4, 5, 3 only"; a minimal block counts as a data block
 unfoldable pub judgeMinimal : List ℕ → Verdict
-judgeMinimal body = need (allAllowed body) (Refused 3 (firstForbidden body)) (Accepted (code "D") (length body))
+judgeMinimal body = need (allAllowed body) (Refused BYTE (firstForbidden body)) (Accepted (code "D") (length body))
 
 unfoldable pub judge : Settings → List ℕ → Verdict
 judge s body = byKind (s .kind) (judgeHybrid (s .«start_block») body) (judgeMinimal body)

@@ -9,7 +9,7 @@ use Rattle.settings.specs.Settings.{dataOffsetOf}
 use Rattle.settings.specs.declared.Settings.{Settings}
 use Rattle.settings.specs.declared.Made.{Made}
 use Rattle.settings.specs.declared.Made.the-variants.{Valid, Refused}
-use Rattle.refusal.specs.Refusal.{numberOf}
+use Rattle.refusal.specs.Refusal.{SETTING, TOO-SHORT, numberOf}
 use Rattle.refusal.specs.declared.Verdict.{Verdict}
 use Rattle.whole_block.specs.Whole.{wholeOf}
 use Rattle.block_calls.specs.ReaderWords.{verdictWords}
@@ -19,5 +19,5 @@ abbrev pub checkFinished : Settings → List ℕ → List ℕ → Verdict → Ca
 checkFinished g xs v w = called (numberOf w) [] [] (over v (verdictWords 0 w (dataOffsetOf g + 1) (length xs)))
 
 unfoldable pub checkCall : Made → List ℕ → List ℕ → Called
-checkCall Refused xs v = called 1 [] [] v
-checkCall (Valid g) xs v = need (leb 8 (length v)) (called 2 [] [] v) (checkFinished g xs v (wholeOf g xs))
+checkCall Refused xs v = called SETTING [] [] v
+checkCall (Valid g) xs v = need (leb 8 (length v)) (called TOO-SHORT [] [] v) (checkFinished g xs v (wholeOf g xs))

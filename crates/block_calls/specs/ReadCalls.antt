@@ -9,6 +9,7 @@ use Rattle.settings.specs.Settings.{capacityOf, dataOffsetOf}
 use Rattle.settings.specs.declared.Settings.{Settings}
 use Rattle.settings.specs.declared.Made.{Made}
 use Rattle.settings.specs.declared.Made.the-variants.{Valid, Refused as BadSetting}
+use Rattle.refusal.specs.Refusal.{SETTING, TOO-SHORT, STATE}
 use Rattle.stream.specs.Scan.{readOf, fresh}
 use Rattle.stream.specs.declared.Reader.{Reader}
 use Rattle.stream.specs.declared.Reading.{Reading}
@@ -20,7 +21,7 @@ use Rattle.block_calls.specs.declared.Decoded.the-variants.{Unknown, Kno
 
 -- gmv_reader_fresh
 unfoldable pub freshReaderCall : List ℕ → Called
-freshReaderCall st = need (leb 4 (length st)) (called 2 st [] []) (called 0 (over st (readerWords fresh)) [] [])
+freshReaderCall st = need (leb 4 (length st)) (called TOO-SHORT st [] []) (called 0 (over st (readerWords fresh)) [] [])
 
 -- what reading gave: the next state r, the buffer c, the bytes used, the answer. A refused call changes neither state nor verdict; that it leaves the buffer equal is in readOf.
 abbrev pub readAnswered : Settings → List ℕ → List ℕ → Reader → List ℕ → ℕ → Answer → Called
@@ -32,13 +33,13 @@ abbrev pub readFinished : Settings → List ℕ → List ℕ → Outcome Reading
 readFinished g st v t = readAnswered g st v (t .answer .reader) (t .buffer) (t .answer .used) (t .answer .answer)
 
 abbrev pub readDecoded : Settings → List ℕ → List ℕ → List ℕ → List ℕ → Decoded → Called
-readDecoded g st xs b v Unknown = called 11 st b v
+readDecoded g st xs b v Unknown = called STATE st b v
 readDecoded g st xs b v (Known r) = readFinished g st v (readOf g r xs b)
 
 unfoldable pub readCall : Made → List ℕ → List ℕ → List ℕ → List ℕ → Called
-readCall BadSetting st xs b v = called 1 st b v
+readCall BadSetting st xs b v = called SETTING st b v
 readCall (Valid g) st xs b v =
-    need (leb 4 (length st)) (called 2 st b v)
-    (need (leb 8 (length v)) (called 2 st b v)
-    (need (leb (capacityOf g) (length b)) (called 2 st b v)
+    need (leb 4 (length st)) (called TOO-SHORT st b v)
+    (need (leb 8 (length v)) (called TOO-SHORT st b v)
+    (need (leb (capacityOf g) (length b)) (called TOO-SHORT st b v)
     (readDecoded g st xs b v (decoded st))))

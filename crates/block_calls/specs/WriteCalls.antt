@@ -2,19 +2,16 @@
 use mathlib.Core.List.{List, []}
 use Prim.Native.Nat.{ℕ}
 use Prim.Native.Char.{code}
-use lib.ListN.{length}
-use lib.Dec.{leb}
-use Rattle.lists.specs.Outcome.{need, Called, called}
+use Rattle.lists.specs.Outcome.{Called, called}
 use Rattle.settings.specs.declared.Made.{Made}
 use Rattle.settings.specs.declared.Made.the-variants.{Valid, Refused}
+use Rattle.refusal.specs.Refusal.{SETTING}
 use Rattle.writer.specs.Write.{frameOf}
-use Rattle.words.specs.Words.{typeByte, writeFinished}
+use Rattle.words.specs.Words.{typeByte, withReport}
 
 unfoldable pub writeCall : Made → ℕ → List ℕ → List ℕ → ℕ → List ℕ → Called
-writeCall Refused t d b start p = called 1 [] b p
-writeCall (Valid g) t d b start p =
-    let o = frameOf g (typeByte t) d start b in
-    need (leb 2 (length p)) (called 2 [] b p) (writeFinished (o .buffer) p (o .answer))
+writeCall Refused t d b start p = called SETTING [] b p
+writeCall (Valid g) t d b start p = withReport b p (frameOf g (typeByte t) d start b)
 
 -- a minimal block has no type
 abbrev pub minimalWriteCall : Made → List ℕ → List ℕ → ℕ → List ℕ → Called

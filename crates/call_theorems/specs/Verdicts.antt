@@ -2,6 +2,7 @@
 use mathlib.Core.Bool.{Bool, _&&_}
 use Prim.Native.Nat.{ℕ}
 use lib.Dec.{leb}
+use Rattle.refusal.specs.Refusal.{BYTE, INTERRUPTED}
 use Rattle.refusal.specs.declared.Verdict.{Verdict}
 use Rattle.refusal.specs.declared.Verdict.the-variants.{Accepted, Refused}
 
@@ -10,7 +11,7 @@ abbrev pub passedOn : Verdict → Verdict
 passedOn (Accepted t n) = Accepted t 0
 passedOn (Refused n i) = Refused n 0
 
--- which verdicts a reader gives: a type is a byte; "reading 8, 4, 5, 3, 6, 7"
+-- every verdict that a reader gives is one of these: a type is a byte; "reading 8, 4, 5, 3, 6, 7"
 abbrev pub readerGives : Verdict → Bool
 readerGives (Accepted t n) = leb t 255
-readerGives (Refused n i) = leb 3 n && leb n 8
+readerGives (Refused n i) = leb BYTE n && leb n INTERRUPTED

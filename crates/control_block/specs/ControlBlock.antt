@@ -6,6 +6,7 @@ use Prim.Native.Char.{code}
 use lib.ListN.{length}
 use lib.Dec.{leb}
 use Rattle.lists.specs.Outcome.{need, Outcome}
+use Rattle.refusal.specs.Refusal.{SETTING, TOO-SHORT}
 use Rattle.refusal.specs.declared.Written.{Written}
 use Rattle.settings.specs.Settings.{validLink}
 use Rattle.settings.specs.declared.Settings.{Settings}
@@ -18,6 +19,6 @@ use Rattle.messages.specs.declared.MessageType.{MessageType}
 -- 1, then 2: "Room needed from the named place: the writer's block"
 unfoldable pub controlBlockOf : Settings → MessageType → Control → ℕ → List ℕ → Outcome Written
 controlBlockOf g t c start b =
-    need (validLink g && validType t) (refused 1 0 b)
-    (need (leb (start + needOf g (controlMessage t c)) (length b)) (refused 2 0 b)
+    need (validLink g && validType t) (refused SETTING 0 b)
+    (need (leb (start + needOf g (controlMessage t c)) (length b)) (refused TOO-SHORT 0 b)
     (wrote b start (blockOf g (code "D") (controlMessage t c))))

@@ -9,7 +9,7 @@ use lib.ListN.{length}
 use lib.Dec.{leb}
 use borrow.Author.Tests.{le-leb, lt-ltb, eq-eqb}
 use Rattle.lists.specs.Bytes.{same}
-use Rattle.settings.specs.Settings.{limitValid, enoughForLink}
+use Rattle.settings.specs.Settings.{validLinkLimit}
 use Rattle.settings.proofs.Laws.{valid-limit}
 use Rattle.settings.specs.DataBytes.{allAllowed, firstForbidden}
 use Rattle.fields.specs.Fields.{bytesOf}
@@ -58,7 +58,7 @@ module _ (l : Link) (rd : Ready l) where
   answer-known p Errs = rw (eq-eqb (p .delivered + 1) (p .delivered + 1) refl)
 
   -- ---- a transaction is submitted without a circuit
-  limit-valid : (limitValid (l .settings .«data_limit») && enoughForLink (l .settings .«data_limit»)) ≡ true
+  limit-valid : validLinkLimit (l .settings .«data_limit») ≡ true
   limit-valid =
       rw (
         le-leb 1 (l .settings .«data_limit») (let m = link-limit (l .settings) (rd .settings) in omega arith),

@@ -44,10 +44,10 @@ module _ (l : Link) (rd : Ready l) where
         persisted = i .way .persisted .count;
         has = i .ends .volatile .has;
         persisted-has = i .ends .persisted .has;
-        covers = record { at-most = omega arith; at-least = omega arith };
-        covers-persisted = record { at-most = n .covered; at-least = omega arith };
-        persisted-covers = record { at-most = omega arith; at-least = n .ahead };
-        persisted-covers-persisted = record { at-most = omega arith; at-least = omega arith };
+        covers = record { begun = omega arith; at-most = omega arith; at-least = omega arith };
+        covers-persisted = record { begun = omega arith; at-most = n .covered; at-least = omega arith };
+        persisted-covers = record { begun = omega arith; at-most = omega arith; at-least = n .ahead };
+        persisted-covers-persisted = record { begun = omega arith; at-most = omega arith; at-least = omega arith };
         unfrozen = i .core .senders .unfrozen;
         persisted-unfrozen = i .core .senders .persisted-unfrozen;
       }

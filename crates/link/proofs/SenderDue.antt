@@ -8,7 +8,7 @@ use lib.ListN.{length}
 use lib.Dec.{ltb, leb, eqb}
 use borrow.Author.Tests.{lt-ltb, le-ltb}
 use Rattle.lists.proofs.Tests.{cond-ind}
-use Rattle.settings.specs.Settings.{limitValid, enoughForLink}
+use Rattle.settings.specs.Settings.{validLinkLimit}
 use Rattle.settings.specs.DataBytes.{allAllowed}
 use Rattle.lists.specs.Bytes.{same}
 use Rattle.fields.specs.Fields.{bytesOf}
@@ -137,7 +137,7 @@ module _ (s : Sender) where
   submit-quiet : (limit : ℕ) (d : List ℕ) → Quiet (submitOf limit s d)
   unfolding submitOf
   submit-quiet limit d =
-      cond-ind Quiet (limitValid limit && enoughForLink limit) _ _
+      cond-ind Quiet (validLinkLimit limit) _ _
       (λ a. cond-ind Quiet (validSender s) _ _
       (λ b. cond-ind Quiet (not (s .persisted .frozen)) _ _
       (λ c. cond-ind Quiet (leb (length d) limit) _ _ (λ e. cond-ind Quiet (allAllowed d) _ _ (λ f. header-quiet d (headerOf d)) (λ f. refl)) (λ e. refl))

@@ -6,7 +6,7 @@ use native.Mathlib.Omega.{arith}
 use lib.Dec.{leb}
 use borrow.Author.Tests.{leb-true}
 use Rattle.lists.proofs.Tests.{and-left, cond-ind}
-use Rattle.settings.specs.Settings.{limitValid, enoughForLink}
+use Rattle.settings.specs.Settings.{validLinkLimit}
 use Rattle.sender.specs.Sender.{validSender, noState, isOpen, onCircuit, openOf, endedOf, resetOf, validResends, whenOpen, timerOf, blockReadOf, submitOf}
 use Rattle.sender.specs.declared.Sender.{Sender}
 use Rattle.sender.specs.declared.NumberedMessage.{NumberedMessage}
@@ -45,7 +45,7 @@ module _ (s : Sender) (v : validSender s ≡ false) where
   invalid-same reset = invalid-test _
   invalid-same (timer r) = when-open-same r _
   invalid-same (block r u d) = when-open-same r _
-  invalid-same (submit limit d) = cond-ind Same (limitValid limit && enoughForLink limit) _ _ (λ e. invalid-test _) (λ e. refl)
+  invalid-same (submit limit d) = cond-ind Same (validLinkLimit limit) _ _ (λ e. invalid-test _) (λ e. refl)
 
 pub refused-same : (a : Act) (s : Sender) → leb 1 (actOf a s .number) ≡ true → actOf a s .sender ≡ s
 refused-same a s h = go (validSender s) refl

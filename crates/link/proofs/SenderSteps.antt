@@ -10,7 +10,7 @@ use lib.Dec.{leb, ltb, eqb}
 use borrow.Author.Tests.{ltb-true, ltb-false, eqb-true, leb-true, ne-eqb, not-true}
 use Rattle.lists.specs.Bytes.{same}
 use Rattle.lists.proofs.Tests.{and-left, and-right, cond-ind}
-use Rattle.settings.specs.Settings.{limitValid, enoughForLink}
+use Rattle.settings.specs.Settings.{validLinkLimit}
 use Rattle.settings.specs.DataBytes.{allAllowed}
 use Rattle.refusal.specs.declared.Verdict.{Verdict}
 use Rattle.refusal.specs.declared.Verdict.the-variants.{Accepted, Refused}
@@ -354,7 +354,7 @@ module _ (s : Sender) (v : validSender s ≡ true) where
   steps-submit : (r limit : ℕ) (d : List ℕ) → StepOf r s (submitOf limit s d)
   unfolding submitOf
   steps-submit r limit d =
-      cond-ind (StepOf r s) (limitValid limit && enoughForLink limit) _ _
+      cond-ind (StepOf r s) (validLinkLimit limit) _ _
       (λ a. valid-test (StepOf r s) _ _
       (cond-ind (StepOf r s) (not (s .persisted .frozen)) _ _
       (λ f. cond-ind (StepOf r s) (leb (length d) limit) _ _

@@ -12,7 +12,7 @@ use borrow.Author.Tests.{lt-ltb, ltb-true, eq-eqb, ne-eqb}
 use Rattle.lists.specs.Bytes.{same}
 use Rattle.lists.proofs.Tests.{cond-ind, and-left}
 use Rattle.lists.proofs.Same.{same-is}
-use Rattle.settings.specs.Settings.{limitValid, enoughForLink}
+use Rattle.settings.specs.Settings.{validLinkLimit}
 use Rattle.settings.specs.DataBytes.{allAllowed}
 use Rattle.fields.specs.Fields.{bytesOf}
 use Rattle.numbers.specs.Numbers.{numberField, greatestSent, textOf}
@@ -218,7 +218,7 @@ module _ (f : ℕ) (b : Books) where
     pub submits : (limit : ℕ) (message : List ℕ) → After (submitOf limit s message)
     unfolding submitOf
     submits limit message =
-        cond-ind After (limitValid limit && enoughForLink limit) _ _
+        cond-ind After (validLinkLimit limit) _ _
         (λ a. cond-ind After (validSender s) _ _
         (λ v. cond-ind After (not (s .persisted .frozen)) _ _
         (λ y. cond-ind After (leb (length message) limit) _ _

@@ -38,6 +38,7 @@ transactions l (suc n) = transactions l n ++ l .log (l .first + n) ∷ []
 -- "the receiver has the first k transactions, each once, in order, and the sender's mark covers k or k less one": both as it is held and as it is persisted.
 -- The mark covers j transactions where it is f - 1 + j.
 pub record Covers (l : Link) (delivered k : ℕ) : Type 0 where
+  pub begun : l .first ≤ delivered + 1
   pub at-most : delivered + 1 ≤ l .first + k
   pub at-least : l .first + k ≤ delivered + 2
 

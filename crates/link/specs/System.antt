@@ -188,7 +188,7 @@ replyWritten y (b ∷ bs) =
     cond (sameStored (y .receiving .volatile) (y .receiving .persisted))
     (link (y .sending) (receiving (y .receiving .volatile) (y .receiving .persisted) bs) (y .forward) (line (y .back .reader) (y .back .bytes ++ b))) y
 
--- ---- the acts, in any order. One that does not apply changes nothing.
+-- ---- the acts, in any order. One that does not apply changes nothing but the history.
 pub data SystemAct : Type 0 where
   opens ends resets timer submits : SystemAct
   senderPersists senderWrites senderReads senderCrashes : SystemAct

@@ -56,5 +56,5 @@ take-least s n = go (decLe n (length s))
 pub part-there : (s : List ℕ) (o n f k : ℕ) → f ≡ min o (length s) → k ≡ min n (length s - f) → take (f + k - f) (drop f s) ≡ take n (drop o s)
 part-there s o n f k e h =
     let part : take k (drop f s) ≡ take n (drop f s) =
-        ap (λ (m : ℕ). take m (drop f s)) (h ∙ ap (λ (m : ℕ). min n m) (sym (length-drop f s))) ∙ take-least (drop f s) n in
+    ap (λ (m : ℕ). take m (drop f s)) (h ∙ ap (λ (m : ℕ). min n m) (sym (length-drop f s))) ∙ take-least (drop f s) n in
     rw (add-sub-cancel-left f k) (part ∙ ap (λ (l : List ℕ). take n l) (ap (λ (m : ℕ). drop m s) e ∙ drop-least s o))

@@ -38,7 +38,7 @@ same [] (y ∷ ys) = false
 same (x ∷ xs) [] = false
 same (x ∷ xs) (y ∷ ys) = eqb x y && same xs ys
 
--- l with vs written over it from place a on
+-- l with vs written over it from offset a on (document 01: place)
 unfoldable pub put : List ℕ → ℕ → List ℕ → List ℕ
 put l a vs = take a l ++ vs ++ drop (a + length vs) l
 
@@ -46,6 +46,6 @@ put l a vs = take a l ++ vs ++ drop (a + length vs) l
 abbrev pub overwritten : List ℕ → List ℕ → List ℕ
 overwritten target source = take (length target) source ++ drop (length source) target
 
--- words with others written over their beginning, if there are so many; otherwise as they were
+-- bytes or words with others written over their beginning, if there are so many; otherwise as they were
 unfoldable pub over : List ℕ → List ℕ → List ℕ
 over l ws = cond (leb (length ws) (length l)) (ws ++ drop (length ws) l) l

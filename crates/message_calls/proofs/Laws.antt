@@ -19,12 +19,12 @@ use Rattle.header.specs.declared.Code.{Code}
 use Rattle.messages.specs.Messages.{messageType}
 use Rattle.lists.specs.Outcome.{Outcome, outcome, called}
 use Rattle.refusal.specs.declared.Written.{Written}
-use Rattle.words.specs.Words.{writeFinished}
+use Rattle.words.specs.Words.{writeFinished, withReport}
 use Rattle.words.proofs.Laws.{write-finished}
 use Rattle.messages.specs.declared.Control.{Control}
 use Rattle.messages.specs.declared.MessageType.{MessageType}
 use Rattle.messages.specs.declared.TypeMade.the-variants.{Unknown as UnknownType, Known as KnownType}
-use Rattle.message_calls.specs.MessageCalls.{headerFinished, headerCall, answerFinished, answerCall, codeFrom, numberFrom, controlFrom, reported, answerWith, answerWriteCall, controlWith, controlWriteCall}
+use Rattle.message_calls.specs.MessageCalls.{headerFinished, headerCall, answerFinished, answerCall, codeFrom, numberFrom, controlFrom, answerWith, answerWriteCall, controlWith, controlWriteCall}
 use Rattle.message_calls.specs.declared.CodeMade.{CodeMade}
 use Rattle.message_calls.specs.declared.CodeMade.the-variants.{Unknown, Known}
 use Rattle.message_calls.specs.declared.ControlMade.{ControlMade}
@@ -48,10 +48,10 @@ unfolding answerCall
 answer-as m ws v h e = rw (le-leb 9 (length ws) h) (ap (λ (z : Acknowledgment). answerFinished m ws z) (sym e))
 
 -- writing: the buffer is the writer's
-pub done : (b p c q : List ℕ) (w : Written) (n : ℕ) (o : Outcome Written) → 2 ≤ length p → called n [] [] q ≡ writeFinished [] p w → outcome w c ≡ o → called n [] c q ≡ reported b p o
+pub done : (b p c q : List ℕ) (w : Written) (n : ℕ) (o : Outcome Written) → 2 ≤ length p → called n [] [] q ≡ writeFinished [] p w → outcome w c ≡ o → called n [] c q ≡ withReport b p o
 done b p c q w n o h e f = rw (le-leb 2 (length p) h) (write-finished p c q w n o e f)
 
-pub few : (b p : List ℕ) (o : Outcome Written) → length p < 2 → called 2 [] b p ≡ reported b p o
+pub few : (b p : List ℕ) (o : Outcome Written) → length p < 2 → called 2 [] b p ≡ withReport b p o
 few b p o h = rw (lt-leb 2 (length p) h)
 
 pub answer-call : (id : List ℕ) (code n : ℕ) (m : SequenceNumber) (b : List ℕ) (start : ℕ) (p : List ℕ) (v : CodeMade) → codeFrom code ≡ v → numberFrom n ≡ m

@@ -5,6 +5,7 @@ use lib.ListN.{length}
 use lib.Dec.{leb}
 use Rattle.lists.specs.Outcome.{need, Called, called}
 use Rattle.lists.specs.Bytes.{over}
+use Rattle.refusal.specs.Refusal.{TOO-SHORT}
 use Rattle.fields.specs.declared.Field.{Field}
 use Rattle.field_reader.specs.FieldReader.{nextOf}
 use Rattle.field_reader.specs.declared.Delimiter.{Delimiter}
@@ -28,4 +29,4 @@ nextFinished at ws NoField = called 0 [] [] (over ws (fieldWords 0 (record { sta
 nextFinished at ws (Found f d after) = called 0 [] [] (over ws (fieldWords 1 f (delimiterWord d) after))
 
 unfoldable pub nextCall : List ℕ → ℕ → List ℕ → Called
-nextCall m at ws = need (leb 5 (length ws)) (called 2 [] [] ws) (nextFinished at ws (nextOf m at))
+nextCall m at ws = need (leb 5 (length ws)) (called TOO-SHORT [] [] ws) (nextFinished at ws (nextOf m at))

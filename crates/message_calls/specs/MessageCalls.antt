@@ -24,9 +24,9 @@ use Rattle.messages.specs.Write.{writeAnswerOf, writeControlOf}
 use Rattle.messages.specs.declared.Control.{Control}
 use Rattle.messages.specs.declared.Control.the-variants.{Resynchronize, Query}
 use Rattle.lists.specs.Bytes.{greatestWord, over}
-use Rattle.lists.specs.Outcome.{need, Outcome, Called, called}
-use Rattle.refusal.specs.declared.Written.{Written}
-use Rattle.words.specs.Words.{writeFinished}
+use Rattle.lists.specs.Outcome.{need, Called, called}
+use Rattle.refusal.specs.Refusal.{SETTING, TOO-SHORT, HEAD}
+use Rattle.words.specs.Words.{withReport}
 use Rattle.message_calls.specs.declared.CodeMade.{CodeMade}
 use Rattle.message_calls.specs.declared.CodeMade.the-variants.{Unknown, Known}
 use Rattle.message_calls.specs.declared.ControlMade.{ControlMade}
@@ -67,11 +67,11 @@ abbrev pub headerWords : Field → Field → NumberField → List ℕ
 headerWords id seq n = id .start ∷ id .length ∷ seq .start ∷ seq .length ∷ kindOf n ∷ valueOf n ∷ []
 
 abbrev pub headerFinished : List ℕ → List ℕ → Header → Called
-headerFinished m ws Unreadable = called 9 [] [] ws
+headerFinished m ws Unreadable = called HEAD [] [] ws
 headerFinished m ws (Readable id seq) = called 0 [] [] (over ws (headerWords id seq (numberField greatestSent (bytesOf seq m))))
 
 unfoldable pub headerCall : List ℕ → List ℕ → Called
-headerCall m ws = need (leb 6 (length ws)) (called 2 [] [] ws) (headerFinished m ws (headerOf m))
+headerCall m ws = need (leb 6 (length ws)) (called TOO-SHORT [] [] ws) (headerFinished m ws (headerOf m))
 
 -- GMV_ANSWER_CODE_OFFSET, _LENGTH, GMV_ANSWER_CODE, GMV_ANSWER_CONTROL_ID_OFFSET, _LENGTH, GMV_ANSWER_EXPECTED_OFFSET, _LENGTH, _FIELD, _NUMBER
 abbrev pub answerWords : Field → CodeField → Field → Field → NumberField → List ℕ
@@ -79,12 +79,12 @@ answerWords code c id expected n =
     code .start ∷ code .length ∷ codeWord c ∷ id .start ∷ id .length ∷ expected .start ∷ expected .length ∷ kindOf n ∷ valueOf n ∷ []
 
 abbrev pub answerFinished : List ℕ → List ℕ → Acknowledgment → Called
-answerFinished m ws NoAnswer = called 9 [] [] ws
+answerFinished m ws NoAnswer = called HEAD [] [] ws
 answerFinished m ws (AnAnswer code id expected) =
     called 0 [] [] (over ws (answerWords code (codeField (bytesOf code m)) id expected (numberField greatestExpected (bytesOf expected m))))
 
 unfoldable pub answerCall : List ℕ → List ℕ → Called
-answerCall m ws = need (leb 9 (length ws)) (called 2 [] [] ws) (answerFinished m ws (acknowledgmentOf m))
+answerCall m ws = need (leb 9 (length ws)) (called TOO-SHORT [] [] ws) (answerFinished m ws (acknowledgmentOf m))
 
 -- numbers as they come from C
 abbrev pub codeFrom : ℕ → CodeMade
@@ -96,21 +96,17 @@ numberFrom n = cond (eqb n minusOne) MinusOne (Number n)
 abbrev pub controlFrom : ℕ → ControlMade
 controlFrom n = cond (eqb n 0) (KnownControl Query) (cond (eqb n minusOne) (KnownControl Resynchronize) UnknownControl)
 
--- 2 for the report, then what the writer answers
-abbrev pub reported : List ℕ → List ℕ → Outcome Written → Called
-reported b p o = need (leb 2 (length p)) (called 2 [] b p) (writeFinished (o .buffer) p (o .answer))
-
 abbrev pub answerWith : CodeMade → List ℕ → SequenceNumber → List ℕ → ℕ → List ℕ → Called
-answerWith Unknown id n b start p = called 1 [] b p
-answerWith (Known c) id n b start p = reported b p (writeAnswerOf id c n start b)
+answerWith Unknown id n b start p = called SETTING [] b p
+answerWith (Known c) id n b start p = withReport b p (writeAnswerOf id c n start b)
 
 unfoldable pub answerWriteCall : List ℕ → ℕ → ℕ → List ℕ → ℕ → List ℕ → Called
 answerWriteCall id code n b start p = answerWith (codeFrom code) id (numberFrom n) b start p
 
 abbrev pub controlWith : TypeMade → ControlMade → List ℕ → ℕ → List ℕ → Called
-controlWith UnknownType c b start p = called 1 [] b p
-controlWith (KnownType t) UnknownControl b start p = called 1 [] b p
-controlWith (KnownType t) (KnownControl c) b start p = reported b p (writeControlOf t c start b)
+controlWith UnknownType c b start p = called SETTING [] b p
+controlWith (KnownType t) UnknownControl b start p = called SETTING [] b p
+controlWith (KnownType t) (KnownControl c) b start p = withReport b p (writeControlOf t c start b)
 
 unfoldable pub controlWriteCall : List ℕ → ℕ → List ℕ → ℕ → List ℕ → Called
 controlWriteCall type n b start p = controlWith (messageType type) (controlFrom n) b start p

@@ -5,6 +5,7 @@ use lib.ListN.{length}
 use lib.Dec.{leb}
 use Rattle.lists.specs.Bytes.{put}
 use Rattle.lists.specs.Outcome.{need, Outcome, outcome}
+use Rattle.refusal.specs.Refusal.{SETTING, TOO-SHORT, BYTE, HEAD, NUMBER}
 use Rattle.refusal.specs.declared.Written.{Written}
 use Rattle.refusal.specs.declared.Written.the-variants.{Done, Refused}
 use Rattle.settings.specs.DataBytes.{allAllowed, firstForbidden}
@@ -14,18 +15,18 @@ use Rattle.messages.specs.Messages.{answerMessage, controlMessage, valid
 use Rattle.messages.specs.declared.Control.{Control}
 use Rattle.messages.specs.declared.MessageType.{MessageType}
 
--- the answer to a request with this control ID, written into b from an offset on: "Nothing else of the buffer changes"
+-- the answer to a request with this control ID, written into b from an offset on; nothing else of b changes
 unfoldable pub writeAnswerOf : List ℕ → Code → SequenceNumber → ℕ → List ℕ → Outcome Written
 writeAnswerOf id code n start b =
-    need (leb (start + length (answerMessage id code n)) (length b)) (outcome (Refused 2 0) b)
-    (need (allAllowed id) (outcome (Refused 3 (firstForbidden id)) b)
-    (need (validControlId id) (outcome (Refused 9 0) b)
-    (need (answerable n) (outcome (Refused 10 0) b)
+    need (leb (start + length (answerMessage id code n)) (length b)) (outcome (Refused TOO-SHORT 0) b)
+    (need (allAllowed id) (outcome (Refused BYTE (firstForbidden id)) b)
+    (need (validControlId id) (outcome (Refused HEAD 0) b)
+    (need (answerable n) (outcome (Refused NUMBER 0) b)
     (outcome (Done (length (answerMessage id code n))) (put b start (answerMessage id code n))))))
 
 -- the sender's control message
 unfoldable pub writeControlOf : MessageType → Control → ℕ → List ℕ → Outcome Written
 writeControlOf t c start b =
-    need (validType t) (outcome (Refused 1 0) b)
-    (need (leb (start + length (controlMessage t c)) (length b)) (outcome (Refused 2 0) b)
+    need (validType t) (outcome (Refused SETTING 0) b)
+    (need (leb (start + length (controlMessage t c)) (length b)) (outcome (Refused TOO-SHORT 0) b)
     (outcome (Done (length (controlMessage t c))) (put b start (controlMessage t c))))

@@ -11,9 +11,11 @@ use Rattle.settings.specs.Settings.{byKind, validLink}
 use Rattle.settings.specs.declared.Kind.{Kind}
 use Rattle.settings.specs.declared.Settings.{Settings}
 use Rattle.settings.specs.DataBytes.{allAllowed}
+use Rattle.refusal.specs.Refusal.{SETTING, TOO-SHORT, LONG, COUNT, CHECK, HEAD, STATE}
 use Rattle.refusal.specs.declared.Verdict.{Verdict}
 use Rattle.refusal.specs.declared.Verdict.the-variants.{Accepted, Refused}
 use Rattle.block.specs.Format.{blockOf}
+use Rattle.writer.specs.Write.{frameLength}
 use Rattle.fields.specs.Fields.{bytesOf}
 use Rattle.numbers.specs.Numbers.{numberField, greatestSent, greatestExpected}
 use Rattle.numbers.specs.declared.SequenceNumber.{SequenceNumber}
@@ -53,7 +55,7 @@ abbrev pub expectedNumber : Expected → SequenceNumber
 expectedNumber Unknown = MinusOne
 expectedNumber (Next e) = Number e
 
--- a row of the table: MSA-1, MSA-4, and what is "stored then"
+-- a row of the table: MSA-1, MSA-4, and "Stored then"
 abbrev pub row : Code → SequenceNumber → Transaction → Expected → Row
 row c n t e = record { code = c; number = n; persisted = record { transaction = t; expected = e } }
 
@@ -81,7 +83,7 @@ rowOf a s NotNumber = row AR (expectedNumber s) NoTransaction s
 
 -- the reply column: N with B, C, X or G
 abbrev pub reasonOf : ℕ → ℕ
-reasonOf n = cond (eqb n 4) (code "B") (cond (eqb n 6) (code "C") (cond (eqb n 7) (code "X") (code "G")))
+reasonOf n = cond (eqb n LONG) (code "B") (cond (eqb n COUNT) (code "C") (cond (eqb n CHECK) (code "X") (code "G")))
 
 abbrev pub nakBlock : Settings → ℕ → List ℕ
 nakBlock g n = blockOf g (code "N") (reasonOf n ∷ [])
@@ -96,9 +98,9 @@ refusedBy k n = byKind k (Naks n) (Drops n)
 
 -- a data block: 9, or the row for its MSH-13. A control ID that no block could hold is no readable one.
 abbrev pub headerDecision : Kind → Application → Expected → List ℕ → Header → Decision
-headerDecision k a s d Unreadable = refusedBy k 9
+headerDecision k a s d Unreadable = refusedBy k HEAD
 headerDecision k a s d (Readable id seq) =
-    need (allAllowed (bytesOf id d)) (refusedBy k 9) (Answers id (rowOf a s (numberField greatestSent (bytesOf seq d))))
+    need (allAllowed (bytesOf id d)) (refusedBy k HEAD) (Answers id (rowOf a s (numberField greatestSent (bytesOf seq d))))
 
 -- "a receiver drops an accepted N block"; a minimal block has no type
 abbrev pub isNak : Kind → ℕ → Bool
@@ -131,12 +133,12 @@ repliedOf g s d start b (Answers id r) = replied 0 (r .persisted) (answerBlock g
 
 -- "Room needed .. for a receiver's reply D + 15 (minimal D + 3)"
 abbrev pub replySpace : Settings → ℕ
-replySpace g = g .«data_limit» + byKind (g .kind) 15 3
+replySpace g = g .«data_limit» + frameLength (g .kind)
 
 -- the act on a block: 1, 2, 11 (a state that is none), then the decision and its reply
 unfoldable pub receiveOf : Settings → Application → Expected → Verdict → List ℕ → ℕ → List ℕ → Outcome Received
 receiveOf g a s v d start b =
-    need (validLink g) (refused 1 s b)
-    (need (leb (start + replySpace g) (length b)) (refused 2 s b)
-    (need (validExpected s) (refused 11 s b)
+    need (validLink g) (refused SETTING s b)
+    (need (leb (start + replySpace g) (length b)) (refused TOO-SHORT s b)
+    (need (validExpected s) (refused STATE s b)
     (repliedOf g s d start b (decisionOf (g .kind) a s v d))))

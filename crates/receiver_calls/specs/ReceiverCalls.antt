@@ -8,6 +8,7 @@ use Rattle.lists.specs.Bytes.{over}
 use Rattle.lists.specs.Outcome.{need, Outcome, Called, called}
 use Rattle.settings.specs.declared.Made.{Made}
 use Rattle.settings.specs.declared.Made.the-variants.{Valid, Refused}
+use Rattle.refusal.specs.Refusal.{SETTING, TOO-SHORT}
 use Rattle.words.specs.Words.{verdictFrom}
 use Rattle.words.specs.declared.VerdictMade.{VerdictMade}
 use Rattle.words.specs.declared.VerdictMade.the-variants.{Unknown as UnknownVerdict, Known as KnownVerdict}
@@ -40,7 +41,7 @@ transactionWord (Numbered n) = n
 
 -- gmv_receiver_fresh
 unfoldable pub freshCall : List ℕ → Called
-freshCall st = need (leb 1 (length st)) (called 2 st [] []) (called 0 (over st (expectedWord NoneExpected ∷ [])) [] [])
+freshCall st = need (leb 1 (length st)) (called TOO-SHORT st [] []) (called 0 (over st (expectedWord NoneExpected ∷ [])) [] [])
 
 -- GMV_RECEIVED_TRANSACTION, GMV_RECEIVED_REPLY_LENGTH, GMV_RECEIVED_BLOCK
 abbrev pub receivedWords : Received → List ℕ
@@ -54,11 +55,11 @@ finished st p o =
 
 -- numbers from C that stand for nothing are refused as settings are; then the words' lengths
 abbrev pub receiveWith : Made → ApplicationMade → VerdictMade → List ℕ → List ℕ → List ℕ → ℕ → List ℕ → Called
-receiveWith Refused a v st d b start p = called 1 st b p
-receiveWith (Valid g) Unknown v st d b start p = called 1 st b p
-receiveWith (Valid g) (Known a) UnknownVerdict st d b start p = called 1 st b p
+receiveWith Refused a v st d b start p = called SETTING st b p
+receiveWith (Valid g) Unknown v st d b start p = called SETTING st b p
+receiveWith (Valid g) (Known a) UnknownVerdict st d b start p = called SETTING st b p
 receiveWith (Valid g) (Known a) (KnownVerdict v) st d b start p =
-    need (leb 1 (length st) && leb 3 (length p)) (called 2 st b p)
+    need (leb 1 (length st) && leb 3 (length p)) (called TOO-SHORT st b p)
     (finished st p (receiveOf g a (expectedFrom (getD st 0 0)) v d start b))
 
 -- gmv_hybrid_receive and gmv_minimal_receive

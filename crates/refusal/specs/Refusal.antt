@@ -5,6 +5,40 @@ use Rattle.refusal.specs.declared.Verdict.the-variants.{Accepted, Refuse
 use Rattle.refusal.specs.declared.Written.{Written}
 use Rattle.refusal.specs.declared.Written.the-variants.{Done, Refused as NotWritten}
 
+-- the table; ROOM is TOO-SHORT and CUT is INTERRUPTED here and in C
+abbrev pub SETTING : ℕ
+SETTING = 1
+
+abbrev pub TOO-SHORT : ℕ
+TOO-SHORT = 2
+
+abbrev pub BYTE : ℕ
+BYTE = 3
+
+abbrev pub LONG : ℕ
+LONG = 4
+
+abbrev pub SHAPE : ℕ
+SHAPE = 5
+
+abbrev pub COUNT : ℕ
+COUNT = 6
+
+abbrev pub CHECK : ℕ
+CHECK = 7
+
+abbrev pub INTERRUPTED : ℕ
+INTERRUPTED = 8
+
+abbrev pub HEAD : ℕ
+HEAD = 9
+
+abbrev pub NUMBER : ℕ
+NUMBER = 10
+
+abbrev pub STATE : ℕ
+STATE = 11
+
 -- 0 for a block that is accepted
 abbrev pub numberOf : Verdict → ℕ
 numberOf (Accepted t n) = 0

@@ -7,8 +7,9 @@ use lib.ListN.{length}
 use lib.Dec.{leb, ltb, eqb}
 use Rattle.lists.specs.Bytes.{same}
 use Rattle.lists.specs.Outcome.{need}
-use Rattle.settings.specs.Settings.{limitValid, enoughForLink}
+use Rattle.settings.specs.Settings.{validLinkLimit}
 use Rattle.settings.specs.DataBytes.{allAllowed, firstForbidden}
+use Rattle.refusal.specs.Refusal.{SETTING, BYTE, LONG, HEAD, NUMBER, STATE}
 use Rattle.refusal.specs.declared.Verdict.{Verdict}
 use Rattle.refusal.specs.declared.Verdict.the-variants.{Accepted, Refused as RefusedBlock}
 use Rattle.fields.specs.Fields.{bytesOf}
@@ -98,7 +99,7 @@ refused n i s = record { number = n; sender = s; send = Nothing; sends = s .send
 
 -- 11 for what is no state, and where no circuit is open: nothing waits
 abbrev pub noState : Sender → Acted
-noState s = record { number = 11; sender = s; send = Nothing; sends = 0; event = NoEvent; block = 0; offset = 0 }
+noState s = record { number = STATE; sender = s; send = Nothing; sends = 0; event = NoEvent; block = 0; offset = 0 }
 
 -- ---- what waits
 -- "the transaction at mark + 1"
@@ -158,19 +159,19 @@ takenIn s Sending = keepsWaiting s
 
 -- "Submitting takes the next number only (MSH-13), with MSH-10 its plain decimal"
 abbrev pub submittedHeader : Sender → List ℕ → Header → Acted
-submittedHeader s d Unreadable = refused 9 0 s
+submittedHeader s d Unreadable = refused HEAD 0 s
 submittedHeader s d (Readable id seq) =
     need (isNumber (s .persisted .last + 1) (numberField greatestSent (bytesOf seq d)) && same (bytesOf id d) (textOf (Number (s .persisted .last + 1))))
-    (refused 10 0 s)
+    (refused NUMBER 0 s)
     (takenIn s (s .waiting))
 
 unfoldable pub submitOf : ℕ → Sender → List ℕ → Acted
 submitOf limit s d =
-    need (limitValid limit && enoughForLink limit) (refused 1 0 s)
+    need (validLinkLimit limit) (refused SETTING 0 s)
     (need (validSender s) (noState s)
-    (need (not (s .persisted .frozen)) (refused 11 0 s)
-    (need (leb (length d) limit) (refused 4 0 s)
-    (need (allAllowed d) (refused 3 (firstForbidden d) s)
+    (need (not (s .persisted .frozen)) (refused STATE 0 s)
+    (need (leb (length d) limit) (refused LONG 0 s)
+    (need (allAllowed d) (refused BYTE (firstForbidden d) s)
     (submittedHeader s d (headerOf d))))))
 
 -- ---- circuits
@@ -178,7 +179,7 @@ submitOf limit s d =
 unfoldable pub openOf : Sender → Acted
 openOf s =
     need (validSender s) (noState s)
-    (need (not (isOpen (s .waiting)) && not (s .persisted .frozen)) (refused 11 0 s)
+    (need (not (isOpen (s .waiting)) && not (s .persisted .frozen)) (refused STATE 0 s)
     (beginsToWait (s .persisted) (cond (s .persisted .resynchronized) Querying Resynchronizing) NoEvent))
 
 -- "a circuit ends when the driver says so"
@@ -192,7 +193,7 @@ withFrozen b p = record { first = p .first; delivered = p .delivered; last = p .
 unfoldable pub resetOf : Sender → Acted
 resetOf s =
     need (validSender s) (noState s)
-    (need (s .persisted .frozen) (refused 11 0 s)
+    (need (s .persisted .frozen) (refused STATE 0 s)
     (acted (closed (withFrozen false (s .persisted))) Nothing NoEvent))
 
 -- ---- answers
@@ -265,7 +266,7 @@ resendOf r s (Numbered v) =
 
 -- an act on an open circuit
 abbrev pub whenOpen : ℕ → Sender → Acted → Acted
-whenOpen r s a = need (validResends r) (refused 1 0 s) (need (onCircuit s) (noState s) a)
+whenOpen r s a = need (validResends r) (refused SETTING 0 s) (need (onCircuit s) (noState s) a)
 
 unfoldable pub timerOf : ℕ → Sender → Acted
 timerOf r s = whenOpen r s (resendOf r s (waitsOf s))
@@ -276,7 +277,7 @@ withBlock n a =
     record { number = a .number; sender = a .sender; send = a .send; sends = a .sends; event = a .event; block = n; offset = a .offset }
 
 abbrev pub dataBlock : ℕ → Sender → List ℕ → Acknowledgment → Acted
-dataBlock r s d NoAnswer = withBlock 9 (resendOf r s (waitsOf s))
+dataBlock r s d NoAnswer = withBlock HEAD (resendOf r s (waitsOf s))
 dataBlock r s d (AnAnswer c i e) =
     answeredBy s (bytesOf i d) (codeField (bytesOf c d)) (numberField greatestExpected (bytesOf e d)) (waitsOf s)
 

@@ -4,6 +4,7 @@ use Prim.Native.Nat.{ℕ}
 use lib.ListN.{length}
 use Rattle.lists.specs.Bytes.{over}
 use Rattle.lists.specs.Outcome.{need, Outcome, outcome}
+use Rattle.refusal.specs.Refusal.{TOO-SHORT, STATE}
 use Rattle.sender_calls.specs.SenderCalls.{senderIn, enoughWords}
 use Rattle.sender_calls.specs.declared.Decoded.{Decoded}
 use Rattle.sender_calls.specs.declared.Decoded.the-variants.{Unknown, Known}
@@ -12,8 +13,8 @@ use Rattle.sender_calls.specs.declared.Found.the-variants.{Refused, Know
 
 -- what a call finds in its words, and what the report holds then
 abbrev pub foundAs : Decoded → List ℕ → Outcome Found
-foundAs Unknown p = outcome (Refused 11) (over p (0 ∷ 0 ∷ 0 ∷ 0 ∷ 0 ∷ 0 ∷ 0 ∷ 0 ∷ []))
+foundAs Unknown p = outcome (Refused STATE) (over p (0 ∷ 0 ∷ 0 ∷ 0 ∷ 0 ∷ 0 ∷ 0 ∷ 0 ∷ []))
 foundAs (Known s) p = outcome (ASender s) p
 
 abbrev pub foundIn : List ℕ → List ℕ → Outcome Found
-foundIn st p = need (enoughWords (length st) (length p)) (outcome (Refused 2) p) (foundAs (senderIn st) p)
+foundIn st p = need (enoughWords (length st) (length p)) (outcome (Refused TOO-SHORT) p) (foundAs (senderIn st) p)

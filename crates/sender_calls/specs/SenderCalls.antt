@@ -6,7 +6,8 @@ use lib.ListN.{length, getD}
 use lib.Dec.{leb, eqb}
 use Rattle.lists.specs.Bytes.{over}
 use Rattle.lists.specs.Outcome.{need, Called, called}
-use Rattle.settings.specs.Settings.{limitValid, enoughForLink}
+use Rattle.settings.specs.Settings.{validLinkLimit}
+use Rattle.refusal.specs.Refusal.{SETTING, TOO-SHORT, STATE}
 use Rattle.numbers.specs.declared.SequenceNumber.the-variants.{MinusOne, Number}
 use Rattle.header.specs.declared.Code.{Code}
 use Rattle.header.specs.declared.Code.the-variants.{AA, AE, AR}
@@ -98,11 +99,11 @@ enoughWords states reports = leb 7 states && leb 8 reports
 
 -- an act on the sender that the words encode: 2, then 11 for words that encode none, with a report of zeros, then the act
 abbrev pub actOn : Decoded → (Sender → Acted) → List ℕ → List ℕ → Called
-actOn Unknown f st p = called 11 st [] (over p (0 ∷ 0 ∷ 0 ∷ 0 ∷ 0 ∷ 0 ∷ 0 ∷ 0 ∷ []))
+actOn Unknown f st p = called STATE st [] (over p (0 ∷ 0 ∷ 0 ∷ 0 ∷ 0 ∷ 0 ∷ 0 ∷ 0 ∷ []))
 actOn (Known s) f st p = actWritten st p (f s)
 
 abbrev pub senderCall : (Sender → Acted) → List ℕ → List ℕ → Called
-senderCall f st p = need (enoughWords (length st) (length p)) (called 2 st [] p) (actOn (senderIn st) f st p)
+senderCall f st p = need (enoughWords (length st) (length p)) (called TOO-SHORT st [] p) (actOn (senderIn st) f st p)
 
 -- gmv_sender_open, gmv_sender_ended, gmv_sender_reset
 unfoldable pub openCall : List ℕ → List ℕ → Called
@@ -116,25 +117,25 @@ resetCall st p = senderCall resetOf st p
 
 -- gmv_sender_timer: 1 comes first
 unfoldable pub timerCall : ℕ → List ℕ → List ℕ → Called
-timerCall r st p = need (validResends r) (called 1 st [] p) (senderCall (timerOf r) st p)
+timerCall r st p = need (validResends r) (called SETTING st [] p) (senderCall (timerOf r) st p)
 
 -- gmv_sender_block
 abbrev pub blockWith : VerdictMade → ℕ → List ℕ → List ℕ → List ℕ → Called
-blockWith NoVerdict r d st p = called 1 st [] p
+blockWith NoVerdict r d st p = called SETTING st [] p
 blockWith (AVerdict v) r d st p = senderCall (λ (s : Sender). blockReadOf r s v d) st p
 
 unfoldable pub blockCall : ℕ → ℕ → ℕ → List ℕ → List ℕ → List ℕ → Called
-blockCall r n t d st p = need (validResends r) (called 1 st [] p) (blockWith (verdictFrom n t) r d st p)
+blockCall r n t d st p = need (validResends r) (called SETTING st [] p) (blockWith (verdictFrom n t) r d st p)
 
 -- gmv_sender_submit
 unfoldable pub submitCall : ℕ → List ℕ → List ℕ → List ℕ → Called
 submitCall limit d st p =
-    need (limitValid limit && enoughForLink limit) (called 1 st [] p) (senderCall (λ (s : Sender). submitOf limit s d) st p)
+    need (validLinkLimit limit) (called SETTING st [] p) (senderCall (λ (s : Sender). submitOf limit s d) st p)
 
 -- gmv_sender_fresh
 abbrev pub freshWith : SenderMade → List ℕ → Called
-freshWith Refused st = called 1 st [] []
-freshWith (Made s) st = need (leb 7 (length st)) (called 2 st [] []) (called 0 (over st (senderWords s)) [] [])
+freshWith Refused st = called SETTING st [] []
+freshWith (Made s) st = need (leb 7 (length st)) (called TOO-SHORT st [] []) (called 0 (over st (senderWords s)) [] [])
 
 unfoldable pub freshCall : ℕ → List ℕ → Called
 freshCall f st = freshWith (senderOf f) st

@@ -24,6 +24,9 @@ limitValid d = leb 1 d && leb d 99994
 abbrev pub enoughForLink : ℕ → Bool
 enoughForLink d = leb 128 d
 
+abbrev pub validLinkLimit : ℕ → Bool
+validLinkLimit d = limitValid d && enoughForLink d
+
 -- "A setting is refused if the two are equal, or if either is CR (0D) or lies in 20 to 7E": these are just the data bytes
 abbrev pub hybridValid : ℕ → ℕ → ℕ → Bool
 hybridValid sb eb d = not (allowed sb) && not (allowed eb) && not (eqb sb eb) && limitValid d

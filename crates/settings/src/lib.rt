@@ -8,7 +8,7 @@ pub use bytes::first_forbidden;
 pub use digits::digit_of;
 ghost use mathlib.Core.Path.{_≡_};
 ghost use mathlib.Core.Bool.{_&&_};
-ghost use Rattle.settings.specs.Settings.{allowed, limitValid, enoughForLink, valid, validLink, dataOffsetOf, hybridOf, minimalOf, linkOf, hybridLink, minimalLink};
+ghost use Rattle.settings.specs.Settings.{allowed, validLinkLimit, valid, validLink, dataOffsetOf, hybridOf, minimalOf, linkOf, hybridLink, minimalLink};
 
 // The two lower layer protocols (000, C.2 and C.4).
 pub enum Kind {
@@ -142,7 +142,7 @@ impl Settings {
 
     // Whether this is a data limit of a sender or receiver.
     pub fn is_link_limit(limit: usize) -> bool
-        ensures { λ r. ⌜ r ≡ limitValid limit && enoughForLink limit ⌝ }
+        ensures { λ r. ⌜ r ≡ validLinkLimit limit ⌝ }
     {
         (1 <= limit) & (limit <= Self::LARGEST_DATA_LIMIT) & (Self::SMALLEST_LINK_LIMIT <= limit)
     }

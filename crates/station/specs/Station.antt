@@ -6,6 +6,7 @@ use lib.ListN.{length}
 use lib.Dec.{leb, ltb, eqb}
 use Rattle.lists.specs.Bytes.{put}
 use Rattle.lists.specs.Outcome.{need, Outcome, outcome}
+use Rattle.refusal.specs.Refusal.{STATE}
 use Rattle.station.specs.declared.Station.{Station}
 use Rattle.station.specs.declared.Station.the-variants.{Closed, Open}
 use Rattle.station.specs.declared.Ending.{Ending}
@@ -43,7 +44,7 @@ dropped s r = stationActed s r Incomplete
 
 -- what is no station: 11
 abbrev pub noStation : Station → Acted
-noStation s = record { number = 11; station = s; reply = NoReply; message = Incomplete }
+noStation s = record { number = STATE; station = s; reply = NoReply; message = Incomplete }
 
 -- "answered ACK with its number; ETX completes the message, and the next block starts a new one at the buffer's start": n bytes are held then
 abbrev pub appended : ℕ → Ending → ℕ → Acted
@@ -57,7 +58,8 @@ expectedBlock e h x text b =
     need (leb (h + length text) (length b)) (outcome (stationActed Closed Eot Incomplete) b)
     (outcome (appended e x (h + length text)) (put b h text))
 
--- "one numbered over 7: dropped, NAK"; the expected number; "a duplicate: dropped, ACK with its own number. Higher: dropped, NAK."
+-- "A bad block, one numbered over 7, or one ended by ENQ: dropped, NAK."; the expected number; "a duplicate: dropped, ACK with its own number.
+-- Higher: dropped, NAK."
 abbrev pub openBlock : ℕ → ℕ → ℕ → Ending → List ℕ → List ℕ → Outcome Acted
 openBlock e h n x text b =
     need (leb n 7) (outcome (dropped (Open e h) Nak) b)

@@ -6,6 +6,7 @@ use lib.ListN.{length, getD}
 use lib.Dec.{leb, eqb}
 use Rattle.lists.specs.Bytes.{over}
 use Rattle.lists.specs.Outcome.{need, Outcome, outcome, Called, called}
+use Rattle.refusal.specs.Refusal.{SETTING, TOO-SHORT, STATE}
 use Rattle.station.specs.Station.{openedStation, stationActed, goodBlockOf, badBlockOf, eotOf}
 use Rattle.station.specs.declared.Station.{Station}
 use Rattle.station.specs.declared.Station.the-variants.{Closed, Open}
@@ -62,24 +63,24 @@ enoughWords states reports = leb 3 states && leb 4 reports
 
 -- an act on the station that the words encode: 2, then 11 for words that encode none, then the act
 abbrev pub actOn : Decoded → (Station → Outcome Acted) → List ℕ → List ℕ → List ℕ → Called
-actOn Unknown f st b p = called 11 st b p
+actOn Unknown f st b p = called STATE st b p
 actOn (Known s) f st b p = actWritten st p (f s)
 
 abbrev pub stationCall : (Station → Outcome Acted) → List ℕ → List ℕ → List ℕ → Called
-stationCall f st b p = need (enoughWords (length st) (length p)) (called 2 st b p) (actOn (stationIn st) f st b p)
+stationCall f st b p = need (enoughWords (length st) (length p)) (called TOO-SHORT st b p) (actOn (stationIn st) f st b p)
 
 -- gmv_station_fresh: closed
 unfoldable pub freshStationCall : List ℕ → Called
-freshStationCall st = need (leb 3 (length st)) (called 2 st [] []) (called 0 (over st (stationWords Closed)) [] [])
+freshStationCall st = need (leb 3 (length st)) (called TOO-SHORT st [] []) (called 0 (over st (stationWords Closed)) [] [])
 
 -- gmv_station_open: "The driver may open at any time", whatever the words are
 unfoldable pub openStationCall : List ℕ → List ℕ → Called
 openStationCall st p =
-    need (enoughWords (length st) (length p)) (called 2 st [] p) (actWritten st p (outcome (stationActed openedStation NoReply Incomplete) []))
+    need (enoughWords (length st) (length p)) (called TOO-SHORT st [] p) (actWritten st p (outcome (stationActed openedStation NoReply Incomplete) []))
 
 -- gmv_station_block: 1 for an ending that is none, then as every act
 abbrev pub blockEndedBy : DecodedEnding → ℕ → List ℕ → List ℕ → List ℕ → List ℕ → Called
-blockEndedBy NoEnding n t b st p = called 1 st b p
+blockEndedBy NoEnding n t b st p = called SETTING st b p
 blockEndedBy (AnEnding x) n t b st p = stationCall (λ (s : Station). goodBlockOf s n x t b) st b p
 
 unfoldable pub goodBlockCall : ℕ → ℕ → List ℕ → List ℕ → List ℕ → List ℕ → Called

@@ -9,6 +9,7 @@ use Rattle.lists.specs.Outcome.{need, Outcome, outcome}
 use Rattle.settings.specs.Settings.{valid, capacityOf}
 use Rattle.block.specs.Judge.{judge}
 use Rattle.settings.specs.declared.Settings.{Settings}
+use Rattle.refusal.specs.Refusal.{SETTING, TOO-SHORT, LONG, SHAPE, INTERRUPTED, STATE}
 use Rattle.refusal.specs.declared.Verdict.{Verdict}
 use Rattle.refusal.specs.declared.Verdict.the-variants.{Refused as RefusedBlock}
 use Rattle.stream.specs.declared.Phase.{Phase}
@@ -30,7 +31,7 @@ scan a p n s k b =
 
 -- n bytes are in the buffer if they fit; a larger n says that the block is too long
 unfoldable pub storedVerdict : Settings → ℕ → List ℕ → ℕ → Verdict
-storedVerdict g n b x = cond (ltb (capacityOf g) n) (RefusedBlock 4 0) (need (eqb x 0x0D) (RefusedBlock 5 0) (judge g (take n b)))
+storedVerdict g n b x = cond (ltb (capacityOf g) n) (RefusedBlock LONG 0) (need (eqb x 0x0D) (RefusedBlock SHAPE 0) (judge g (take n b)))
 
 -- the byte x after EB
 abbrev pub endedStep : Settings → ℕ → ℕ → ℕ → List ℕ → ℕ → Scan
@@ -48,7 +49,7 @@ abbrev pub phaseStep : Settings → Phase → ℕ → ℕ → ℕ → List ℕ �
 phaseStep g Between n s k b x =
     cond (eqb x (g .«start_block»)) (scan Pending Inside 0 k (k + 1) b) (scan Pending Between n s (k + 1) b)
 phaseStep g Inside n s k b x =
-    cond (eqb x (g .«start_block»)) (scan (Found s (RefusedBlock 8 0)) Inside 0 k (k + 1) b)
+    cond (eqb x (g .«start_block»)) (scan (Found s (RefusedBlock INTERRUPTED 0)) Inside 0 k (k + 1) b)
     (cond (eqb x (g .«end_block»)) (scan Pending Ended n s (k + 1) b) (keepStep g n s k b x))
 phaseStep g Ended n s k b x = endedStep g n s k b x
 
@@ -72,9 +73,9 @@ scanned k t = outcome (record { answer = t .answer; reader = t .reader; used = t
 -- Order 1, 2, 11. Offsets are 64-bit numbers: a part that would lead past them is refused (11).
 unfoldable pub readOf : Settings → Reader → List ℕ → List ℕ → Outcome Reading
 readOf g r xs b =
-    need (valid g) (refused 1 r b)
-    (need (leb (capacityOf g) (length b)) (refused 2 r b)
-    (need (leb (length xs) (greatestWord - r .position)) (refused 11 r b)
+    need (valid g) (refused SETTING r b)
+    (need (leb (capacityOf g) (length b)) (refused TOO-SHORT r b)
+    (need (leb (length xs) (greatestWord - r .position)) (refused STATE r b)
     (scanned (r .position) (fold g (record { answer = Pending; reader = r; buffer = b }) xs))))
 
 -- the state before the first byte of a stream

@@ -9,6 +9,7 @@ use Rattle.block.specs.Content.{contentOf}
 use Rattle.settings.specs.Settings.{capacityOf}
 use Rattle.block.specs.Judge.{judge}
 use Rattle.settings.specs.declared.Settings.{Settings}
+use Rattle.refusal.specs.Refusal.{LONG, SHAPE, INTERRUPTED}
 use Rattle.refusal.specs.declared.Verdict.{Verdict}
 use Rattle.refusal.specs.declared.Verdict.the-variants.{Refused}
 
@@ -29,7 +30,7 @@ pub data Mode : Type 0 where
 
 -- "its verdict comes with the byte after. If that byte is not CR, the block has the wrong shape"; 4 comes before 5
 unfoldable pub endVerdict : Settings → List ℕ → ℕ → Verdict
-endVerdict g body x = cond (ltb (capacityOf g) (length body)) (Refused 4 0) (need (eqb x 0x0D) (Refused 5 0) (judge g body))
+endVerdict g body x = cond (ltb (capacityOf g) (length body)) (Refused LONG 0) (need (eqb x 0x0D) (Refused SHAPE 0) (judge g body))
 
 -- what one byte brings: at most one verdict, and where the reader stands then
 pub record Moved : Type 0 where
@@ -47,7 +48,7 @@ opened g k x = cond (eqb x (g .«start_block»)) (inside k []) between
 unfoldable pub move : Settings → ℕ → Mode → ℕ → Moved
 move g k between x = moved [] (opened g k x)
 move g k (inside s body) x =
-    cond (eqb x (g .«start_block»)) (moved (judged g s (Refused 8 0) body ∷ []) (inside k []))
+    cond (eqb x (g .«start_block»)) (moved (judged g s (Refused INTERRUPTED 0) body ∷ []) (inside k []))
     (cond (eqb x (g .«end_block»)) (moved [] (ended s body)) (moved [] (inside s (body ++ x ∷ []))))
 move g k (ended s body) x = moved (judged g s (endVerdict g body x) body ∷ []) (opened g k x)
 

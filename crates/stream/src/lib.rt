@@ -17,9 +17,9 @@ pub enum Phase {
 // A reader's state between two parts of the input.
 pub struct Reader {
     pub phase: Phase,
-    // Bytes of the current block, at most one more than the buffer holds of it.
+    // Bytes of the current block; a reader counts at most one more than the buffer holds of it.
     pub body_length: usize,
-    // The offset of the current block's SB in the stream.
+    // The offset in the stream of the SB of the current block, or of the last one.
     pub block_offset: usize,
     // The offset of the next byte.
     pub position: usize,

@@ -19,42 +19,42 @@ use Rattle.block.proofs.judge_block.Reads as judge-block-reads
 
 pub block-content : UniqueContent block-content-contract.ended (λ M. block-content-contract.clauses {M = M}) (List ℕ) (λ κs z. now z)
 block-content = record {
-  told = block-content-reads.Learnt;
+  holds = block-content-reads.Learnt;
   says = λ M 𝓤 H A mem run. refl;
   one = λ κs a z z′ ws ws′ h h′. (h ∙ sym h′, refl);
 }
 
 pub is-long : Unique is-long-contract.ended (λ M. is-long-contract.clauses {M = M})
 is-long = record {
-  told = is-long-reads.Learnt;
+  holds = is-long-reads.Learnt;
   says = λ M 𝓤 H A mem run. refl;
   one = λ κs a z z′ ws ws′ h h′. (h ∙ sym h′, refl);
 }
 
 pub buffer-fits : Unique buffer-fits-contract.ended (λ M. buffer-fits-contract.clauses {M = M})
 buffer-fits = record {
-  told = buffer-fits-reads.Learnt;
+  holds = buffer-fits-reads.Learnt;
   says = λ M 𝓤 H A mem run. refl;
   one = λ κs a z z′ ws ws′ h h′. (h ∙ sym h′, refl);
 }
 
 pub type-matches : Unique type-matches-contract.ended (λ M. type-matches-contract.clauses {M = M})
 type-matches = record {
-  told = type-matches-reads.Learnt;
+  holds = type-matches-reads.Learnt;
   says = λ M 𝓤 H A mem run. refl;
   one = λ κs a z z′ ws ws′ h h′. (h ∙ sym h′, refl);
 }
 
 pub block-checksum : Unique block-checksum-contract.ended (λ M. block-checksum-contract.clauses {M = M})
 block-checksum = record {
-  told = block-checksum-reads.Learnt;
+  holds = block-checksum-reads.Learnt;
   says = λ M 𝓤 H A mem run. refl;
   one = λ κs a z z′ ws ws′ h h′. (h ∙ sym h′, refl);
 }
 
 pub judge-block : Unique judge-block-contract.ended (λ M. judge-block-contract.clauses {M = M})
 judge-block = record {
-  told = judge-block-reads.Learnt;
+  holds = judge-block-reads.Learnt;
   says = λ M 𝓤 H A mem run. refl;
   one = λ κs a z z′ ws ws′ h h′. (h ∙ sym h′, refl);
 }

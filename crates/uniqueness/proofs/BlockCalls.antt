@@ -13,28 +13,28 @@ use Rattle.block_calls.proofs.write_words.Reads as write-words-reads
 
 pub check-words : Unique check-words-contract.ended (λ M. check-words-contract.clauses {M = M})
 check-words = record {
-  told = check-words-reads.Learnt;
+  holds = check-words-reads.Learnt;
   says = λ M 𝓤 H A mem run. refl;
   one = λ κs a z z′ ws ws′ h h′. once h h′ (λ y. y .number) (λ y. (tt, (tt, (y .report, tt))));
 }
 
 pub fresh-words : Unique fresh-words-contract.ended (λ M. fresh-words-contract.clauses {M = M})
 fresh-words = record {
-  told = fresh-words-reads.Learnt;
+  holds = fresh-words-reads.Learnt;
   says = λ M 𝓤 H A mem run. refl;
   one = λ κs a z z′ ws ws′ h h′. once h h′ (λ y. y .number) (λ y. (y .state, tt));
 }
 
 pub read-words : Unique read-words-contract.ended (λ M. read-words-contract.clauses {M = M})
 read-words = record {
-  told = read-words-reads.Learnt;
+  holds = read-words-reads.Learnt;
   says = λ M 𝓤 H A mem run. refl;
   one = λ κs a z z′ ws ws′ h h′. once h h′ (λ y. y .number) (λ y. (tt, (y .state, (tt, (y .buffer, (y .report, tt))))));
 }
 
 pub write-words : Unique write-words-contract.ended (λ M. write-words-contract.clauses {M = M})
 write-words = record {
-  told = write-words-reads.Learnt;
+  holds = write-words-reads.Learnt;
   says = λ M 𝓤 H A mem run. refl;
   one = λ κs a z z′ ws ws′ h h′. once h h′ (λ y. y .number) (λ y. (tt, (tt, (tt, (y .buffer, (tt, (y .report, tt)))))));
 }

@@ -7,7 +7,7 @@ use Rattle.control_block.proofs.write_control_block.Reads as write-control-bloc
 
 pub write-control-block : Unique write-control-block-contract.ended (λ M. write-control-block-contract.clauses {M = M})
 write-control-block = record {
-  told = write-control-block-reads.Learnt;
+  holds = write-control-block-reads.Learnt;
   says = λ M 𝓤 H A mem run. refl;
   one = λ κs a z z′ ws ws′ h h′. once h h′ (λ y. y .answer) (λ y. (tt, (tt, (tt, (y .buffer, (tt, tt))))));
 }

@@ -13,21 +13,21 @@ use Rattle.fields.proofs.field_content.Reads as field-content-reads
 
 pub field-end : Unique field-end-contract.ended (λ M. field-end-contract.clauses {M = M})
 field-end = record {
-  told = field-end-reads.Learnt;
+  holds = field-end-reads.Learnt;
   says = λ M 𝓤 H A mem run. refl;
   one = λ κs a z z′ ws ws′ h h′. (h ∙ sym h′, refl);
 }
 
 pub find-field : Unique find-field-contract.ended (λ M. find-field-contract.clauses {M = M})
 find-field = record {
-  told = find-field-reads.Learnt;
+  holds = find-field-reads.Learnt;
   says = λ M 𝓤 H A mem run. refl;
   one = λ κs a z z′ ws ws′ h h′. (h ∙ sym h′, refl);
 }
 
 pub field-content : UniqueContent field-content-contract.ended (λ M. field-content-contract.clauses {M = M}) (List ℕ) (λ κs z. now z)
 field-content = record {
-  told = field-content-reads.Learnt;
+  holds = field-content-reads.Learnt;
   says = λ M 𝓤 H A mem run. refl;
   one = λ κs a z z′ ws ws′ h h′. (h ∙ sym h′, refl);
 }

@@ -67,217 +67,217 @@ use Rattle.giamuvich.proofs.gmv_version.Reads as gmv-version-reads
 
 pub gmv-reader-fresh : Unique gmv-reader-fresh-contract.ended (λ M. gmv-reader-fresh-contract.clauses {M = M})
 gmv-reader-fresh = record {
-  told = gmv-reader-fresh-reads.Learnt;
+  holds = gmv-reader-fresh-reads.Learnt;
   says = λ M 𝓤 H A mem run. refl;
   one = λ κs a z z′ ws ws′ h h′. once h h′ (λ y. y .number) (λ y. (y .state, tt));
 }
 
 pub gmv-hybrid-read : Unique gmv-hybrid-read-contract.ended (λ M. gmv-hybrid-read-contract.clauses {M = M})
 gmv-hybrid-read = record {
-  told = gmv-hybrid-read-reads.Learnt;
+  holds = gmv-hybrid-read-reads.Learnt;
   says = λ M 𝓤 H A mem run. refl;
   one = λ κs a z z′ ws ws′ h h′. once h h′ (λ y. y .number) (λ y. (tt, (tt, (tt, (y .state, (tt, (y .buffer, (y .report, tt))))))));
 }
 
 pub gmv-minimal-read : Unique gmv-minimal-read-contract.ended (λ M. gmv-minimal-read-contract.clauses {M = M})
 gmv-minimal-read = record {
-  told = gmv-minimal-read-reads.Learnt;
+  holds = gmv-minimal-read-reads.Learnt;
   says = λ M 𝓤 H A mem run. refl;
   one = λ κs a z z′ ws ws′ h h′. once h h′ (λ y. y .number) (λ y. (tt, (y .state, (tt, (y .buffer, (y .report, tt))))));
 }
 
 pub gmv-hybrid-check : Unique gmv-hybrid-check-contract.ended (λ M. gmv-hybrid-check-contract.clauses {M = M})
 gmv-hybrid-check = record {
-  told = gmv-hybrid-check-reads.Learnt;
+  holds = gmv-hybrid-check-reads.Learnt;
   says = λ M 𝓤 H A mem run. refl;
   one = λ κs a z z′ ws ws′ h h′. once h h′ (λ y. y .number) (λ y. (tt, (tt, (tt, (tt, (y .report, tt))))));
 }
 
 pub gmv-minimal-check : Unique gmv-minimal-check-contract.ended (λ M. gmv-minimal-check-contract.clauses {M = M})
 gmv-minimal-check = record {
-  told = gmv-minimal-check-reads.Learnt;
+  holds = gmv-minimal-check-reads.Learnt;
   says = λ M 𝓤 H A mem run. refl;
   one = λ κs a z z′ ws ws′ h h′. once h h′ (λ y. y .number) (λ y. (tt, (tt, (y .report, tt))));
 }
 
 pub gmv-hybrid-write : Unique gmv-hybrid-write-contract.ended (λ M. gmv-hybrid-write-contract.clauses {M = M})
 gmv-hybrid-write = record {
-  told = gmv-hybrid-write-reads.Learnt;
+  holds = gmv-hybrid-write-reads.Learnt;
   says = λ M 𝓤 H A mem run. refl;
   one = λ κs a z z′ ws ws′ h h′. once h h′ (λ y. y .number) (λ y. (tt, (tt, (tt, (tt, (tt, (y .buffer, (tt, (y .report, tt)))))))));
 }
 
 pub gmv-minimal-write : Unique gmv-minimal-write-contract.ended (λ M. gmv-minimal-write-contract.clauses {M = M})
 gmv-minimal-write = record {
-  told = gmv-minimal-write-reads.Learnt;
+  holds = gmv-minimal-write-reads.Learnt;
   says = λ M 𝓤 H A mem run. refl;
   one = λ κs a z z′ ws ws′ h h′. once h h′ (λ y. y .number) (λ y. (tt, (tt, (y .buffer, (tt, (y .report, tt))))));
 }
 
 pub gmv-hybrid-control-block : Unique gmv-hybrid-control-block-contract.ended (λ M. gmv-hybrid-control-block-contract.clauses {M = M})
 gmv-hybrid-control-block = record {
-  told = gmv-hybrid-control-block-reads.Learnt;
+  holds = gmv-hybrid-control-block-reads.Learnt;
   says = λ M 𝓤 H A mem run. refl;
   one = λ κs a z z′ ws ws′ h h′. once h h′ (λ y. y .number) (λ y. (tt, (tt, (tt, (tt, (tt, (y .buffer, (tt, (y .report, tt)))))))));
 }
 
 pub gmv-minimal-control-block : Unique gmv-minimal-control-block-contract.ended (λ M. gmv-minimal-control-block-contract.clauses {M = M})
 gmv-minimal-control-block = record {
-  told = gmv-minimal-control-block-reads.Learnt;
+  holds = gmv-minimal-control-block-reads.Learnt;
   says = λ M 𝓤 H A mem run. refl;
   one = λ κs a z z′ ws ws′ h h′. once h h′ (λ y. y .number) (λ y. (tt, (tt, (tt, (y .buffer, (tt, (y .report, tt)))))));
 }
 
 pub gmv-field-next : Unique gmv-field-next-contract.ended (λ M. gmv-field-next-contract.clauses {M = M})
 gmv-field-next = record {
-  told = gmv-field-next-reads.Learnt;
+  holds = gmv-field-next-reads.Learnt;
   says = λ M 𝓤 H A mem run. refl;
   one = λ κs a z z′ ws ws′ h h′. once h h′ (λ y. y .number) (λ y. (tt, (tt, (y .report, tt))));
 }
 
 pub gmv-header-read : Unique gmv-header-read-contract.ended (λ M. gmv-header-read-contract.clauses {M = M})
 gmv-header-read = record {
-  told = gmv-header-read-reads.Learnt;
+  holds = gmv-header-read-reads.Learnt;
   says = λ M 𝓤 H A mem run. refl;
   one = λ κs a z z′ ws ws′ h h′. once h h′ (λ y. y .number) (λ y. (tt, (y .report, tt)));
 }
 
 pub gmv-answer-read : Unique gmv-answer-read-contract.ended (λ M. gmv-answer-read-contract.clauses {M = M})
 gmv-answer-read = record {
-  told = gmv-answer-read-reads.Learnt;
+  holds = gmv-answer-read-reads.Learnt;
   says = λ M 𝓤 H A mem run. refl;
   one = λ κs a z z′ ws ws′ h h′. once h h′ (λ y. y .number) (λ y. (tt, (y .report, tt)));
 }
 
 pub gmv-answer-write : Unique gmv-answer-write-contract.ended (λ M. gmv-answer-write-contract.clauses {M = M})
 gmv-answer-write = record {
-  told = gmv-answer-write-reads.Learnt;
+  holds = gmv-answer-write-reads.Learnt;
   says = λ M 𝓤 H A mem run. refl;
   one = λ κs a z z′ ws ws′ h h′. once h h′ (λ y. y .number) (λ y. (tt, (tt, (tt, (y .buffer, (tt, (y .report, tt)))))));
 }
 
 pub gmv-control-write : Unique gmv-control-write-contract.ended (λ M. gmv-control-write-contract.clauses {M = M})
 gmv-control-write = record {
-  told = gmv-control-write-reads.Learnt;
+  holds = gmv-control-write-reads.Learnt;
   says = λ M 𝓤 H A mem run. refl;
   one = λ κs a z z′ ws ws′ h h′. once h h′ (λ y. y .number) (λ y. (tt, (tt, (y .buffer, (tt, (y .report, tt))))));
 }
 
 pub gmv-receiver-fresh : Unique gmv-receiver-fresh-contract.ended (λ M. gmv-receiver-fresh-contract.clauses {M = M})
 gmv-receiver-fresh = record {
-  told = gmv-receiver-fresh-reads.Learnt;
+  holds = gmv-receiver-fresh-reads.Learnt;
   says = λ M 𝓤 H A mem run. refl;
   one = λ κs a z z′ ws ws′ h h′. once h h′ (λ y. y .number) (λ y. (y .state, tt));
 }
 
 pub gmv-hybrid-receive : Unique gmv-hybrid-receive-contract.ended (λ M. gmv-hybrid-receive-contract.clauses {M = M})
 gmv-hybrid-receive = record {
-  told = gmv-hybrid-receive-reads.Learnt;
+  holds = gmv-hybrid-receive-reads.Learnt;
   says = λ M 𝓤 H A mem run. refl;
   one = λ κs a z z′ ws ws′ h h′. once h h′ (λ y. y .number) (λ y. (tt, (tt, (tt, (tt, (y .state, (tt, (tt, (tt, (y .buffer, (tt, (y .report, tt))))))))))));
 }
 
 pub gmv-minimal-receive : Unique gmv-minimal-receive-contract.ended (λ M. gmv-minimal-receive-contract.clauses {M = M})
 gmv-minimal-receive = record {
-  told = gmv-minimal-receive-reads.Learnt;
+  holds = gmv-minimal-receive-reads.Learnt;
   says = λ M 𝓤 H A mem run. refl;
   one = λ κs a z z′ ws ws′ h h′. once h h′ (λ y. y .number) (λ y. (tt, (tt, (y .state, (tt, (tt, (tt, (y .buffer, (tt, (y .report, tt))))))))));
 }
 
 pub gmv-sender-fresh : Unique gmv-sender-fresh-contract.ended (λ M. gmv-sender-fresh-contract.clauses {M = M})
 gmv-sender-fresh = record {
-  told = gmv-sender-fresh-reads.Learnt;
+  holds = gmv-sender-fresh-reads.Learnt;
   says = λ M 𝓤 H A mem run. refl;
   one = λ κs a z z′ ws ws′ h h′. once h h′ (λ y. y .number) (λ y. (tt, (y .state, tt)));
 }
 
 pub gmv-sender-submit : Unique gmv-sender-submit-contract.ended (λ M. gmv-sender-submit-contract.clauses {M = M})
 gmv-sender-submit = record {
-  told = gmv-sender-submit-reads.Learnt;
+  holds = gmv-sender-submit-reads.Learnt;
   says = λ M 𝓤 H A mem run. refl;
   one = λ κs a z z′ ws ws′ h h′. once h h′ (λ y. y .number) (λ y. (tt, (tt, (y .state, (y .report, tt)))));
 }
 
 pub gmv-sender-open : Unique gmv-sender-open-contract.ended (λ M. gmv-sender-open-contract.clauses {M = M})
 gmv-sender-open = record {
-  told = gmv-sender-open-reads.Learnt;
+  holds = gmv-sender-open-reads.Learnt;
   says = λ M 𝓤 H A mem run. refl;
   one = λ κs a z z′ ws ws′ h h′. once h h′ (λ y. y .number) (λ y. (y .state, (y .report, tt)));
 }
 
 pub gmv-sender-ended : Unique gmv-sender-ended-contract.ended (λ M. gmv-sender-ended-contract.clauses {M = M})
 gmv-sender-ended = record {
-  told = gmv-sender-ended-reads.Learnt;
+  holds = gmv-sender-ended-reads.Learnt;
   says = λ M 𝓤 H A mem run. refl;
   one = λ κs a z z′ ws ws′ h h′. once h h′ (λ y. y .number) (λ y. (y .state, (y .report, tt)));
 }
 
 pub gmv-sender-reset : Unique gmv-sender-reset-contract.ended (λ M. gmv-sender-reset-contract.clauses {M = M})
 gmv-sender-reset = record {
-  told = gmv-sender-reset-reads.Learnt;
+  holds = gmv-sender-reset-reads.Learnt;
   says = λ M 𝓤 H A mem run. refl;
   one = λ κs a z z′ ws ws′ h h′. once h h′ (λ y. y .number) (λ y. (y .state, (y .report, tt)));
 }
 
 pub gmv-sender-timer : Unique gmv-sender-timer-contract.ended (λ M. gmv-sender-timer-contract.clauses {M = M})
 gmv-sender-timer = record {
-  told = gmv-sender-timer-reads.Learnt;
+  holds = gmv-sender-timer-reads.Learnt;
   says = λ M 𝓤 H A mem run. refl;
   one = λ κs a z z′ ws ws′ h h′. once h h′ (λ y. y .number) (λ y. (tt, (y .state, (y .report, tt))));
 }
 
 pub gmv-sender-block : Unique gmv-sender-block-contract.ended (λ M. gmv-sender-block-contract.clauses {M = M})
 gmv-sender-block = record {
-  told = gmv-sender-block-reads.Learnt;
+  holds = gmv-sender-block-reads.Learnt;
   says = λ M 𝓤 H A mem run. refl;
   one = λ κs a z z′ ws ws′ h h′. once h h′ (λ y. y .number) (λ y. (tt, (tt, (tt, (tt, (y .state, (y .report, tt)))))));
 }
 
 pub gmv-station-fresh : Unique gmv-station-fresh-contract.ended (λ M. gmv-station-fresh-contract.clauses {M = M})
 gmv-station-fresh = record {
-  told = gmv-station-fresh-reads.Learnt;
+  holds = gmv-station-fresh-reads.Learnt;
   says = λ M 𝓤 H A mem run. refl;
   one = λ κs a z z′ ws ws′ h h′. once h h′ (λ y. y .number) (λ y. (y .state, tt));
 }
 
 pub gmv-station-open : Unique gmv-station-open-contract.ended (λ M. gmv-station-open-contract.clauses {M = M})
 gmv-station-open = record {
-  told = gmv-station-open-reads.Learnt;
+  holds = gmv-station-open-reads.Learnt;
   says = λ M 𝓤 H A mem run. refl;
   one = λ κs a z z′ ws ws′ h h′. once h h′ (λ y. y .number) (λ y. (y .state, (y .report, tt)));
 }
 
 pub gmv-station-block : Unique gmv-station-block-contract.ended (λ M. gmv-station-block-contract.clauses {M = M})
 gmv-station-block = record {
-  told = gmv-station-block-reads.Learnt;
+  holds = gmv-station-block-reads.Learnt;
   says = λ M 𝓤 H A mem run. refl;
   one = λ κs a z z′ ws ws′ h h′. once h h′ (λ y. y .number) (λ y. (tt, (tt, (tt, (y .buffer, (y .state, (y .report, tt)))))));
 }
 
 pub gmv-station-bad : Unique gmv-station-bad-contract.ended (λ M. gmv-station-bad-contract.clauses {M = M})
 gmv-station-bad = record {
-  told = gmv-station-bad-reads.Learnt;
+  holds = gmv-station-bad-reads.Learnt;
   says = λ M 𝓤 H A mem run. refl;
   one = λ κs a z z′ ws ws′ h h′. once h h′ (λ y. y .number) (λ y. (y .state, (y .report, tt)));
 }
 
 pub gmv-station-enquiry : Unique gmv-station-enquiry-contract.ended (λ M. gmv-station-enquiry-contract.clauses {M = M})
 gmv-station-enquiry = record {
-  told = gmv-station-enquiry-reads.Learnt;
+  holds = gmv-station-enquiry-reads.Learnt;
   says = λ M 𝓤 H A mem run. refl;
   one = λ κs a z z′ ws ws′ h h′. once h h′ (λ y. y .number) (λ y. (y .state, (y .report, tt)));
 }
 
 pub gmv-station-end : Unique gmv-station-end-contract.ended (λ M. gmv-station-end-contract.clauses {M = M})
 gmv-station-end = record {
-  told = gmv-station-end-reads.Learnt;
+  holds = gmv-station-end-reads.Learnt;
   says = λ M 𝓤 H A mem run. refl;
   one = λ κs a z z′ ws ws′ h h′. once h h′ (λ y. y .number) (λ y. (y .state, (y .report, tt)));
 }
 
 pub gmv-version : Unique gmv-version-contract.ended (λ M. gmv-version-contract.clauses {M = M})
 gmv-version = record {
-  told = gmv-version-reads.Learnt;
+  holds = gmv-version-reads.Learnt;
   says = λ M 𝓤 H A mem run. refl;
   one = λ κs a z z′ ws ws′ h h′. (h ∙ sym h′, refl);
 }

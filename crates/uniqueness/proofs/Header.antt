@@ -10,21 +10,21 @@ use Rattle.header.proofs.read_code.Reads as read-code-reads
 
 pub read-header : Unique read-header-contract.ended (λ M. read-header-contract.clauses {M = M})
 read-header = record {
-  told = read-header-reads.Learnt;
+  holds = read-header-reads.Learnt;
   says = λ M 𝓤 H A mem run. refl;
   one = λ κs a z z′ ws ws′ h h′. (h ∙ sym h′, refl);
 }
 
 pub read-acknowledgment : Unique read-acknowledgment-contract.ended (λ M. read-acknowledgment-contract.clauses {M = M})
 read-acknowledgment = record {
-  told = read-acknowledgment-reads.Learnt;
+  holds = read-acknowledgment-reads.Learnt;
   says = λ M 𝓤 H A mem run. refl;
   one = λ κs a z z′ ws ws′ h h′. (h ∙ sym h′, refl);
 }
 
 pub read-code : Unique read-code-contract.ended (λ M. read-code-contract.clauses {M = M})
 read-code = record {
-  told = read-code-reads.Learnt;
+  holds = read-code-reads.Learnt;
   says = λ M 𝓤 H A mem run. refl;
   one = λ κs a z z′ ws ws′ h h′. (h ∙ sym h′, refl);
 }

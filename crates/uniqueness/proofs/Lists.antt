@@ -14,21 +14,21 @@ use Rattle.lists.proofs.part_of.Reads as part-of-reads
 
 pub find-stop : Unique find-stop-contract.ended (λ M. find-stop-contract.clauses {M = M})
 find-stop = record {
-  told = find-stop-reads.Learnt;
+  holds = find-stop-reads.Learnt;
   says = λ M 𝓤 H A mem run. refl;
   one = λ κs a z z′ ws ws′ h h′. (h ∙ sym h′, refl);
 }
 
 pub copy-bytes : Unique copy-bytes-contract.ended (λ M. copy-bytes-contract.clauses {M = M})
 copy-bytes = record {
-  told = copy-bytes-reads.Learnt;
+  holds = copy-bytes-reads.Learnt;
   says = λ M 𝓤 H A mem run. refl;
   one = λ κs a z z′ ws ws′ h h′. once h h′ (λ y. tt) (λ y. (y, (tt, tt)));
 }
 
 pub part-of : UniqueContent part-of-contract.ended (λ M. part-of-contract.clauses {M = M}) (List ℕ) (λ κs z. now z)
 part-of = record {
-  told = part-of-reads.Learnt;
+  holds = part-of-reads.Learnt;
   says = λ M 𝓤 H A mem run. refl;
   one = λ κs a z z′ ws ws′ h h′. (h ∙ sym h′, refl);
 }

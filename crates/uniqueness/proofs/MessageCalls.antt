@@ -17,42 +17,42 @@ use Rattle.message_calls.proofs.write_control_words.Reads as write-control-word
 
 pub control-block-words : Unique control-block-words-contract.ended (λ M. control-block-words-contract.clauses {M = M})
 control-block-words = record {
-  told = control-block-words-reads.Learnt;
+  holds = control-block-words-reads.Learnt;
   says = λ M 𝓤 H A mem run. refl;
   one = λ κs a z z′ ws ws′ h h′. once h h′ (λ y. y .number) (λ y. (tt, (tt, (tt, (y .buffer, (tt, (y .report, tt)))))));
 }
 
 pub next-field-words : Unique next-field-words-contract.ended (λ M. next-field-words-contract.clauses {M = M})
 next-field-words = record {
-  told = next-field-words-reads.Learnt;
+  holds = next-field-words-reads.Learnt;
   says = λ M 𝓤 H A mem run. refl;
   one = λ κs a z z′ ws ws′ h h′. once h h′ (λ y. y .number) (λ y. (tt, (tt, (y .report, tt))));
 }
 
 pub read-header-words : Unique read-header-words-contract.ended (λ M. read-header-words-contract.clauses {M = M})
 read-header-words = record {
-  told = read-header-words-reads.Learnt;
+  holds = read-header-words-reads.Learnt;
   says = λ M 𝓤 H A mem run. refl;
   one = λ κs a z z′ ws ws′ h h′. once h h′ (λ y. y .number) (λ y. (tt, (y .report, tt)));
 }
 
 pub read-answer-words : Unique read-answer-words-contract.ended (λ M. read-answer-words-contract.clauses {M = M})
 read-answer-words = record {
-  told = read-answer-words-reads.Learnt;
+  holds = read-answer-words-reads.Learnt;
   says = λ M 𝓤 H A mem run. refl;
   one = λ κs a z z′ ws ws′ h h′. once h h′ (λ y. y .number) (λ y. (tt, (y .report, tt)));
 }
 
 pub write-answer-words : Unique write-answer-words-contract.ended (λ M. write-answer-words-contract.clauses {M = M})
 write-answer-words = record {
-  told = write-answer-words-reads.Learnt;
+  holds = write-answer-words-reads.Learnt;
   says = λ M 𝓤 H A mem run. refl;
   one = λ κs a z z′ ws ws′ h h′. once h h′ (λ y. y .number) (λ y. (tt, (tt, (tt, (y .buffer, (tt, (y .report, tt)))))));
 }
 
 pub write-control-words : Unique write-control-words-contract.ended (λ M. write-control-words-contract.clauses {M = M})
 write-control-words = record {
-  told = write-control-words-reads.Learnt;
+  holds = write-control-words-reads.Learnt;
   says = λ M 𝓤 H A mem run. refl;
   one = λ κs a z z′ ws ws′ h h′. once h h′ (λ y. y .number) (λ y. (tt, (tt, (y .buffer, (tt, (y .report, tt))))));
 }

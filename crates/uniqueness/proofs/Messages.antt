@@ -13,28 +13,28 @@ use Rattle.messages.proofs.MessageType.from_letters.Reads as MessageType-from-l
 
 pub write-answer : Unique write-answer-contract.ended (λ M. write-answer-contract.clauses {M = M})
 write-answer = record {
-  told = write-answer-reads.Learnt;
+  holds = write-answer-reads.Learnt;
   says = λ M 𝓤 H A mem run. refl;
   one = λ κs a z z′ ws ws′ h h′. once h h′ (λ y. y .answer) (λ y. (tt, (tt, (tt, (y .buffer, (tt, tt))))));
 }
 
 pub is-type : Unique is-type-contract.ended (λ M. is-type-contract.clauses {M = M})
 is-type = record {
-  told = is-type-reads.Learnt;
+  holds = is-type-reads.Learnt;
   says = λ M 𝓤 H A mem run. refl;
   one = λ κs a z z′ ws ws′ h h′. (h ∙ sym h′, refl);
 }
 
 pub write-control : Unique write-control-contract.ended (λ M. write-control-contract.clauses {M = M})
 write-control = record {
-  told = write-control-reads.Learnt;
+  holds = write-control-reads.Learnt;
   says = λ M 𝓤 H A mem run. refl;
   one = λ κs a z z′ ws ws′ h h′. once h h′ (λ y. y .answer) (λ y. (tt, (tt, (y .buffer, (tt, tt)))));
 }
 
 pub MessageType-from-letters : Unique MessageType-from-letters-contract.ended (λ M. MessageType-from-letters-contract.clauses {M = M})
 MessageType-from-letters = record {
-  told = MessageType-from-letters-reads.Learnt;
+  holds = MessageType-from-letters-reads.Learnt;
   says = λ M 𝓤 H A mem run. refl;
   one = λ κs a z z′ ws ws′ h h′. (h ∙ sym h′, refl);
 }

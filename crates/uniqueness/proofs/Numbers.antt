@@ -13,28 +13,28 @@ use Rattle.numbers.proofs.write_number.Reads as write-number-reads
 
 pub is-text : Unique is-text-contract.ended (λ M. is-text-contract.clauses {M = M})
 is-text = record {
-  told = is-text-reads.Learnt;
+  holds = is-text-reads.Learnt;
   says = λ M 𝓤 H A mem run. refl;
   one = λ κs a z z′ ws ws′ h h′. (h ∙ sym h′, refl);
 }
 
 pub read-number : Unique read-number-contract.ended (λ M. read-number-contract.clauses {M = M})
 read-number = record {
-  told = read-number-reads.Learnt;
+  holds = read-number-reads.Learnt;
   says = λ M 𝓤 H A mem run. refl;
   one = λ κs a z z′ ws ws′ h h′. (h ∙ sym h′, refl);
 }
 
 pub text-length : Unique text-length-contract.ended (λ M. text-length-contract.clauses {M = M})
 text-length = record {
-  told = text-length-reads.Learnt;
+  holds = text-length-reads.Learnt;
   says = λ M 𝓤 H A mem run. refl;
   one = λ κs a z z′ ws ws′ h h′. (h ∙ sym h′, refl);
 }
 
 pub write-number : Unique write-number-contract.ended (λ M. write-number-contract.clauses {M = M})
 write-number = record {
-  told = write-number-reads.Learnt;
+  holds = write-number-reads.Learnt;
   says = λ M 𝓤 H A mem run. refl;
   one = λ κs a z z′ ws ws′ h h′. once h h′ (λ y. tt) (λ y. (y, (tt, tt)));
 }

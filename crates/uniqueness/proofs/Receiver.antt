@@ -7,7 +7,7 @@ use Rattle.receiver.proofs.receive.Reads as receive-reads
 
 pub receive : Unique receive-contract.ended (λ M. receive-contract.clauses {M = M})
 receive = record {
-  told = receive-reads.Learnt;
+  holds = receive-reads.Learnt;
   says = λ M 𝓤 H A mem run. refl;
   one = λ κs a z z′ ws ws′ h h′. once h h′ (λ y. y .answer) (λ y. (tt, (tt, (tt, (tt, (tt, (y .buffer, (tt, tt))))))));
 }

@@ -9,14 +9,14 @@ use Rattle.receiver_calls.proofs.received_words.Reads as received-words-reads
 
 pub fresh-receiver-words : Unique fresh-receiver-words-contract.ended (λ M. fresh-receiver-words-contract.clauses {M = M})
 fresh-receiver-words = record {
-  told = fresh-receiver-words-reads.Learnt;
+  holds = fresh-receiver-words-reads.Learnt;
   says = λ M 𝓤 H A mem run. refl;
   one = λ κs a z z′ ws ws′ h h′. once h h′ (λ y. y .number) (λ y. (y .state, tt));
 }
 
 pub received-words : Unique received-words-contract.ended (λ M. received-words-contract.clauses {M = M})
 received-words = record {
-  told = received-words-reads.Learnt;
+  holds = received-words-reads.Learnt;
   says = λ M 𝓤 H A mem run. refl;
   one = λ κs a z z′ ws ws′ h h′. once h h′ (λ y. y .number) (λ y. (tt, (tt, (y .state, (tt, (tt, (tt, (y .buffer, (tt, (y .report, tt))))))))));
 }

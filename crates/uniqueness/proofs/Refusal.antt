@@ -18,49 +18,49 @@ use Rattle.refusal.proofs.Written.length.Reads as Written-length-reads
 
 pub Verdict-number : Unique Verdict-number-contract.ended (λ M. Verdict-number-contract.clauses {M = M})
 Verdict-number = record {
-  told = Verdict-number-reads.Learnt;
+  holds = Verdict-number-reads.Learnt;
   says = λ M 𝓤 H A mem run. refl;
   one = λ κs a z z′ ws ws′ h h′. (h ∙ sym h′, refl);
 }
 
 pub Verdict-offset : Unique Verdict-offset-contract.ended (λ M. Verdict-offset-contract.clauses {M = M})
 Verdict-offset = record {
-  told = Verdict-offset-reads.Learnt;
+  holds = Verdict-offset-reads.Learnt;
   says = λ M 𝓤 H A mem run. refl;
   one = λ κs a z z′ ws ws′ h h′. (h ∙ sym h′, refl);
 }
 
 pub Verdict-block-type : Unique Verdict-block-type-contract.ended (λ M. Verdict-block-type-contract.clauses {M = M})
 Verdict-block-type = record {
-  told = Verdict-block-type-reads.Learnt;
+  holds = Verdict-block-type-reads.Learnt;
   says = λ M 𝓤 H A mem run. refl;
   one = λ κs a z z′ ws ws′ h h′. (h ∙ sym h′, refl);
 }
 
 pub Verdict-data-length : Unique Verdict-data-length-contract.ended (λ M. Verdict-data-length-contract.clauses {M = M})
 Verdict-data-length = record {
-  told = Verdict-data-length-reads.Learnt;
+  holds = Verdict-data-length-reads.Learnt;
   says = λ M 𝓤 H A mem run. refl;
   one = λ κs a z z′ ws ws′ h h′. (h ∙ sym h′, refl);
 }
 
 pub Written-number : Unique Written-number-contract.ended (λ M. Written-number-contract.clauses {M = M})
 Written-number = record {
-  told = Written-number-reads.Learnt;
+  holds = Written-number-reads.Learnt;
   says = λ M 𝓤 H A mem run. refl;
   one = λ κs a z z′ ws ws′ h h′. (h ∙ sym h′, refl);
 }
 
 pub Written-offset : Unique Written-offset-contract.ended (λ M. Written-offset-contract.clauses {M = M})
 Written-offset = record {
-  told = Written-offset-reads.Learnt;
+  holds = Written-offset-reads.Learnt;
   says = λ M 𝓤 H A mem run. refl;
   one = λ κs a z z′ ws ws′ h h′. (h ∙ sym h′, refl);
 }
 
 pub Written-length : Unique Written-length-contract.ended (λ M. Written-length-contract.clauses {M = M})
 Written-length = record {
-  told = Written-length-reads.Learnt;
+  holds = Written-length-reads.Learnt;
   says = λ M 𝓤 H A mem run. refl;
   one = λ κs a z z′ ws ws′ h h′. (h ∙ sym h′, refl);
 }

@@ -18,49 +18,49 @@ use Rattle.sender.proofs.submit_transaction.Reads as submit-transaction-reads
 
 pub block-read : Unique block-read-contract.ended (λ M. block-read-contract.clauses {M = M})
 block-read = record {
-  told = block-read-reads.Learnt;
+  holds = block-read-reads.Learnt;
   says = λ M 𝓤 H A mem run. refl;
   one = λ κs a z z′ ws ws′ h h′. (h ∙ sym h′, refl);
 }
 
 pub circuit-opened : Unique circuit-opened-contract.ended (λ M. circuit-opened-contract.clauses {M = M})
 circuit-opened = record {
-  told = circuit-opened-reads.Learnt;
+  holds = circuit-opened-reads.Learnt;
   says = λ M 𝓤 H A mem run. refl;
   one = λ κs a z z′ ws ws′ h h′. (h ∙ sym h′, refl);
 }
 
 pub circuit-ended : Unique circuit-ended-contract.ended (λ M. circuit-ended-contract.clauses {M = M})
 circuit-ended = record {
-  told = circuit-ended-reads.Learnt;
+  holds = circuit-ended-reads.Learnt;
   says = λ M 𝓤 H A mem run. refl;
   one = λ κs a z z′ ws ws′ h h′. (h ∙ sym h′, refl);
 }
 
 pub operator-reset : Unique operator-reset-contract.ended (λ M. operator-reset-contract.clauses {M = M})
 operator-reset = record {
-  told = operator-reset-reads.Learnt;
+  holds = operator-reset-reads.Learnt;
   says = λ M 𝓤 H A mem run. refl;
   one = λ κs a z z′ ws ws′ h h′. (h ∙ sym h′, refl);
 }
 
 pub timer-ran-out : Unique timer-ran-out-contract.ended (λ M. timer-ran-out-contract.clauses {M = M})
 timer-ran-out = record {
-  told = timer-ran-out-reads.Learnt;
+  holds = timer-ran-out-reads.Learnt;
   says = λ M 𝓤 H A mem run. refl;
   one = λ κs a z z′ ws ws′ h h′. (h ∙ sym h′, refl);
 }
 
 pub new-sender : Unique new-sender-contract.ended (λ M. new-sender-contract.clauses {M = M})
 new-sender = record {
-  told = new-sender-reads.Learnt;
+  holds = new-sender-reads.Learnt;
   says = λ M 𝓤 H A mem run. refl;
   one = λ κs a z z′ ws ws′ h h′. (h ∙ sym h′, refl);
 }
 
 pub submit-transaction : Unique submit-transaction-contract.ended (λ M. submit-transaction-contract.clauses {M = M})
 submit-transaction = record {
-  told = submit-transaction-reads.Learnt;
+  holds = submit-transaction-reads.Learnt;
   says = λ M 𝓤 H A mem run. refl;
   one = λ κs a z z′ ws ws′ h h′. (h ∙ sym h′, refl);
 }

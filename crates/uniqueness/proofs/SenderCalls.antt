@@ -19,49 +19,49 @@ use Rattle.sender_calls.proofs.submitted_words.Reads as submitted-words-reads
 
 pub fresh-sender-words : Unique fresh-sender-words-contract.ended (λ M. fresh-sender-words-contract.clauses {M = M})
 fresh-sender-words = record {
-  told = fresh-sender-words-reads.Learnt;
+  holds = fresh-sender-words-reads.Learnt;
   says = λ M 𝓤 H A mem run. refl;
   one = λ κs a z z′ ws ws′ h h′. once h h′ (λ y. y .number) (λ y. (tt, (y .state, tt)));
 }
 
 pub opened-words : Unique opened-words-contract.ended (λ M. opened-words-contract.clauses {M = M})
 opened-words = record {
-  told = opened-words-reads.Learnt;
+  holds = opened-words-reads.Learnt;
   says = λ M 𝓤 H A mem run. refl;
   one = λ κs a z z′ ws ws′ h h′. once h h′ (λ y. y .number) (λ y. (y .state, (y .report, tt)));
 }
 
 pub ended-words : Unique ended-words-contract.ended (λ M. ended-words-contract.clauses {M = M})
 ended-words = record {
-  told = ended-words-reads.Learnt;
+  holds = ended-words-reads.Learnt;
   says = λ M 𝓤 H A mem run. refl;
   one = λ κs a z z′ ws ws′ h h′. once h h′ (λ y. y .number) (λ y. (y .state, (y .report, tt)));
 }
 
 pub reset-words : Unique reset-words-contract.ended (λ M. reset-words-contract.clauses {M = M})
 reset-words = record {
-  told = reset-words-reads.Learnt;
+  holds = reset-words-reads.Learnt;
   says = λ M 𝓤 H A mem run. refl;
   one = λ κs a z z′ ws ws′ h h′. once h h′ (λ y. y .number) (λ y. (y .state, (y .report, tt)));
 }
 
 pub timer-words : Unique timer-words-contract.ended (λ M. timer-words-contract.clauses {M = M})
 timer-words = record {
-  told = timer-words-reads.Learnt;
+  holds = timer-words-reads.Learnt;
   says = λ M 𝓤 H A mem run. refl;
   one = λ κs a z z′ ws ws′ h h′. once h h′ (λ y. y .number) (λ y. (tt, (y .state, (y .report, tt))));
 }
 
 pub block-words : Unique block-words-contract.ended (λ M. block-words-contract.clauses {M = M})
 block-words = record {
-  told = block-words-reads.Learnt;
+  holds = block-words-reads.Learnt;
   says = λ M 𝓤 H A mem run. refl;
   one = λ κs a z z′ ws ws′ h h′. once h h′ (λ y. y .number) (λ y. (tt, (tt, (tt, (tt, (y .state, (y .report, tt)))))));
 }
 
 pub submitted-words : Unique submitted-words-contract.ended (λ M. submitted-words-contract.clauses {M = M})
 submitted-words = record {
-  told = submitted-words-reads.Learnt;
+  holds = submitted-words-reads.Learnt;
   says = λ M 𝓤 H A mem run. refl;
   one = λ κs a z z′ ws ws′ h h′. once h h′ (λ y. y .number) (λ y. (tt, (tt, (y .state, (y .report, tt)))));
 }

@@ -28,84 +28,84 @@ use Rattle.settings.proofs.Settings.data_offset.Reads as Settings-data-offset-r
 
 pub are-allowed : Unique are-allowed-contract.ended (λ M. are-allowed-contract.clauses {M = M})
 are-allowed = record {
-  told = are-allowed-reads.Learnt;
+  holds = are-allowed-reads.Learnt;
   says = λ M 𝓤 H A mem run. refl;
   one = λ κs a z z′ ws ws′ h h′. (h ∙ sym h′, refl);
 }
 
 pub first-forbidden : Unique first-forbidden-contract.ended (λ M. first-forbidden-contract.clauses {M = M})
 first-forbidden = record {
-  told = first-forbidden-reads.Learnt;
+  holds = first-forbidden-reads.Learnt;
   says = λ M 𝓤 H A mem run. refl;
   one = λ κs a z z′ ws ws′ h h′. (h ∙ sym h′, refl);
 }
 
 pub checksum : Unique checksum-contract.ended (λ M. checksum-contract.clauses {M = M})
 checksum = record {
-  told = checksum-reads.Learnt;
+  holds = checksum-reads.Learnt;
   says = λ M 𝓤 H A mem run. refl;
   one = λ κs a z z′ ws ws′ h h′. (h ∙ sym h′, refl);
 }
 
 pub digit-of : Unique digit-of-contract.ended (λ M. digit-of-contract.clauses {M = M})
 digit-of = record {
-  told = digit-of-reads.Learnt;
+  holds = digit-of-reads.Learnt;
   says = λ M 𝓤 H A mem run. refl;
   one = λ κs a z z′ ws ws′ h h′. (h ∙ sym h′, refl);
 }
 
 pub Settings-hybrid : Unique Settings-hybrid-contract.ended (λ M. Settings-hybrid-contract.clauses {M = M})
 Settings-hybrid = record {
-  told = Settings-hybrid-reads.Learnt;
+  holds = Settings-hybrid-reads.Learnt;
   says = λ M 𝓤 H A mem run. refl;
   one = λ κs a z z′ ws ws′ h h′. (h ∙ sym h′, refl);
 }
 
 pub Settings-minimal : Unique Settings-minimal-contract.ended (λ M. Settings-minimal-contract.clauses {M = M})
 Settings-minimal = record {
-  told = Settings-minimal-reads.Learnt;
+  holds = Settings-minimal-reads.Learnt;
   says = λ M 𝓤 H A mem run. refl;
   one = λ κs a z z′ ws ws′ h h′. (h ∙ sym h′, refl);
 }
 
 pub Settings-hybrid-link : Unique Settings-hybrid-link-contract.ended (λ M. Settings-hybrid-link-contract.clauses {M = M})
 Settings-hybrid-link = record {
-  told = Settings-hybrid-link-reads.Learnt;
+  holds = Settings-hybrid-link-reads.Learnt;
   says = λ M 𝓤 H A mem run. refl;
   one = λ κs a z z′ ws ws′ h h′. (h ∙ sym h′, refl);
 }
 
 pub Settings-minimal-link : Unique Settings-minimal-link-contract.ended (λ M. Settings-minimal-link-contract.clauses {M = M})
 Settings-minimal-link = record {
-  told = Settings-minimal-link-reads.Learnt;
+  holds = Settings-minimal-link-reads.Learnt;
   says = λ M 𝓤 H A mem run. refl;
   one = λ κs a z z′ ws ws′ h h′. (h ∙ sym h′, refl);
 }
 
 pub Settings-is-valid : Unique Settings-is-valid-contract.ended (λ M. Settings-is-valid-contract.clauses {M = M})
 Settings-is-valid = record {
-  told = Settings-is-valid-reads.Learnt;
+  holds = Settings-is-valid-reads.Learnt;
   says = λ M 𝓤 H A mem run. refl;
   one = λ κs a z z′ ws ws′ h h′. (h ∙ sym h′, refl);
 }
 
 pub Settings-is-link : Unique Settings-is-link-contract.ended (λ M. Settings-is-link-contract.clauses {M = M})
 Settings-is-link = record {
-  told = Settings-is-link-reads.Learnt;
+  holds = Settings-is-link-reads.Learnt;
   says = λ M 𝓤 H A mem run. refl;
   one = λ κs a z z′ ws ws′ h h′. (h ∙ sym h′, refl);
 }
 
 pub Settings-is-link-limit : Unique Settings-is-link-limit-contract.ended (λ M. Settings-is-link-limit-contract.clauses {M = M})
 Settings-is-link-limit = record {
-  told = Settings-is-link-limit-reads.Learnt;
+  holds = Settings-is-link-limit-reads.Learnt;
   says = λ M 𝓤 H A mem run. refl;
   one = λ κs a z z′ ws ws′ h h′. (h ∙ sym h′, refl);
 }
 
 pub Settings-data-offset : Unique Settings-data-offset-contract.ended (λ M. Settings-data-offset-contract.clauses {M = M})
 Settings-data-offset = record {
-  told = Settings-data-offset-reads.Learnt;
+  holds = Settings-data-offset-reads.Learnt;
   says = λ M 𝓤 H A mem run. refl;
   one = λ κs a z z′ ws ws′ h h′. (h ∙ sym h′, refl);
 }

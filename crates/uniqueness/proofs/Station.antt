@@ -13,28 +13,28 @@ use Rattle.station.proofs.station_opened.Reads as station-opened-reads
 
 pub good-block : Unique good-block-contract.ended (λ M. good-block-contract.clauses {M = M})
 good-block = record {
-  told = good-block-reads.Learnt;
+  holds = good-block-reads.Learnt;
   says = λ M 𝓤 H A mem run. refl;
   one = λ κs a z z′ ws ws′ h h′. once h h′ (λ y. y .answer) (λ y. (tt, (tt, (tt, (tt, (y .buffer, tt))))));
 }
 
 pub bad-block : Unique bad-block-contract.ended (λ M. bad-block-contract.clauses {M = M})
 bad-block = record {
-  told = bad-block-reads.Learnt;
+  holds = bad-block-reads.Learnt;
   says = λ M 𝓤 H A mem run. refl;
   one = λ κs a z z′ ws ws′ h h′. (h ∙ sym h′, refl);
 }
 
 pub end-of-transmission : Unique end-of-transmission-contract.ended (λ M. end-of-transmission-contract.clauses {M = M})
 end-of-transmission = record {
-  told = end-of-transmission-reads.Learnt;
+  holds = end-of-transmission-reads.Learnt;
   says = λ M 𝓤 H A mem run. refl;
   one = λ κs a z z′ ws ws′ h h′. (h ∙ sym h′, refl);
 }
 
 pub station-opened : Unique station-opened-contract.ended (λ M. station-opened-contract.clauses {M = M})
 station-opened = record {
-  told = station-opened-reads.Learnt;
+  holds = station-opened-reads.Learnt;
   says = λ M 𝓤 H A mem run. refl;
   one = λ κs a z z′ ws ws′ h h′. (h ∙ sym h′, refl);
 }

@@ -15,35 +15,35 @@ use Rattle.station_calls.proofs.block_words.Reads as block-words-reads
 
 pub fresh-station-words : Unique fresh-station-words-contract.ended (λ M. fresh-station-words-contract.clauses {M = M})
 fresh-station-words = record {
-  told = fresh-station-words-reads.Learnt;
+  holds = fresh-station-words-reads.Learnt;
   says = λ M 𝓤 H A mem run. refl;
   one = λ κs a z z′ ws ws′ h h′. once h h′ (λ y. y .number) (λ y. (y .state, tt));
 }
 
 pub opened-words : Unique opened-words-contract.ended (λ M. opened-words-contract.clauses {M = M})
 opened-words = record {
-  told = opened-words-reads.Learnt;
+  holds = opened-words-reads.Learnt;
   says = λ M 𝓤 H A mem run. refl;
   one = λ κs a z z′ ws ws′ h h′. once h h′ (λ y. y .number) (λ y. (y .state, (y .report, tt)));
 }
 
 pub bad-words : Unique bad-words-contract.ended (λ M. bad-words-contract.clauses {M = M})
 bad-words = record {
-  told = bad-words-reads.Learnt;
+  holds = bad-words-reads.Learnt;
   says = λ M 𝓤 H A mem run. refl;
   one = λ κs a z z′ ws ws′ h h′. once h h′ (λ y. y .number) (λ y. (y .state, (y .report, tt)));
 }
 
 pub end-words : Unique end-words-contract.ended (λ M. end-words-contract.clauses {M = M})
 end-words = record {
-  told = end-words-reads.Learnt;
+  holds = end-words-reads.Learnt;
   says = λ M 𝓤 H A mem run. refl;
   one = λ κs a z z′ ws ws′ h h′. once h h′ (λ y. y .number) (λ y. (y .state, (y .report, tt)));
 }
 
 pub block-words : Unique block-words-contract.ended (λ M. block-words-contract.clauses {M = M})
 block-words = record {
-  told = block-words-reads.Learnt;
+  holds = block-words-reads.Learnt;
   says = λ M 𝓤 H A mem run. refl;
   one = λ κs a z z′ ws ws′ h h′. once h h′ (λ y. y .number) (λ y. (tt, (tt, (tt, (y .buffer, (y .state, (y .report, tt)))))));
 }

@@ -9,14 +9,14 @@ use Rattle.stream.proofs.read.Reads as read-reads
 
 pub Reader-new : Unique Reader-new-contract.ended (λ M. Reader-new-contract.clauses {M = M})
 Reader-new = record {
-  told = Reader-new-reads.Learnt;
+  holds = Reader-new-reads.Learnt;
   says = λ M 𝓤 H A mem run. refl;
   one = λ κs a z z′ ws ws′ h h′. (h ∙ sym h′, refl);
 }
 
 pub read : Unique read-contract.ended (λ M. read-contract.clauses {M = M})
 read = record {
-  told = read-reads.Learnt;
+  holds = read-reads.Learnt;
   says = λ M 𝓤 H A mem run. refl;
   one = λ κs a z z′ ws ws′ h h′. once h h′ (λ y. y .answer) (λ y. (tt, (tt, (tt, (y .buffer, tt)))));
 }

@@ -8,14 +8,14 @@ use Rattle.whole_block.proofs.check_block.Reads as check-block-reads
 
 pub judge-whole : Unique judge-whole-contract.ended (λ M. judge-whole-contract.clauses {M = M})
 judge-whole = record {
-  told = judge-whole-reads.Learnt;
+  holds = judge-whole-reads.Learnt;
   says = λ M 𝓤 H A mem run. refl;
   one = λ κs a z z′ ws ws′ h h′. (h ∙ sym h′, refl);
 }
 
 pub check-block : Unique check-block-contract.ended (λ M. check-block-contract.clauses {M = M})
 check-block = record {
-  told = check-block-reads.Learnt;
+  holds = check-block-reads.Learnt;
   says = λ M 𝓤 H A mem run. refl;
   one = λ κs a z z′ ws ws′ h h′. (h ∙ sym h′, refl);
 }

@@ -13,28 +13,28 @@ use Rattle.words.proofs.verdict_from.Reads as verdict-from-reads
 
 pub write-report : Unique write-report-contract.ended (λ M. write-report-contract.clauses {M = M})
 write-report = record {
-  told = write-report-reads.Learnt;
+  holds = write-report-reads.Learnt;
   says = λ M 𝓤 H A mem run. refl;
   one = λ κs a z z′ ws ws′ h h′. once h h′ (λ y. tt) (λ y. (y, (tt, (tt, tt))));
 }
 
 pub report-written : Unique report-written-contract.ended (λ M. report-written-contract.clauses {M = M})
 report-written = record {
-  told = report-written-reads.Learnt;
+  holds = report-written-reads.Learnt;
   says = λ M 𝓤 H A mem run. refl;
   one = λ κs a z z′ ws ws′ h h′. once h h′ (λ y. y .number) (λ y. (tt, (y .report, tt)));
 }
 
 pub type-byte : Unique type-byte-contract.ended (λ M. type-byte-contract.clauses {M = M})
 type-byte = record {
-  told = type-byte-reads.Learnt;
+  holds = type-byte-reads.Learnt;
   says = λ M 𝓤 H A mem run. refl;
   one = λ κs a z z′ ws ws′ h h′. (h ∙ sym h′, refl);
 }
 
 pub verdict-from : Unique verdict-from-contract.ended (λ M. verdict-from-contract.clauses {M = M})
 verdict-from = record {
-  told = verdict-from-reads.Learnt;
+  holds = verdict-from-reads.Learnt;
   says = λ M 𝓤 H A mem run. refl;
   one = λ κs a z z′ ws ws′ h h′. (h ∙ sym h′, refl);
 }

@@ -9,14 +9,14 @@ use Rattle.writer.proofs.write.Reads as write-reads
 
 pub frame : Unique frame-contract.ended (λ M. frame-contract.clauses {M = M})
 frame = record {
-  told = frame-reads.Learnt;
+  holds = frame-reads.Learnt;
   says = λ M 𝓤 H A mem run. refl;
   one = λ κs a z z′ ws ws′ h h′. once h h′ (λ y. y .answer) (λ y. (tt, (tt, (tt, (y .buffer, (tt, tt))))));
 }
 
 pub write : Unique write-contract.ended (λ M. write-contract.clauses {M = M})
 write = record {
-  told = write-reads.Learnt;
+  holds = write-reads.Learnt;
   says = λ M 𝓤 H A mem run. refl;
   one = λ κs a z z′ ws ws′ h h′. once h h′ (λ y. y .answer) (λ y. (tt, (tt, (tt, (y .buffer, (tt, tt))))));
 }

@@ -17,28 +17,28 @@ abbrev pub Contract : Ended → Type 2
 Contract T = (M : Type 1) (𝓤 : URA M) (H : Heap 𝓤) → Atoms 𝓤 → (Memory → SProp 𝓤) → (Routine → Fun 𝓤) → Clauses 𝓤 T
 
 -- what a contract can say: a fact of the arguments, the result and the parameters at exit
-abbrev pub Told : Ended → Type 1
-Told T = (κs : Lfts (T .signature .lifetimes)) → Args (T .signature) κs → Res (T .signature) κs → AtExit T κs → Type 0
+abbrev pub Postcondition : Ended → Type 1
+Postcondition T = (κs : Lfts (T .signature .lifetimes)) → Args (T .signature) κs → Res (T .signature) κs → AtExit T κs → Type 0
 
--- a contract that asks nothing of the caller, so that every input is one, and tells this fact
-abbrev pub plainly : {M : Type 1} (𝓤 : URA M) (T : Ended) → Told T → Clauses 𝓤 T
-plainly 𝓤 T told κs a = record { ghost = Unit {0}; requires = λ g. emp 𝓤; ensures = λ g z e. fact 𝓤 (told κs a z e) }
+-- a contract that asks nothing of the caller, so that every input is one, and ensures this fact
+abbrev pub plainly : {M : Type 1} (𝓤 : URA M) (T : Ended) → Postcondition T → Clauses 𝓤 T
+plainly 𝓤 T holds κs a = record { ghost = Unit {0}; requires = λ g. emp 𝓤; ensures = λ g z e. fact 𝓤 (holds κs a z e) }
 
 -- the contract as it is written is that one, and says nothing else
-abbrev pub Says : (T : Ended) → Contract T → Told T → Type 2
-Says T c told =
-    (M : Type 1) (𝓤 : URA M) (H : Heap 𝓤) (A : Atoms 𝓤) (mem : Memory → SProp 𝓤) (run : Routine → Fun 𝓤) → c M 𝓤 H A mem run ≡ plainly 𝓤 T told
+abbrev pub Says : (T : Ended) → Contract T → Postcondition T → Type 2
+Says T c holds =
+    (M : Type 1) (𝓤 : URA M) (H : Heap 𝓤) (A : Atoms 𝓤) (mem : Memory → SProp 𝓤) (run : Routine → Fun 𝓤) → c M 𝓤 H A mem run ≡ plainly 𝓤 T holds
 
 -- Two outcomes of one call that the promise allows are the same. Lent memory is what of the parameters can have changed: ws and ws′ are its contents at exit.
 pub record Unique (T : Ended) (c : Contract T) : Type 2 where
-  pub told : Told T
-  pub says : Says T c told
+  pub holds : Postcondition T
+  pub says : Says T c holds
   pub one :
-      (κs : Lfts (T .signature .lifetimes)) (a : Args (T .signature) κs) (z z′ : Res (T .signature) κs) (ws ws′ : Lasts T κs a) → told κs a z (atExit T κs a ws) → told κs a z′ (atExit T κs a ws′) → (z ≡ z′) × (ws ≡ ws′)
+      (κs : Lfts (T .signature .lifetimes)) (a : Args (T .signature) κs) (z z′ : Res (T .signature) κs) (ws ws′ : Lasts T κs a) → holds κs a z (atExit T κs a ws) → holds κs a z′ (atExit T κs a ws′) → (z ≡ z′) × (ws ≡ ws′)
 
 -- The exceptions hand back a part of what was lent: of their result this is said of what `content` sees of it, and not of its address.
 pub record UniqueContent (T : Ended) (c : Contract T) (X : Type 0) (content : (κs : Lfts (T .signature .lifetimes)) → Res (T .signature) κs → X) : Type 2 where
-  pub told : Told T
-  pub says : Says T c told
+  pub holds : Postcondition T
+  pub says : Says T c holds
   pub one :
-      (κs : Lfts (T .signature .lifetimes)) (a : Args (T .signature) κs) (z z′ : Res (T .signature) κs) (ws ws′ : Lasts T κs a) → told κs a z (atExit T κs a ws) → told κs a z′ (atExit T κs a ws′) → (content κs z ≡ content κs z′) × (ws ≡ ws′)
+      (κs : Lfts (T .signature .lifetimes)) (a : Args (T .signature) κs) (z z′ : Res (T .signature) κs) (ws ws′ : Lasts T κs a) → holds κs a z (atExit T κs a ws) → holds κs a z′ (atExit T κs a ws′) → (content κs z ≡ content κs z′) × (ws ≡ ws′)

@@ -1,4 +1,4 @@
--- What the contracts of the writer's private functions cite. Nobody needs to believe these: the public functions' contracts cite Write alone.
+-- What the contracts of the writer's private functions cite. Nobody needs to believe these: of the writer's definitions the public functions' contracts cite Write alone.
 use mathlib.Core.List.{List, [], _∷_, _++_}
 use Prim.Native.Nat.{ℕ}
 use Rattle.block.specs.Format.{version, fiveDigits, threeDigits}

@@ -11,6 +11,7 @@ use Rattle.settings.specs.Settings.{byKind, valid}
 use Rattle.block.specs.Judge.{typeMatches}
 use Rattle.settings.specs.declared.Kind.{Kind}
 use Rattle.settings.specs.declared.Settings.{Settings}
+use Rattle.refusal.specs.Refusal.{SETTING, TOO-SHORT, BYTE, LONG, SHAPE}
 use Rattle.refusal.specs.declared.Written.{Written}
 use Rattle.refusal.specs.declared.Written.the-variants.{Done, Refused}
 use Rattle.lists.specs.Outcome.{need, Outcome, outcome}
@@ -38,12 +39,12 @@ wrote b start block = outcome (Done (length block)) (put b start block)
 -- the block of type t with data d, written into b from the place on: 2, then "any other act 4, 5, 3"
 unfoldable pub frameOf : Settings → ℕ → List ℕ → ℕ → List ℕ → Outcome Written
 frameOf s t d start b =
-    need (leb (start + needOf s d) (length b)) (refused 2 0 b)
-    (need (leb (length d) (s .«data_limit»)) (refused 4 0 b)
-    (need (typeValid (s .kind) t d) (refused 5 0 b)
-    (need (allAllowed d) (refused 3 (firstForbidden d) b)
+    need (leb (start + needOf s d) (length b)) (refused TOO-SHORT 0 b)
+    (need (leb (length d) (s .«data_limit»)) (refused LONG 0 b)
+    (need (typeValid (s .kind) t d) (refused SHAPE 0 b)
+    (need (allAllowed d) (refused BYTE (firstForbidden d) b)
     (wrote b start (blockOf s t d)))))
 
 -- "every act first 1"
 unfoldable pub writeOf : Settings → ℕ → List ℕ → ℕ → List ℕ → Outcome Written
-writeOf s t d start b = need (valid s) (refused 1 0 b) (frameOf s t d start b)
+writeOf s t d start b = need (valid s) (refused SETTING 0 b) (frameOf s t d start b)
