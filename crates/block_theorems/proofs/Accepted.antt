@@ -9,7 +9,7 @@ use lib.ListN.{length, take, drop, getD, take-append-drop}
 use lib.Seq.{drop-drop}
 use lib.Dec.{eqb, leb, ltb}
 use borrow.Author.Tests.{eqb-true, leb-true, ltb-false}
-use Rattle.lists.proofs.Tests.{and-left, and-right}
+use Rattle.lists.proofs.Same.{same-is}
 use Rattle.settings.specs.DataBytes.{allAllowed, firstForbidden}
 use Rattle.block.specs.Format.{version, threeDigits, countField, checksumOf, hybridBody}
 use Rattle.settings.specs.Settings.{byKind, valid, capacityOf}
@@ -26,16 +26,6 @@ use Rattle.block_theorems.proofs.RoundTrip.{Good, hybrid-good, minimal-
 use Rattle.block_theorems.proofs.Judging.{length-three, length-body, judge-body, sum-computed, sum-passes}
 use Rattle.block_theorems.specs.Shapes.{Formatted, Body, hybrid, minimal, Found, Accepts, Closed}
 
-same-equal : (l m : List ℕ) → same l m ≡ true → l ≡ m
-unfolding same
-same-equal [] [] e = refl
-same-equal [] (y ∷ m) e = absurd (false≢true e)
-same-equal (x ∷ l) [] e = absurd (false≢true e)
-same-equal (x ∷ l) (y ∷ m) e =
-    let p : x ≡ y = eqb-true x y (and-left (eqb x y) (same l m) e) in
-    let q : l ≡ m = same-equal l m (and-right (eqb x y) (same l m) e) in
-    rw (p, q)
-
 -- what the tests of the judge have shown where it accepts
 record Passed (sb t : ℕ) (d c x : List ℕ) (u n : ℕ) : Type 0 where
   type : typeMatches t d ≡ true
@@ -51,8 +41,8 @@ either-sum sb t d x = go (same x (bytes "999")) (same x (threeDigits (checksumOf
   where
     go : (p q : Bool) → same x (bytes "999") ≡ p → same x (threeDigits (checksumOf sb t d)) ≡ q → (p || q) ≡ true
         → (x ≡ bytes "999") ⊎ (x ≡ threeDigits (checksumOf sb t d))
-    go true q e f h = inl (same-equal x (bytes "999") e)
-    go false true e f h = inr (same-equal x (threeDigits (checksumOf sb t d)) f)
+    go true q e f h = inl (same-is x (bytes "999") e)
+    go false true e f h = inr (same-is x (threeDigits (checksumOf sb t d)) f)
     go false false e f h = absurd (false≢true h)
 
 passed : (sb t : ℕ) (d c x : List ℕ) (u n : ℕ) → judgeParts sb t d c x ≡ Accepted u n → Passed sb t d c x u n
@@ -70,7 +60,7 @@ passed sb t d c x u n = go (typeMatches t d) (allAllowed d) (same c (countField 
         record {
           type = e₁;
           allowed = e₂;
-          count = same-equal c (countField d) e₃;
+          count = same-is c (countField d) e₃;
           sum = either-sum sb t d x e₄;
           kind = ap typeOf h;
           size = sym (ap lengthOf h);
@@ -100,7 +90,7 @@ fields body h v =
     let j : 4 + (m + 5) ≡ length body - 3 = omega arith in
     let p : drop m (drop 4 body) ≡ drop (length body - 8) body = drop-drop m 4 body ∙ ap (λ (i : ℕ). drop i body) i in
     let q : drop (m + 5) (drop 4 body) ≡ drop (length body - 3) body = drop-drop (m + 5) 4 body ∙ ap (λ (i : ℕ). drop i body) j in
-    let f : take 4 body ≡ getD body 0 0 ∷ version = four-bytes body (omega arith) ∙ ap (λ (l : List ℕ). getD body 0 0 ∷ l) (same-equal (take 3 (drop 1 body)) version v) in
+    let f : take 4 body ≡ getD body 0 0 ∷ version = four-bytes body (omega arith) ∙ ap (λ (l : List ℕ). getD body 0 0 ∷ l) (same-is (take 3 (drop 1 body)) version v) in
     glue body (getD body 0 0 ∷ version) (drop 4 body) (take m (drop 4 body)) (take 5 (drop m (drop 4 body))) (drop (m + 5) (drop 4 body))
     (take 5 (drop (length body - 8) body)) (drop (length body - 3) body)
     (sym (take-append-drop 4 body) ∙ ap (λ (l : List ℕ). l ++ drop 4 body) f) (three-pieces (drop 4 body) m) (ap (λ (l : List ℕ). take 5 l) p) q

@@ -10,6 +10,7 @@ use lib.ListN.{length, take, set, length-set, length-append}
 use lib.Seq.{take-suc-set, take-append-le, take-at}
 use lib.Dec.{eqb, ltb}
 use borrow.Author.Tests.{lt-ltb, le-ltb, ltb-true, ltb-false}
+use Rattle.lists.specs.Bytes.{greatestWord}
 use Rattle.lists.proofs.Tests.{cond-ind}
 use Rattle.settings.specs.Settings.{valid, capacityOf, dataOffsetOf}
 use Rattle.refusal.specs.Refusal.{lengthOf}
@@ -241,7 +242,7 @@ fold-reaches g (x ∷ xs) k m r b h =
     goes-on g k x m b xs (λ q c. fold-reaches g xs (k + 1) (move g k m x .mode) q c) (step g Pending r b x) (step-follows g k x m r b h)
 
 -- what a caller gets: as many bytes used as were read
-pub read-reaches : (g : Settings) (k : ℕ) (m : Mode) (r : Reader) (xs b : List ℕ) → valid g ≡ true → k + length xs ≤ 18446744073709551615 → Stands g k m r b
+pub read-reaches : (g : Settings) (k : ℕ) (m : Mode) (r : Reader) (xs b : List ℕ) → valid g ≡ true → k + length xs ≤ greatestWord → Stands g k m r b
     → Reaches g k m b xs (readOf g r xs b .answer .used) (readOf g r xs b .answer .answer) (readOf g r xs b .answer .reader) (readOf g r xs b .buffer)
 read-reaches g k m r xs b e l h =
     let t = fold g (record { answer = Pending; reader = r; buffer = b }) xs in

@@ -9,7 +9,7 @@ use native.Mathlib.Omega.{arith}
 use lib.ListN.{length, length-append}
 use lib.Seq.{append-snoc, take-length}
 use lib.Dec.{eqb, ltb}
-use borrow.Author.Tests.{eq-eqb, eqb-true}
+use borrow.Author.Tests.{eqb-true}
 use Rattle.lists.proofs.Tests.{cond-ind}
 use Rattle.settings.specs.Settings.{byKind, valid, capacityOf}
 use Rattle.settings.specs.DataBytes.{allAllowed}
@@ -22,7 +22,7 @@ use Rattle.refusal.specs.Refusal.{numberOf}
 use Rattle.settings.specs.declared.Settings.{Settings}
 use Rattle.refusal.specs.declared.Verdict.{Verdict}
 use Rattle.refusal.specs.declared.Verdict.the-variants.{Accepted, Refused}
-use Rattle.stream.proofs.Run.{run-append}
+use Rattle.stream.proofs.Run.{opens, run-append}
 use Rattle.stream.specs.Stream.{Judged, verdicts, Mode, between, inside, ended, Moved, moved, judged, endVerdict, move, run, after}
 use Rattle.block.specs.Content.{contentOf}
 use Rattle.block_theorems.proofs.Accepted.{outcome-sound, body-good}
@@ -32,16 +32,9 @@ use Rattle.block_theorems.specs.Shapes.{framed, accepted, Body, hybrid, 
 
 -- ---- what stands there is accepted
 module _ (g : Settings) where
-  -- "An SB inside a block ends it as cut, and starts the next": SB opens a block wherever the reader stands
-  opens : (k : ℕ) (m : Mode) → move g k m (g .«start_block») .mode ≡ inside k []
-  unfolding move
-  opens k between = rw (eq-eqb (g .«start_block») (g .«start_block») refl)
-  opens k (inside s body) = rw (eq-eqb (g .«start_block») (g .«start_block») refl)
-  opens k (ended s body) = rw (eq-eqb (g .«start_block») (g .«start_block») refl)
-
   run-opens : (k : ℕ) (m : Mode) (ys : List ℕ) → run g k m (g .«start_block» ∷ ys) ≡ move g k m (g .«start_block») .says ++ run g (k + 1) (inside k []) ys
   unfolding run
-  run-opens k m ys = rw (opens k m)
+  run-opens k m ys = rw (opens g k m)
 
   silent : (k x : ℕ) → move g k between x .says ≡ []
   unfolding move

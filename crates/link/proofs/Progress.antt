@@ -46,7 +46,7 @@ use Rattle.link.specs.Promise.{Logged, Ready}
 use Rattle.link.proofs.Facts.{not-both}
 use Rattle.link.proofs.SenderValid.{numbers-of, WaitsRight, right-from, right-valid}
 use Rattle.link.proofs.Messages.{Nameable, minus, query, transaction, link-valid, link-limit}
-use Rattle.link.proofs.Texts.{same-all}
+use Rattle.lists.proofs.Same.{same-self}
 use Rattle.link.proofs.RequestsRead.{number-answerable, unknown-row, next-row}
 use Rattle.link.proofs.Runs.{Reaches, stay, act, join, to}
 use Rattle.link.proofs.Exchange.{resting, sendingAt, quietAt, Comes, exchange}
@@ -75,7 +75,7 @@ module _ (l : Link) (rd : Ready l) where
 
     takes : (isNumber (p .last + 1) (numberField greatestSent (bytesOf (sequenceField message) message))
         && same (bytesOf (controlIdField message) message) (textOf (Number (p .last + 1)))) ≡ true
-    takes = rw (logged .reads .number-read, eq-eqb (p .last + 1) (p .last + 1) refl, logged .reads .id-read) (same-all (textOf (Number (p .last + 1))))
+    takes = rw (logged .reads .number-read, eq-eqb (p .last + 1) (p .last + 1) refl, logged .reads .id-read) (same-self (textOf (Number (p .last + 1))))
 
     pub submit-is : submitOf (l .settings .«data_limit») (afterCrash p) message ≡ acted (afterCrash (submitted p)) Nothing NoEvent
     unfolding submitOf

@@ -1,7 +1,7 @@
 -- Laws of the scan: a stretch without SB or EB, and what stands where it stops.
 use mathlib.Core.Path.{_≡_, refl, sym, ap, _∙_}
 use mathlib.Core.List.{List, [], _∷_}
-use mathlib.Core.Bool.{Bool, true, false, cond, _||_, true≢false}
+use mathlib.Core.Bool.{true, false, cond, _||_}
 use Prim.Native.Nat.{ℕ, suc, _+_, _≤_, _<_, max, _-_}
 use native.Mathlib.Nat.{add-zero, add-assoc, max-eq-left, max-eq-right}
 use native.Mathlib.Decide.{decLe}
@@ -10,7 +10,7 @@ use lib.ListN.{length, take, drop, getD, set, length-set}
 use lib.Seq.{drop-drop, take-nil}
 use lib.Dec.{eqb, ltb, leb}
 use borrow.Author.Tests.{eq-eqb, ne-eqb, lt-ltb, le-ltb, le-leb, lt-leb, ltb-true, ltb-false, leb-true, leb-false}
-use Rattle.lists.proofs.Tests.{cond-ind}
+use Rattle.lists.proofs.Tests.{or-left, or-right, cond-ind}
 use Rattle.lists.proofs.Parts.{drop-more, drop-none}
 use Rattle.lists.proofs.Put.{put-none, put-set}
 use Rattle.lists.specs.Bytes.{clear}
@@ -79,14 +79,6 @@ max-more n m c h = go (decLe n m)
     go (yes l) = rw (max-eq-right l) h
     go (no l) = rw (max-eq-left {n = n} {m = m} (omega arith)) (omega arith)
 
-pub or-first : (a b : Bool) → (a || b) ≡ false → a ≡ false
-or-first true b e = e
-or-first false b e = refl
-
-pub or-second : (a b : Bool) → (a || b) ≡ false → b ≡ false
-or-second true b e = absurd (true≢false e)
-or-second false b e = e
-
 -- ---- stretches
 module _ (g : Settings) where
   fold-same : (p : Phase) (n m s k j : ℕ) (b d l : List ℕ) → n ≡ m → k ≡ j → b ≡ d
@@ -109,7 +101,7 @@ module _ (g : Settings) where
       (λ (c : ℕ). fold g (scan Pending Between n s k b) (x ∷ xs) ≡ fold g (scan Pending Between n s (k + c) b) (drop c (x ∷ xs)))
       (eqb x (g .«start_block») || eqb x (g .«start_block»)) 0 (suc (clear (g .«start_block») (g .«start_block») xs))
       (λ e. fold-same Between n n s k (k + 0) b b (x ∷ xs) refl (sym (add-zero k)) refl)
-      (λ e. skipped x xs b n s k (or-first _ _ e) ∙ ih ∙ fold-same Between n n s (k + 1 + clear (g .«start_block») (g .«start_block») xs) (k + suc (clear (g .«start_block») (g .«start_block») xs)) b b _ refl (omega arith) refl)
+      (λ e. skipped x xs b n s k (or-left _ _ e) ∙ ih ∙ fold-same Between n n s (k + 1 + clear (g .«start_block») (g .«start_block») xs) (k + suc (clear (g .«start_block») (g .«start_block») xs)) b b _ refl (omega arith) refl)
 
   -- one byte inside a block that is neither SB nor EB
   kept : (x : ℕ) (xs b : List ℕ) (n s k : ℕ) → eqb x (g .«start_block») ≡ false → eqb x (g .«end_block») ≡ false
@@ -136,7 +128,7 @@ module _ (g : Settings) where
       (λ (m : ℕ). fold g (scan Pending Inside n s k b) (x ∷ xs) ≡ fold g (scan Pending Inside (advanced cap n m) s (k + m) (stored cap n (take m (x ∷ xs)) b)) (drop m (x ∷ xs)))
       (eqb x (g .«start_block») || eqb x (g .«end_block»)) 0 (suc c)
       (λ e. fold-same Inside n _ s k _ b _ (x ∷ xs) (sym (advanced-none cap n)) (sym (add-zero k)) (sym (stored-none cap n b)))
-      (λ e. kept x xs b n s k (or-first (eqb x (g .«start_block»)) (eqb x (g .«end_block»)) e) (or-second (eqb x (g .«start_block»)) (eqb x (g .«end_block»)) e)
+      (λ e. kept x xs b n s k (or-left (eqb x (g .«start_block»)) (eqb x (g .«end_block»)) e) (or-right (eqb x (g .«start_block»)) (eqb x (g .«end_block»)) e)
       ∙ cond-ind (λ (t : Scan). fold g t xs ≡ fold g (scan Pending Inside (advanced cap n (suc c)) s (k + suc c) (stored cap n (x ∷ take c xs) b)) (drop c xs))
       (ltb n cap) _ _
       (λ f. let lt : n < cap = ltb-true _ _ f in
