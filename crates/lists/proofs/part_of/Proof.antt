@@ -23,7 +23,10 @@ part-result-end : tie.Need-part-result-end
 part-result-end c = search needs
 
 returns-2 : tie.Need-returns-2
-returns-2 c = part-rest (c .before .before .before .args .s .now) (c .before .before .before .args .start) (c .before .before .before .args .size) (c .before .before .if1 .left) (c .before .if2 .taken)
+returns-2 c =
+    let at-if1 = c .before .before in
+    let a = at-if1 .before .args in
+    part-rest (a .s .now) (a .start) (a .size) (at-if1 .if1 .left) (c .before .if2 .taken)
 
 add-result : tie.Need-add-result
 add-result c = search needs
@@ -38,7 +41,9 @@ part-result-end-2 : tie.Need-part-result-end-2
 part-result-end-2 c = search needs
 
 returns-3 : tie.Need-returns-3
-returns-3 c = part-whole (c .before .before .before .args .s .now) (c .before .before .before .args .start) (c .before .before .before .args .size)
+returns-3 c =
+    let a = c .before .before .before .args in
+    part-whole (a .s .now) (a .start) (a .size)
 
 pub part-of-spec : {M : Type 1} → statement M
 part-of-spec =

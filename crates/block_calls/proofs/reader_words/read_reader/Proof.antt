@@ -29,16 +29,37 @@ size-requires-3 : tie.Need-size-requires-3
 size-requires-3 c κs = search needs
 
 returns-2 : tie.Need-returns-2
-returns-2 c = rw (c .before .before .before .before .before .size .ensures, c .before .before .before .size2 .ensures, c .before .size3 .ensures) (decoded-between (c .before .before .before .before .before .before .before .before .before .before .args .words .now) (c .before .before .before .before .before .before .before .before .if1 .left) (c .if2 .taken))
+returns-2 c =
+    let at-size2 = c .before .before .before in
+    let at-size = at-size2 .before .before in
+    let at-if1 = at-size .before .before .before in
+    rw (at-size .size .ensures, at-size2 .size2 .ensures, c .before .size3 .ensures)
+    (decoded-between (at-if1 .before .before .args .words .now) (at-if1 .if1 .left) (c .if2 .taken))
 
 returns-3 : tie.Need-returns-3
-returns-3 c = rw (c .before .before .before .before .before .before .size .ensures, c .before .before .before .before .size2 .ensures, c .before .before .size3 .ensures) (decoded-inside (c .before .before .before .before .before .before .before .before .before .before .before .args .words .now) (c .before .before .before .before .before .before .before .before .before .if1 .left) (c .before .if2 .left) (c .if3 .taken))
+returns-3 c =
+    let at-size3 = c .before .before in
+    let at-size2 = at-size3 .before .before in
+    let at-size = at-size2 .before .before in
+    let at-if1 = at-size .before .before .before in
+    rw (at-size .size .ensures, at-size2 .size2 .ensures, at-size3 .size3 .ensures)
+    (decoded-inside (at-if1 .before .before .args .words .now) (at-if1 .if1 .left) (c .before .if2 .left) (c .if3 .taken))
 
 returns-4 : tie.Need-returns-4
-returns-4 c = rw (c .before .before .before .before .before .before .before .size .ensures, c .before .before .before .before .before .size2 .ensures, c .before .before .before .size3 .ensures) (decoded-ended (c .before .before .before .before .before .before .before .before .before .before .before .before .args .words .now) (c .before .before .before .before .before .before .before .before .before .before .if1 .left) (c .before .before .if2 .left) (c .before .if3 .left) (c .if4 .taken))
+returns-4 c =
+    let at-if2 = c .before .before in
+    let at-size3 = at-if2 .before in
+    let at-size2 = at-size3 .before .before in
+    let at-size = at-size2 .before .before in
+    let at-if1 = at-size .before .before .before in
+    rw (at-size .size .ensures, at-size2 .size2 .ensures, at-size3 .size3 .ensures)
+    (decoded-ended (at-if1 .before .before .args .words .now) (at-if1 .if1 .left) (at-if2 .if2 .left) (c .before .if3 .left) (c .if4 .taken))
 
 returns-5 : tie.Need-returns-5
-returns-5 c = decoded-unknown (c .before .before .before .before .before .before .before .before .before .before .before .before .args .words .now) (c .before .before .before .before .before .before .before .before .before .before .if1 .left) (c .before .before .if2 .left) (c .before .if3 .left) (c .if4 .left)
+returns-5 c =
+    let at-if2 = c .before .before in
+    let at-if1 = at-if2 .before .before .before .before .before .before .before .before in
+    decoded-unknown (at-if1 .before .before .args .words .now) (at-if1 .if1 .left) (at-if2 .if2 .left) (c .before .if3 .left) (c .if4 .left)
 
 pub read-reader-spec : {M : Type 1} → statement M
 read-reader-spec =

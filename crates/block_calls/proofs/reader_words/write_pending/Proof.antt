@@ -45,7 +45,8 @@ same-length c = simp length-set
 
 returns-2 : tie.Need-returns-2
 unfolding pendingWords
-returns-2 c = written-over (c .before .before .before .args .words .now) (_ ∷ _ ∷ _ ∷ _ ∷ _ ∷ _ ∷ _ ∷ _ ∷ []) (c .before .if1 .left) ∙ rw (c .word .ensures)
+returns-2 c =
+    written-over (c .before .before .before .args .words .now) (_ ∷ _ ∷ _ ∷ _ ∷ _ ∷ _ ∷ _ ∷ _ ∷ []) (c .before .if1 .left) ∙ rw (c .word .ensures)
 
 pub write-pending-spec : {M : Type 1} → statement M
 write-pending-spec =

@@ -42,7 +42,11 @@ same-length c = simp length-set
 
 returns-2 : tie.Need-returns-2
 unfolding readerWords
-returns-2 c = written-over (c .before .before .before .before .before .before .args .words .now) (_ ∷ _ ∷ _ ∷ _ ∷ []) (c .before .before .before .before .if1 .left) ∙ rw (c .before .before .before .phase-number .ensures, c .before .before .word .ensures, c .before .word2 .ensures, c .word3 .ensures)
+returns-2 c =
+    let at-word = c .before .before in
+    let at-phase-number = at-word .before in
+    let at-if1 = at-phase-number .before in
+    written-over (at-if1 .before .before .args .words .now) (_ ∷ _ ∷ _ ∷ _ ∷ []) (at-if1 .if1 .left) ∙ rw (at-phase-number .phase-number .ensures, at-word .word .ensures, c .before .word2 .ensures, c .word3 .ensures)
 
 pub write-reader-spec : {M : Type 1} → statement M
 write-reader-spec =

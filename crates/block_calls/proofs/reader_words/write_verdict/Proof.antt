@@ -75,7 +75,18 @@ same-length c = simp length-set
 
 returns-2 : tie.Need-returns-2
 unfolding verdictWords
-returns-2 c = written-over (c .before .before .before .before .before .before .before .before .before .before .before .before .before .args .words .now) (_ ∷ _ ∷ _ ∷ _ ∷ _ ∷ _ ∷ _ ∷ _ ∷ []) (c .before .before .before .before .before .before .before .before .before .before .before .if1 .left) ∙ rw (c .before .before .before .before .before .before .before .before .before .before .word .ensures, c .before .before .before .before .before .before .before .before .before .number .ensures, c .before .before .before .before .before .before .before .word2 .ensures, c .before .before .before .before .before .before .before .before .offset .ensures, c .before .before .before .before .before .byte-word .ensures, c .before .before .before .before .before .before .block-type .ensures, c .before .before .before .word3 .ensures, c .before .before .before .before .data-start .ensures, c .before .word4 .ensures, c .before .before .data-length .ensures, c .word5 .ensures)
+returns-2 c =
+    let at-data-length = c .before .before in
+    let at-word3 = at-data-length .before in
+    let at-data-start = at-word3 .before in
+    let at-byte-word = at-data-start .before in
+    let at-block-type = at-byte-word .before in
+    let at-word2 = at-block-type .before in
+    let at-offset = at-word2 .before in
+    let at-number = at-offset .before in
+    let at-word = at-number .before in
+    let at-if1 = at-word .before in
+    written-over (at-if1 .before .before .args .words .now) (_ ∷ _ ∷ _ ∷ _ ∷ _ ∷ _ ∷ _ ∷ _ ∷ []) (at-if1 .if1 .left) ∙ rw (at-word .word .ensures, at-number .number .ensures, at-word2 .word2 .ensures, at-offset .offset .ensures, at-byte-word .byte-word .ensures, at-block-type .block-type .ensures, at-word3 .word3 .ensures, at-data-start .data-start .ensures, c .before .word4 .ensures, at-data-length .data-length .ensures, c .word5 .ensures)
 
 pub write-verdict-spec : {M : Type 1} → statement M
 write-verdict-spec =
