@@ -4,14 +4,10 @@ use mathlib.Core.List.{[], _∷_}
 use native.Mathlib.Omega.{arith}
 use lib.ListN.{length-set}
 use borrow.Author.Needs.{needs}
-use Rattle.lists.proofs.Over.{few, written-over}
+use Rattle.lists.proofs.Over.{written-over}
 use Rattle.block_calls.specs.ReaderWords.{readerWords}
 use Rattle.block_calls.proofs.reader_words.write_reader.Statement.{statement}
 use Rattle.block_calls.proofs.reader_words.write_reader.Tie as tie
-
-returns : tie.Need-returns
-unfolding readerWords
-returns c = few (c .before .before .args .words .now) _ (c .if1 .taken)
 
 phase-number-requires : tie.Need-phase-number-requires
 phase-number-requires c κs = search needs
@@ -40,19 +36,19 @@ slice-write-words-4 c = simp length-set (omega arith)
 same-length : tie.Need-same-length
 same-length c = simp length-set
 
-returns-2 : tie.Need-returns-2
+returns : tie.Need-returns
 unfolding readerWords
-returns-2 c =
+returns c =
     let at-word = c .before .before in
     let at-phase-number = at-word .before in
-    let at-if1 = at-phase-number .before in
-    written-over (at-if1 .before .before .args .words .now) (_ ∷ _ ∷ _ ∷ _ ∷ []) (at-if1 .if1 .left) ∙ rw (at-phase-number .phase-number .ensures, at-word .word .ensures, c .before .word2 .ensures, c .word3 .ensures)
+    let at-start = at-phase-number .before .before in
+    written-over (at-start .args .words .now) (_ ∷ _ ∷ _ ∷ _ ∷ []) (at-start .pre)
+    ∙ rw (at-phase-number .phase-number .ensures, at-word .word .ensures, c .before .word2 .ensures, c .word3 .ensures)
 
 pub write-reader-spec : {M : Type 1} → statement M
 write-reader-spec =
     tie.close
     (tie.spec
-    returns
     phase-number-requires
     slice-write-words
     word-requires
@@ -62,4 +58,4 @@ write-reader-spec =
     word-requires-3
     slice-write-words-4
     same-length
-    returns-2)
+    returns)

@@ -4,14 +4,10 @@ use mathlib.Core.List.{[], _∷_}
 use native.Mathlib.Omega.{arith}
 use lib.ListN.{length-set}
 use borrow.Author.Needs.{needs}
-use Rattle.lists.proofs.Over.{few, written-over}
+use Rattle.lists.proofs.Over.{written-over}
 use Rattle.block_calls.specs.ReaderWords.{verdictWords}
 use Rattle.block_calls.proofs.reader_words.write_verdict.Statement.{statement}
 use Rattle.block_calls.proofs.reader_words.write_verdict.Tie as tie
-
-returns : tie.Need-returns
-unfolding verdictWords
-returns c = few (c .before .before .args .words .now) _ (c .if1 .taken)
 
 slice-write-words : tie.Need-slice-write-words
 slice-write-words c = omega arith
@@ -73,9 +69,9 @@ slice-write-words-8 c = simp length-set (omega arith)
 same-length : tie.Need-same-length
 same-length c = simp length-set
 
-returns-2 : tie.Need-returns-2
+returns : tie.Need-returns
 unfolding verdictWords
-returns-2 c =
+returns c =
     let at-data-length = c .before .before in
     let at-word3 = at-data-length .before in
     let at-data-start = at-word3 .before in
@@ -85,14 +81,26 @@ returns-2 c =
     let at-offset = at-word2 .before in
     let at-number = at-offset .before in
     let at-word = at-number .before in
-    let at-if1 = at-word .before in
-    written-over (at-if1 .before .before .args .words .now) (_ ∷ _ ∷ _ ∷ _ ∷ _ ∷ _ ∷ _ ∷ _ ∷ []) (at-if1 .if1 .left) ∙ rw (at-word .word .ensures, at-number .number .ensures, at-word2 .word2 .ensures, at-offset .offset .ensures, at-byte-word .byte-word .ensures, at-block-type .block-type .ensures, at-word3 .word3 .ensures, at-data-start .data-start .ensures, c .before .word4 .ensures, at-data-length .data-length .ensures, c .word5 .ensures)
+    let at-start = at-word .before .before in
+    written-over (at-start .args .words .now) (_ ∷ _ ∷ _ ∷ _ ∷ _ ∷ _ ∷ _ ∷ _ ∷ []) (at-start .pre)
+    ∙ rw (
+      at-word .word .ensures,
+      at-number .number .ensures,
+      at-word2 .word2 .ensures,
+      at-offset .offset .ensures,
+      at-byte-word .byte-word .ensures,
+      at-block-type .block-type .ensures,
+      at-word3 .word3 .ensures,
+      at-data-start .data-start .ensures,
+      c .before .word4 .ensures,
+      at-data-length .data-length .ensures,
+      c .word5 .ensures,
+    )
 
 pub write-verdict-spec : {M : Type 1} → statement M
 write-verdict-spec =
     tie.close
     (tie.spec
-    returns
     slice-write-words
     word-requires
     slice-write-words-2
@@ -113,4 +121,4 @@ write-verdict-spec =
     word-requires-5
     slice-write-words-8
     same-length
-    returns-2)
+    returns)
