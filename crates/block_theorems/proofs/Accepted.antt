@@ -152,7 +152,8 @@ minimal-sound g body t n k l = go (allAllowed body) refl
     go true e h = record { content = body; form = minimal k (sym (ap typeOf h)) refl e; fits = l; size = sym (ap lengthOf h) }
     go false e h = absurd (omega (arith, ap numberOf h))
 
-hybrid-sound : (g : Settings) (body : List ℕ) (t n : ℕ) → g .kind ≡ Hybrid → length body ≤ g .«data_limit» + 12 → judgeHybrid (g .«start_block») body ≡ Accepted t n → Accepts g body t n
+hybrid-sound : (g : Settings) (body : List ℕ) (t n : ℕ) → g .kind ≡ Hybrid → length body ≤ g .«data_limit» + 12
+    → judgeHybrid (g .«start_block») body ≡ Accepted t n → Accepts g body t n
 hybrid-sound g body t n k l h =
     let f = judged-sound (g .«start_block») body t n h in
     record { content = f .content; form = hybrid k (f .form); fits = omega (arith, length-formatted (g .«start_block») body t (f .content) (f .form)); size = f .size }
@@ -171,7 +172,8 @@ pub outcome-sound : (g : Settings) (body : List ℕ) (x t n : ℕ) → endVerdic
 unfolding endVerdict
 outcome-sound g body x t n = go (ltb (capacityOf g) (length body)) (eqb x 13) refl refl
   where
-    go : (p q : Bool) → ltb (capacityOf g) (length body) ≡ p → eqb x 13 ≡ q → cond p (Refused 4 0) (cond q (judge g body) (Refused 5 0)) ≡ Accepted t n → Closed g body x t n
+    go : (p q : Bool) → ltb (capacityOf g) (length body) ≡ p → eqb x 13 ≡ q
+        → cond p (Refused 4 0) (cond q (judge g body) (Refused 5 0)) ≡ Accepted t n → Closed g body x t n
     go true q e f h = absurd (omega (arith, ap numberOf h))
     go false false e f h = absurd (omega (arith, ap numberOf h))
     go false true e f h =

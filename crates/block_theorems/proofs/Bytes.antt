@@ -66,7 +66,9 @@ pub valid-apart : (g : Settings) → valid g ≡ true → Apart g
 unfolding valid
 valid-apart g = go (g .kind)
   where
-    go : (k : Kind) → byKind k (hybridValid (g .«start_block») (g .«end_block») (g .«data_limit»)) (minimalValid (g .«start_block») (g .«end_block») (g .«data_limit»)) ≡ true → Apart g
+    go : (k : Kind)
+        → byKind k (hybridValid (g .«start_block») (g .«end_block») (g .«data_limit»)) (minimalValid (g .«start_block») (g .«end_block») (g .«data_limit»)) ≡ true
+        → Apart g
     go Hybrid h =
         let sb = g .«start_block» in
         let eb = g .«end_block» in

@@ -149,14 +149,16 @@ module _ (g : Settings) (n s k x : ℕ) (b : List ℕ) (enough : capacityOf g �
   unfolding move hold
   step-inside body h =
       by-test (eqb x (g .«start_block»))
-      (λ e. rw e (record { live = found; says = ap (λ (c : List ℕ). record { offset = s; verdict = (Refused 8 0); content = c } ∷ []) (content-none g (Refused 8 0) b body refl); stands = at-start; buffer = refl }))
+      (λ e. let w = ap (λ (c : List ℕ). record { offset = s; verdict = (Refused 8 0); content = c } ∷ []) (content-none g (Refused 8 0) b body refl) in
+      rw e (record { live = found; says = w; stands = at-start; buffer = refl }))
       (λ e. by-test (eqb x (g .«end_block»))
       (λ f. rw (e, f) (record { live = pending; says = refl; stands = record { position = refl; enough = enough; related = is-ended h }; buffer = refl }))
       (λ f. rw (e, f, same-space (capacityOf g) n b body h)
       (by-test (ltb n (capacityOf g))
       (λ a. let l : n < capacityOf g = ltb-true _ _ a in
       let c = stores (capacityOf g) n x b body enough l h in
-      rw a (record { live = pending; says = refl; stands = record { position = refl; enough = simp length-set enough; related = is-inside c }; buffer = ap (λ (i : ℕ). set b i x) (same-start (capacityOf g) n b body h l) }))
+      let stored = ap (λ (i : ℕ). set b i x) (same-start (capacityOf g) n b body h l) in
+      rw a (record { live = pending; says = refl; stands = record { position = refl; enough = simp length-set enough; related = is-inside c }; buffer = stored }))
       (λ a. let l : capacityOf g ≤ n = ltb-false _ _ a in
       let c = passes (capacityOf g) n x b body l h in
       rw a (record { live = pending; says = refl; stands = record { position = refl; enough = enough; related = is-inside c }; buffer = refl })))))

@@ -154,7 +154,8 @@ module _ (g : Settings) (k : ℕ) where
       (moved [] (ended s body)) (moved [] (inside s (body ++ x ∷ []))) (λ r h v. absurd (List·Memᴰ·not-nil h)) (λ r h v. absurd (List·Memᴰ·not-nil h))) h v
   step-sound read i x t n (ended s body) w (at-ended p f e) h v = ended-sound read s x t n body p w f e (List·Memᴰ·eq-of-singleton h) v
 
-  run-cases : (i x : ℕ) (m : Mode) (xs : List ℕ) (w : Judged) → List·Memᴰ w (run g i m (x ∷ xs)) → List·Memᴰ w (move g i m x .says) ⊎ List·Memᴰ w (run g (i + 1) (move g i m x .mode) xs)
+  run-cases : (i x : ℕ) (m : Mode) (xs : List ℕ) (w : Judged) → List·Memᴰ w (run g i m (x ∷ xs))
+      → List·Memᴰ w (move g i m x .says) ⊎ List·Memᴰ w (run g (i + 1) (move g i m x .mode) xs)
   unfolding run
   run-cases i x m xs w h = List·Memᴰ·append-cases (move g i m x .says) h
 

@@ -59,5 +59,6 @@ wrote-reads-back g t d start b n e =
     let w = tested g t d start b n e in
     let h : start ≤ length b = omega (arith, w .enough) in
     let i : take n (drop start (writeOf g t d start b .buffer)) ≡ blockOf g t d =
-    ap (λ (l : List ℕ). take n (drop start l)) (w .buffer) ∙ ap (λ (m : ℕ). take m (drop start (put b start (blockOf g t d)))) (sym (w .size)) ∙ part-put b (blockOf g t d) start h in
+    ap (λ (l : List ℕ). take n (drop start l)) (w .buffer) ∙ ap (λ (m : ℕ). take m (drop start (put b start (blockOf g t d)))) (sym (w .size))
+    ∙ part-put b (blockOf g t d) start h in
     record { is = i; able = w .able; reads = rw i (reads-back g t d (w .able)) }

@@ -97,11 +97,12 @@ module _ (g : Settings) where
   skip [] b n s k = fold-same Between n n s k (k + 0) b b [] refl (sym (add-zero k)) refl
   skip (x ∷ xs) b n s k =
       let ih = skip xs b n s (k + 1) in
+      let m = clear (g .«start_block») (g .«start_block») xs in
       cond-ind
       (λ (c : ℕ). fold g (scan Pending Between n s k b) (x ∷ xs) ≡ fold g (scan Pending Between n s (k + c) b) (drop c (x ∷ xs)))
-      (eqb x (g .«start_block») || eqb x (g .«start_block»)) 0 (suc (clear (g .«start_block») (g .«start_block») xs))
+      (eqb x (g .«start_block») || eqb x (g .«start_block»)) 0 (suc m)
       (λ e. fold-same Between n n s k (k + 0) b b (x ∷ xs) refl (sym (add-zero k)) refl)
-      (λ e. skipped x xs b n s k (or-left _ _ e) ∙ ih ∙ fold-same Between n n s (k + 1 + clear (g .«start_block») (g .«start_block») xs) (k + suc (clear (g .«start_block») (g .«start_block») xs)) b b _ refl (omega arith) refl)
+      (λ e. skipped x xs b n s k (or-left _ _ e) ∙ ih ∙ fold-same Between n n s (k + 1 + m) (k + suc m) b b _ refl (omega arith) refl)
 
   -- one byte inside a block that is neither SB nor EB
   kept : (x : ℕ) (xs b : List ℕ) (n s k : ℕ) → eqb x (g .«start_block») ≡ false → eqb x (g .«end_block») ≡ false
@@ -112,11 +113,10 @@ module _ (g : Settings) where
 
   -- inside a block, up to the next SB or EB
   pub stretch : (l b : List ℕ) (n s k : ℕ) → capacityOf g ≤ length b
-      → fold g (scan Pending Inside n s k b) l
-      ≡ fold g
-      (scan Pending Inside (advanced (capacityOf g) n (clear (g .«start_block») (g .«end_block») l)) s (k + clear (g .«start_block») (g .«end_block») l)
-      (stored (capacityOf g) n (take (clear (g .«start_block») (g .«end_block») l) l) b))
-      (drop (clear (g .«start_block») (g .«end_block») l) l)
+      → let cap = capacityOf g in
+      let m = clear (g .«start_block») (g .«end_block») l in
+      fold g (scan Pending Inside n s k b) l
+      ≡ fold g (scan Pending Inside (advanced cap n m) s (k + m) (stored cap n (take m l) b)) (drop m l)
   stretch [] b n s k h =
       fold-same Inside n _ s k _ b _ [] (sym (advanced-none (capacityOf g) n)) (sym (add-zero k)) (sym (stored-none (capacityOf g) n b))
   stretch (x ∷ xs) b n s k h =
@@ -186,18 +186,19 @@ module _ (g : Settings) (xs b : List ℕ) (n s k : ℕ) where
       ∙ fold-same g Inside 0 0 (k + j) _ _ b b _ refl (add-assoc k j 1) refl
 
   pub from-stretch : (i : ℕ) → capacityOf g ≤ length b
-      → from g Inside n s k b i xs
-      ≡ from g Inside (advanced (capacityOf g) n (clear (g .«start_block») (g .«end_block») (drop i xs))) s k
-      (stored (capacityOf g) n (take (clear (g .«start_block») (g .«end_block») (drop i xs)) (drop i xs)) b)
-      (i + clear (g .«start_block») (g .«end_block») (drop i xs)) xs
+      → let cap = capacityOf g in
+      let m = clear (g .«start_block») (g .«end_block») (drop i xs) in
+      from g Inside n s k b i xs ≡ from g Inside (advanced cap n m) s k (stored cap n (take m (drop i xs)) b) (i + m) xs
   unfolding from
   from-stretch i h =
+      let cap = capacityOf g in
+      let m = clear (g .«start_block») (g .«end_block») (drop i xs) in
       stretch g (drop i xs) b n s (k + i) h
-      ∙ ap (λ (l : List ℕ). fold g (scan Pending Inside (advanced (capacityOf g) n (clear (g .«start_block») (g .«end_block») (drop i xs))) s (k + i + clear (g .«start_block») (g .«end_block») (drop i xs)) (stored (capacityOf g) n (take (clear (g .«start_block») (g .«end_block») (drop i xs)) (drop i xs)) b)) l)
-      (drop-drop (clear (g .«start_block») (g .«end_block») (drop i xs)) i xs)
-      ∙ fold-same g Inside _ _ s _ _ _ _ _ refl (add-assoc k i (clear (g .«start_block») (g .«end_block») (drop i xs))) refl
+      ∙ ap (λ (l : List ℕ). fold g (scan Pending Inside (advanced cap n m) s (k + i + m) (stored cap n (take m (drop i xs)) b)) l) (drop-drop m i xs)
+      ∙ fold-same g Inside _ _ s _ _ _ _ _ refl (add-assoc k i m) refl
 
-  pub from-interrupted : (j : ℕ) → j < length xs → getD xs j 0 ≡ g .«start_block» → from g Inside n s k b j xs ≡ scan (Found s (Refused 8 0)) Inside 0 (k + j) (k + j + 1) b
+  pub from-interrupted : (j : ℕ) → j < length xs → getD xs j 0 ≡ g .«start_block»
+      → from g Inside n s k b j xs ≡ scan (Found s (Refused 8 0)) Inside 0 (k + j) (k + j + 1) b
   from-interrupted j h e = at-offset Inside j h ∙ one-interrupts g _ (drop (j + 1) xs) b n s (k + j) (eq-eqb _ _ e)
 
   pub from-ends : (j : ℕ) → j < length xs → (getD xs j 0 ≡ g .«start_block» → ⊥) → getD xs j 0 ≡ g .«end_block»

@@ -92,7 +92,8 @@ module _ (g : Settings) (body : List ℕ) (free : hasAny (g .«start_block») (g
       ap (λ (l : List ℕ). verdicts g l) (append-assoc (g .«start_block» ∷ body) (g .«end_block» ∷ []) ys)
       ∙ reach-body (g .«end_block» ∷ ys) ∙ ends e ys
 
-pub move-interrupted : (g : Settings) (k s : ℕ) (body : List ℕ) → move g k (inside s body) (g .«start_block») ≡ record { says = judged g s (Refused 8 0) body ∷ []; mode = inside k [] }
+pub move-interrupted : (g : Settings) (k s : ℕ) (body : List ℕ)
+    → move g k (inside s body) (g .«start_block») ≡ record { says = judged g s (Refused 8 0) body ∷ []; mode = inside k [] }
 unfolding move
 move-interrupted g k s body = rw (eq-eqb (g .«start_block») (g .«start_block») refl)
 
@@ -157,22 +158,25 @@ module _ (g : Settings) (xs : List ℕ) (m : ℕ) (h : Begins g xs m) where
 
     pub check-open : 1 + m + 1 ≡ length xs → (Refused 5 0) ≡ wholeOf g xs
     check-open l =
+        let after = drop-none xs (1 + m + 1) (omega arith) in
         whole-unfinished g (g .«start_block» ∷ body ++ g .«end_block» ∷ []) (1 + length body + 1) (ended 0 body) same-block (reach-end g body free apart)
-        ∙ ap (λ (z : List ℕ). wholeOf g z) (sym (closed [] (omega arith) (drop-none xs (1 + m + 1) (omega arith)) ∙ append-nil (g .«start_block» ∷ body ++ g .«end_block» ∷ [])))
+        ∙ ap (λ (z : List ℕ). wholeOf g z) (sym (closed [] (omega arith) after ∙ append-nil (g .«start_block» ∷ body ++ g .«end_block» ∷ [])))
 
     pub check-early : 1 + m + 1 + 1 < length xs → (Refused 5 0) ≡ wholeOf g xs
     check-early l =
+        let after = drop-more xs (1 + m + 1) (omega arith) ∙ ap (λ (r : List ℕ). getD xs (1 + m + 1) 0 ∷ r) (drop-more xs (1 + m + 1 + 1) l) in
         whole-early g (g .«start_block» ∷ body ++ g .«end_block» ∷ []) (1 + length body + 1) (ended 0 body) same-block (reach-end g body free apart)
         (getD xs (1 + m + 1) 0) (getD xs (1 + m + 1 + 1) 0) (drop (1 + m + 1 + 1 + 1) xs) _ _ (move-ended g (1 + length body + 1) 0 (getD xs (1 + m + 1) 0) body)
-        ∙ ap (λ (z : List ℕ). wholeOf g z) (sym (closed _ (omega arith) (drop-more xs (1 + m + 1) (omega arith) ∙ ap (λ (r : List ℕ). getD xs (1 + m + 1) 0 ∷ r) (drop-more xs (1 + m + 1 + 1) l))))
+        ∙ ap (λ (z : List ℕ). wholeOf g z) (sym (closed _ (omega arith) after))
 
     pub check-verdict : 1 + m + 1 + 1 ≡ length xs → endVerdict g (take (1 + m - 1) (drop 1 xs)) (getD xs (1 + m + 1) 0) ≡ wholeOf g xs
     unfolding body
     check-verdict l =
+        let after = drop-more xs (1 + m + 1) (omega arith) ∙ ap (λ (r : List ℕ). getD xs (1 + m + 1) 0 ∷ r) (drop-none xs (1 + m + 1 + 1) (omega arith)) in
         ap (λ (n : ℕ). endVerdict g (take n (drop 1 xs)) (getD xs (1 + m + 1) 0)) (add-sub-cancel-left 1 m)
         ∙ whole-one g (g .«start_block» ∷ body ++ g .«end_block» ∷ []) (1 + length body + 1) (ended 0 body) same-block (reach-end g body free apart)
         (getD xs (1 + m + 1) 0) _ _ (move-ended g (1 + length body + 1) 0 (getD xs (1 + m + 1) 0) body)
-        ∙ ap (λ (z : List ℕ). wholeOf g z) (sym (closed _ (omega arith) (drop-more xs (1 + m + 1) (omega arith) ∙ ap (λ (r : List ℕ). getD xs (1 + m + 1) 0 ∷ r) (drop-none xs (1 + m + 1 + 1) (omega arith)))))
+        ∙ ap (λ (z : List ℕ). wholeOf g z) (sym (closed _ (omega arith) after))
 
 -- bytes that do not begin with SB
 pub whole-empty : (g : Settings) → (Refused 5 0) ≡ wholeOf g []

@@ -28,7 +28,8 @@ returns c =
     let a = at-find-stop .before .before .before .args in
     let e = at-find-stop .find-stop .ensures in
     reads _ _ _ _ _ _ _ (c .pending .ensures)
-    (sym (from-skip (a .settings) (a .part .now) (a .buffer .now) (a .held) (a .start) (a .position) ∙ rw (← e) (from-end (a .settings) (a .part .now) (a .buffer .now) (a .held) (a .start) (a .position) _ (at-find-stop .find-stop .result) (omega arith))))
+    (sym (from-skip (a .settings) (a .part .now) (a .buffer .now) (a .held) (a .start) (a .position)
+    ∙ rw (← e) (from-end (a .settings) (a .part .now) (a .buffer .now) (a .held) (a .start) (a .position) _ (at-find-stop .find-stop .result) (omega arith))))
     refl
 
 add-read-inside : tie.Need-add-read-inside
