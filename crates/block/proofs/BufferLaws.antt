@@ -5,8 +5,8 @@ use Prim.Native.Nat.{ℕ, _+_, _≤_, _-_}
 use native.Mathlib.Omega.{arith}
 use native.Mathlib.Decide.{decLe}
 use lib.ListN.{take, drop}
-use lib.Dec.{leb, ltb}
-use borrow.Author.Tests.{lt-ltb, le-ltb, le-leb, lt-leb}
+use lib.Dec.{ltb}
+use borrow.Author.Tests.{lt-ltb, le-ltb}
 use Rattle.settings.specs.Settings.{dataOffsetOf}
 use Rattle.settings.specs.declared.Settings.{Settings}
 use Rattle.refusal.specs.Refusal.{lengthOf}
@@ -18,14 +18,7 @@ pub content-part : (g : Settings) (v : Verdict) (b r : List ℕ) (o n : ℕ) →
 unfolding contentOf
 content-part g v b r o n e f h = h ∙ rw (e, f)
 
--- space for twelve bytes more, without a sum that could wrap
-pub leb-less : (d l n : ℕ) → n ≤ l → leb d (l - n) ≡ leb (d + n) l
-leb-less d l n h = go (decLe (d + n) l)
-  where
-    go : Dec (d + n ≤ l) → leb d (l - n) ≡ leb (d + n) l
-    go (yes e) = le-leb d (l - n) (omega arith) ∙ sym (le-leb (d + n) l e)
-    go (no e) = lt-leb d (l - n) (omega arith) ∙ sym (lt-leb (d + n) l (omega arith))
-
+-- space for n bytes more, without a sum that could wrap
 pub ltb-less : (d l n : ℕ) → n ≤ l → ltb d (l - n) ≡ ltb (d + n) l
 ltb-less d l n h = go (decLe l (d + n))
   where

@@ -6,6 +6,7 @@ use Prim.Native.Nat.{ℕ, _≤_, _<_}
 use lib.ListN.{length}
 use lib.Dec.{leb}
 use borrow.Author.Tests.{lt-leb, le-leb}
+use Rattle.lists.proofs.Calls.{withBuffer}
 use Rattle.lists.specs.Outcome.{Outcome, outcome, Called, called}
 use Rattle.stream.specs.declared.Reading.{Reading}
 use Rattle.stream.specs.declared.Answer.{Answer}
@@ -17,11 +18,8 @@ use Rattle.settings.specs.declared.Made.the-variants.{Valid, Refused as BadSett
 use Rattle.block_calls.specs.ReaderWords.{decoded}
 use Rattle.block_calls.specs.ReadCalls.{readAnswered, readFinished, readDecoded, readCall}
 
-abbrev pub withBuffer : List ℕ → Called → Called
-withBuffer c t = called (t .number) (t .state) c (t .report)
-
 pub answered : (g : Settings) (st v : List ℕ) (r : Reader) (c : List ℕ) (used : ℕ) (a : Answer)
-    → withBuffer c (readAnswered g st v r [] used a) ≡ readAnswered g st v r c used a
+    → withBuffer (readAnswered g st v r [] used a) c ≡ readAnswered g st v r c used a
 answered g st v r c used Pending = refl
 answered g st v r c used (Found s w) = refl
 answered g st v r c used (Refused n) = refl
@@ -53,4 +51,4 @@ pub read-known : (g : Settings) (st v c : List ℕ) (d : Reading) (t : Outcome R
     → called n s [] w ≡ readAnswered g st v (d .reader) [] (d .used) (d .answer) → outcome d c ≡ t
     → called n s c w ≡ readFinished g st v t
 read-known g st v c d t n s w e f =
-    ap (withBuffer c) e ∙ answered g st v (d .reader) c (d .used) (d .answer) ∙ ap (λ (z : Outcome Reading). readFinished g st v z) f
+    ap (λ (z : Called). withBuffer z c) e ∙ answered g st v (d .reader) c (d .used) (d .answer) ∙ ap (λ (z : Outcome Reading). readFinished g st v z) f

@@ -1,16 +1,12 @@
 -- The state that words encode.
 use mathlib.Core.Path.{_≡_}
 use mathlib.Core.List.{List}
-use Prim.Native.Nat.{ℕ, _≤_, _<_}
+use Prim.Native.Nat.{ℕ, _≤_}
 use lib.ListN.{length, getD}
-use borrow.Author.Tests.{eq-eqb, ne-eqb, lt-ltb, le-ltb}
+use borrow.Author.Tests.{eq-eqb, ne-eqb, le-ltb}
 use Rattle.stream.specs.declared.Phase.the-variants.{Between, Inside, Ended}
 use Rattle.block_calls.specs.ReaderWords.{decoded, withPhase}
 use Rattle.block_calls.specs.declared.Decoded.the-variants.{Unknown}
-
-pub decoded-few : (ws : List ℕ) → length ws < 4 → Unknown ≡ decoded ws
-unfolding decoded
-decoded-few ws h = rw (lt-ltb (length ws) 4 h)
 
 pub decoded-between : (ws : List ℕ) → 4 ≤ length ws → getD ws 0 0 ≡ 0 → withPhase Between ws ≡ decoded ws
 unfolding decoded

@@ -4,6 +4,8 @@ use refusal::Verdict;
 use stream::Phase;
 use stream::Reader;
 ghost use mathlib.Core.Path.{_≡_};
+ghost use Prim.Native.Nat.{_≤_};
+ghost use lib.ListN.{length};
 ghost use Rattle.lists.specs.Bytes.{over};
 ghost use Rattle.block_calls.specs.ReaderWords.{phaseNumber, readerWords, decoded, dataStart, verdictWords, pendingWords};
 
@@ -35,13 +37,11 @@ fn phase_number(phase: Phase) -> u64
     }
 }
 
-// Writes a reader's state over the first four words; nothing where there are fewer.
+// Writes a reader's state over the first four words.
 pub(crate) fn write_reader(words: &mut [u64], reader: Reader)
+    requires { ⌜ 4 ≤ length (now words) ⌝ }
     ensures { λ r. ⌜ now (words .exit) ≡ over (now (words .entry)) (readerWords reader) ⌝ }
 {
-    if words.len() < 4 {
-        return;
-    }
     let phase = reader.phase;
     words[0] = phase_number(phase);
     words[1] = word(reader.body_length);
@@ -51,11 +51,9 @@ pub(crate) fn write_reader(words: &mut [u64], reader: Reader)
 
 // The state that the words encode.
 pub(crate) fn read_reader(words: &[u64]) -> Decoded
+    requires { ⌜ 4 ≤ length (now words) ⌝ }
     ensures { λ r. ⌜ r ≡ decoded (now (words .entry)) ⌝ }
 {
-    if words.len() < 4 {
-        return Decoded::Unknown;
-    }
     let phase = words[0];
     let body_length = size(words[1]);
     let block_offset = size(words[2]);
@@ -97,7 +95,7 @@ fn data_start(offset: usize, verdict: Verdict) -> usize
     }
 }
 
-// Writes a verdict over the first eight words; nothing where there are fewer.
+// Writes a verdict over the first eight words.
 pub(crate) fn write_verdict(
     words: &mut [u64],
     start: usize,
@@ -105,11 +103,9 @@ pub(crate) fn write_verdict(
     offset: usize,
     used: usize,
 )
+    requires { ⌜ 8 ≤ length (now words) ⌝ }
     ensures { λ r. ⌜ now (words .exit) ≡ over (now (words .entry)) (verdictWords start verdict offset used) ⌝ }
 {
-    if words.len() < 8 {
-        return;
-    }
     words[0] = 1;
     words[1] = word(start);
     words[2] = verdict.number();
@@ -120,13 +116,11 @@ pub(crate) fn write_verdict(
     words[7] = word(used);
 }
 
-// Writes over the first eight words that no block ended yet; nothing where there are fewer.
+// Writes over the first eight words that no block ended yet.
 pub(crate) fn write_pending(words: &mut [u64], used: usize)
+    requires { ⌜ 8 ≤ length (now words) ⌝ }
     ensures { λ r. ⌜ now (words .exit) ≡ over (now (words .entry)) (pendingWords used) ⌝ }
 {
-    if words.len() < 8 {
-        return;
-    }
     words[0] = 0;
     words[1] = 0;
     words[2] = 0;

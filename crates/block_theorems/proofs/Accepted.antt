@@ -9,7 +9,7 @@ use lib.ListN.{length, take, drop, getD, take-append-drop}
 use lib.Seq.{drop-drop}
 use lib.Dec.{eqb, leb, ltb}
 use borrow.Author.Tests.{eqb-true, leb-true, ltb-false}
-use Rattle.lists.proofs.Tests.{and-left, and-right}
+use Rattle.lists.proofs.Same.{same-is}
 use Rattle.settings.specs.DataBytes.{allAllowed, firstForbidden}
 use Rattle.block.specs.Format.{version, threeDigits, countField, checksumOf, hybridBody}
 use Rattle.settings.specs.Settings.{byKind, valid, capacityOf}
@@ -26,16 +26,6 @@ use Rattle.block_theorems.proofs.RoundTrip.{Good, hybrid-good, minimal-
 use Rattle.block_theorems.proofs.Judging.{length-three, length-body, judge-body, sum-computed, sum-passes}
 use Rattle.block_theorems.specs.Shapes.{Formatted, Body, hybrid, minimal, Found, Accepts, Closed}
 
-same-equal : (l m : List ℕ) → same l m ≡ true → l ≡ m
-unfolding same
-same-equal [] [] e = refl
-same-equal [] (y ∷ m) e = absurd (false≢true e)
-same-equal (x ∷ l) [] e = absurd (false≢true e)
-same-equal (x ∷ l) (y ∷ m) e =
-    let p : x ≡ y = eqb-true x y (and-left (eqb x y) (same l m) e) in
-    let q : l ≡ m = same-equal l m (and-right (eqb x y) (same l m) e) in
-    rw (p, q)
-
 -- what the tests of the judge have shown where it accepts
 record Passed (sb t : ℕ) (d c x : List ℕ) (u n : ℕ) : Type 0 where
   type : typeMatches t d ≡ true
@@ -51,8 +41,8 @@ either-sum sb t d x = go (same x (bytes "999")) (same x (threeDigits (checksumOf
   where
     go : (p q : Bool) → same x (bytes "999") ≡ p → same x (threeDigits (checksumOf sb t d)) ≡ q → (p || q) ≡ true
         → (x ≡ bytes "999") ⊎ (x ≡ threeDigits (checksumOf sb t d))
-    go true q e f h = inl (same-equal x (bytes "999") e)
-    go false true e f h = inr (same-equal x (threeDigits (checksumOf sb t d)) f)
+    go true q e f h = inl (same-is x (bytes "999") e)
+    go false true e f h = inr (same-is x (threeDigits (checksumOf sb t d)) f)
     go false false e f h = absurd (false≢true h)
 
 passed : (sb t : ℕ) (d c x : List ℕ) (u n : ℕ) → judgeParts sb t d c x ≡ Accepted u n → Passed sb t d c x u n
@@ -70,7 +60,7 @@ passed sb t d c x u n = go (typeMatches t d) (allAllowed d) (same c (countField 
         record {
           type = e₁;
           allowed = e₂;
-          count = same-equal c (countField d) e₃;
+          count = same-is c (countField d) e₃;
           sum = either-sum sb t d x e₄;
           kind = ap typeOf h;
           size = sym (ap lengthOf h);
@@ -100,7 +90,7 @@ fields body h v =
     let j : 4 + (m + 5) ≡ length body - 3 = omega arith in
     let p : drop m (drop 4 body) ≡ drop (length body - 8) body = drop-drop m 4 body ∙ ap (λ (i : ℕ). drop i body) i in
     let q : drop (m + 5) (drop 4 body) ≡ drop (length body - 3) body = drop-drop (m + 5) 4 body ∙ ap (λ (i : ℕ). drop i body) j in
-    let f : take 4 body ≡ getD body 0 0 ∷ version = four-bytes body (omega arith) ∙ ap (λ (l : List ℕ). getD body 0 0 ∷ l) (same-equal (take 3 (drop 1 body)) version v) in
+    let f : take 4 body ≡ getD body 0 0 ∷ version = four-bytes body (omega arith) ∙ ap (λ (l : List ℕ). getD body 0 0 ∷ l) (same-is (take 3 (drop 1 body)) version v) in
     glue body (getD body 0 0 ∷ version) (drop 4 body) (take m (drop 4 body)) (take 5 (drop m (drop 4 body))) (drop (m + 5) (drop 4 body))
     (take 5 (drop (length body - 8) body)) (drop (length body - 3) body)
     (sym (take-append-drop 4 body) ∙ ap (λ (l : List ℕ). l ++ drop 4 body) f) (three-pieces (drop 4 body) m) (ap (λ (l : List ℕ). take 5 l) p) q
@@ -162,7 +152,8 @@ minimal-sound g body t n k l = go (allAllowed body) refl
     go true e h = record { content = body; form = minimal k (sym (ap typeOf h)) refl e; fits = l; size = sym (ap lengthOf h) }
     go false e h = absurd (omega (arith, ap numberOf h))
 
-hybrid-sound : (g : Settings) (body : List ℕ) (t n : ℕ) → g .kind ≡ Hybrid → length body ≤ g .«data_limit» + 12 → judgeHybrid (g .«start_block») body ≡ Accepted t n → Accepts g body t n
+hybrid-sound : (g : Settings) (body : List ℕ) (t n : ℕ) → g .kind ≡ Hybrid → length body ≤ g .«data_limit» + 12
+    → judgeHybrid (g .«start_block») body ≡ Accepted t n → Accepts g body t n
 hybrid-sound g body t n k l h =
     let f = judged-sound (g .«start_block») body t n h in
     record { content = f .content; form = hybrid k (f .form); fits = omega (arith, length-formatted (g .«start_block») body t (f .content) (f .form)); size = f .size }
@@ -181,7 +172,8 @@ pub outcome-sound : (g : Settings) (body : List ℕ) (x t n : ℕ) → endVerdic
 unfolding endVerdict
 outcome-sound g body x t n = go (ltb (capacityOf g) (length body)) (eqb x 13) refl refl
   where
-    go : (p q : Bool) → ltb (capacityOf g) (length body) ≡ p → eqb x 13 ≡ q → cond p (Refused 4 0) (cond q (judge g body) (Refused 5 0)) ≡ Accepted t n → Closed g body x t n
+    go : (p q : Bool) → ltb (capacityOf g) (length body) ≡ p → eqb x 13 ≡ q
+        → cond p (Refused 4 0) (cond q (judge g body) (Refused 5 0)) ≡ Accepted t n → Closed g body x t n
     go true q e f h = absurd (omega (arith, ap numberOf h))
     go false false e f h = absurd (omega (arith, ap numberOf h))
     go false true e f h =

@@ -1,50 +1,26 @@
 -- Document 01, 'Reading a stream': "The buffer holds the current block's bytes between SB and EB, as many as fit in D + 12 (minimal: D); other bytes of it are unchanged."
 use mathlib.Core.Path.{_≡_, refl, sym, ap, _∙_}
 use mathlib.Core.List.{List, [], _∷_, _++_}
-use mathlib.Core.Bool.{true, false, cond, _&&_, _||_, not}
-use Prim.Native.Nat.{ℕ, _+_, _-_, _≤_}
+use mathlib.Core.Bool.{true, false, cond, _||_}
+use Prim.Native.Nat.{ℕ, _+_, _≤_}
 use native.Mathlib.Nat.{sub-zero}
 use native.Mathlib.Omega.{arith}
 use lib.ListN.{length, take, drop, set, length-set, length-append}
 use lib.Seq.{drop-set-lt}
 use lib.Dec.{eqb, ltb}
-use borrow.Author.Tests.{eq-eqb, ne-eqb, eqb-true, eqb-false, ltb-true, ltb-false, not-true}
-use Rattle.lists.proofs.Tests.{cond-ind, and-left, and-right}
-use Rattle.lists.specs.Bytes.{hasAny, put}
-use Rattle.settings.specs.Settings.{allowed, byKind}
-use Rattle.settings.specs.Settings.{valid, limitValid, hybridValid, minimalValid, capacityOf}
-use Rattle.settings.specs.declared.Kind.{Kind}
-use Rattle.settings.specs.declared.Kind.the-variants.{Hybrid, Minimal}
+use borrow.Author.Tests.{eq-eqb, ltb-true, ltb-false}
+use Rattle.lists.proofs.Tests.{or-left, or-right, cond-ind}
+use Rattle.lists.specs.Bytes.{greatestWord, hasAny, put}
+use Rattle.settings.specs.Settings.{valid, capacityOf}
 use Rattle.settings.specs.declared.Settings.{Settings}
 use Rattle.stream.specs.Stream.{Mode, between, inside, ended, move, after, hold, held}
 use Rattle.stream.specs.Scan.{fresh}
 use Rattle.stream.specs.Internal.{stored}
-use Rattle.stream.proofs.Run.{after-append, free-after}
-use Rattle.stream.proofs.Steps.{or-first, or-second, stored-none, stored-fits, stored-over}
+use Rattle.stream.proofs.Run.{opens, grow, after-append, free-after}
+use Rattle.stream.proofs.Steps.{stored-none, stored-fits, stored-over}
 use Rattle.block_theorems.specs.Session.{session, joined}
+use Rattle.block_theorems.proofs.Bytes.{valid-apart}
 use Rattle.block_theorems.proofs.Parts.{held-append, session-buffer}
-
--- EB is not SB
-markers-differ : (g : Settings) → valid g ≡ true → eqb (g .«end_block») (g .«start_block») ≡ false
-unfolding valid
-markers-differ g = go (g .kind)
-  where
-    sb : ℕ
-    sb = g .«start_block»
-
-    eb : ℕ
-    eb = g .«end_block»
-
-    go : (q : Kind) → byKind q (hybridValid sb eb (g .«data_limit»)) (minimalValid sb eb (g .«data_limit»)) ≡ true → eqb eb sb ≡ false
-    go Hybrid h =
-        let u = and-left (not (allowed sb) && not (allowed eb) && not (eqb sb eb)) (limitValid (g .«data_limit»)) h in
-        let w = and-right (not (allowed sb) && not (allowed eb)) (not (eqb sb eb)) u in
-        ne-eqb eb sb (λ (e : eb ≡ sb). eqb-false sb eb (not-true (eqb sb eb) w) (sym e))
-    go Minimal h =
-        let u = and-left (eqb sb 11 && eqb eb 28) (limitValid (g .«data_limit»)) h in
-        let v : sb ≡ 11 = eqb-true sb 11 (and-left (eqb sb 11) (eqb eb 28) u) in
-        let w : eb ≡ 28 = eqb-true eb 28 (and-right (eqb sb 11) (eqb eb 28) u) in
-        rw (v, w)
 
 hold-length : (g : Settings) (m : Mode) (b : List ℕ) (x : ℕ) → length (hold g m b x) ≡ length b
 unfolding hold
@@ -83,12 +59,6 @@ module _ (g : Settings) where
   held-none k m b = refl
 
   -- ---- SB starts a block from any place, and is not stored
-  starts : (k : ℕ) (m : Mode) → move g k m (g .«start_block») .mode ≡ inside k []
-  unfolding move
-  starts k between = rw (eq-eqb (g .«start_block») (g .«start_block») refl)
-  starts k (inside s body) = rw (eq-eqb (g .«start_block») (g .«start_block») refl)
-  starts k (ended s body) = rw (eq-eqb (g .«start_block») (g .«start_block») refl)
-
   not-stored : (m : Mode) (b : List ℕ) → hold g m b (g .«start_block») ≡ b
   unfolding hold
   not-stored between b = refl
@@ -97,14 +67,9 @@ module _ (g : Settings) where
 
   held-start : (k : ℕ) (m : Mode) (b xs : List ℕ) → held g k m b (g .«start_block» ∷ xs) ≡ held g (k + 1) (inside k []) b xs
   unfolding held
-  held-start k m b xs = rw (starts k m, not-stored m b)
+  held-start k m b xs = rw (opens g k m, not-stored m b)
 
   -- ---- a byte of a block, neither SB nor EB
-  grows : (k s x : ℕ) (body : List ℕ) → eqb x (g .«start_block») ≡ false → eqb x (g .«end_block») ≡ false
-      → move g k (inside s body) x .mode ≡ inside s (body ++ x ∷ [])
-  unfolding move
-  grows k s x body e f = rw (e, f)
-
   stores-one : (s x : ℕ) (b body : List ℕ) → eqb x (g .«start_block») ≡ false → eqb x (g .«end_block») ≡ false
       → hold g (inside s body) b x ≡ cond (ltb (length body) (capacityOf g)) (set b (length body) x) b
   unfolding hold
@@ -114,7 +79,7 @@ module _ (g : Settings) where
       → held g k (inside s body) b (x ∷ xs)
       ≡ held g (k + 1) (inside s (body ++ x ∷ [])) (cond (ltb (length body) (capacityOf g)) (set b (length body) x) b) xs
   unfolding held
-  held-more k s x b body xs e f = rw (grows k s x body e f, stores-one s x b body e f)
+  held-more k s x b body xs e f = rw (grow g k s x body e f, stores-one s x b body e f)
 
   -- bytes of a block, with the bytes before them in the buffer as far as they fit
   held-stored : (xs body : List ℕ) (k s : ℕ) (b : List ℕ) → capacityOf g ≤ length b → hasAny (g .«start_block») (g .«end_block») xs ≡ false
@@ -124,11 +89,11 @@ module _ (g : Settings) where
       let sb = g .«start_block» in
       let eb = g .«end_block» in
       let cap = capacityOf g in
-      let q = or-first (eqb x sb || eqb x eb) (hasAny sb eb xs) h in
+      let q = or-left (eqb x sb || eqb x eb) (hasAny sb eb xs) h in
       let ih : (c : List ℕ) → cap ≤ length c → held g (k + 1) (inside s (body ++ x ∷ [])) c xs ≡ stored cap (length (body ++ x ∷ [])) xs c =
-      λ c l. held-stored xs (body ++ x ∷ []) (k + 1) s c l (or-second (eqb x sb || eqb x eb) (hasAny sb eb xs) h) in
+      λ c l. held-stored xs (body ++ x ∷ []) (k + 1) s c l (or-right (eqb x sb || eqb x eb) (hasAny sb eb xs) h) in
       let n : length (body ++ x ∷ []) ≡ length body + 1 = length-append body (x ∷ []) in
-      held-more k s x b body xs (or-first (eqb x sb) (eqb x eb) q) (or-second (eqb x sb) (eqb x eb) q)
+      held-more k s x b body xs (or-left (eqb x sb) (eqb x eb) q) (or-right (eqb x sb) (eqb x eb) q)
       ∙ cond-ind (λ (c : List ℕ). held g (k + 1) (inside s (body ++ x ∷ [])) c xs ≡ stored cap (length body) (x ∷ xs) b) (ltb (length body) cap) _ _
       (λ e. ih (set b (length body) x) (simp length-set enough) ∙ rw n (stored-fits cap (length body) x xs b (ltb-true _ _ e) enough))
       (λ e. let l : cap ≤ length body = ltb-false _ _ e in
@@ -151,7 +116,7 @@ module _ (g : Settings) where
   -- ---- after the block
   after-start : (k : ℕ) (m : Mode) (xs : List ℕ) → after g k m (g .«start_block» ∷ xs) ≡ after g (k + 1) (inside k []) xs
   unfolding after
-  after-start k m xs = rw (starts k m)
+  after-start k m xs = rw (opens g k m)
 
   mode-of : (xs body : List ℕ) (k : ℕ) (m : Mode) → hasAny (g .«start_block») (g .«end_block») body ≡ false
       → after g k m (xs ++ g .«start_block» ∷ body) ≡ inside (k + length xs) body
@@ -164,16 +129,16 @@ module _ (g : Settings) where
   outside [] k b h = refl
   outside (x ∷ xs) k b h =
       let sb = g .«start_block» in
-      rw (or-first (eqb x sb) (eqb x sb) (or-first (eqb x sb || eqb x sb) (hasAny sb sb xs) h))
-      (outside xs (k + 1) b (or-second (eqb x sb || eqb x sb) (hasAny sb sb xs) h))
+      rw (or-left (eqb x sb) (eqb x sb) (or-left (eqb x sb || eqb x sb) (hasAny sb sb xs) h))
+      (outside xs (k + 1) b (or-right (eqb x sb || eqb x sb) (hasAny sb sb xs) h))
 
   after-end : (xs : List ℕ) (k s : ℕ) (b body : List ℕ) → hasAny (g .«start_block») (g .«start_block») xs ≡ false → held g k (ended s body) b xs ≡ b
   unfolding held move hold
   after-end [] k s b body h = refl
   after-end (x ∷ xs) k s b body h =
       let sb = g .«start_block» in
-      rw (or-first (eqb x sb) (eqb x sb) (or-first (eqb x sb || eqb x sb) (hasAny sb sb xs) h))
-      (outside xs (k + 1) b (or-second (eqb x sb || eqb x sb) (hasAny sb sb xs) h))
+      rw (or-left (eqb x sb) (eqb x sb) (or-left (eqb x sb || eqb x sb) (hasAny sb sb xs) h))
+      (outside xs (k + 1) b (or-right (eqb x sb || eqb x sb) (hasAny sb sb xs) h))
 
   held-end : (xs : List ℕ) (k s : ℕ) (b body : List ℕ) → eqb (g .«end_block») (g .«start_block») ≡ false
       → hasAny (g .«start_block») (g .«start_block») xs ≡ false → held g k (inside s body) b (g .«end_block» ∷ xs) ≡ b
@@ -188,12 +153,12 @@ module _ (g : Settings) where
       let zs = xs ++ g .«start_block» ∷ body in
       held-append g zs (g .«end_block» ∷ ys) k m b
       ∙ ap (λ (n : Mode). held g (k + length zs) n (held g k m b zs) (g .«end_block» ∷ ys)) (mode-of xs body k m h)
-      ∙ held-end ys (k + length zs) (k + length xs) (held g k m b zs) body (markers-differ g v) f
+      ∙ held-end ys (k + length zs) (k + length xs) (held g k m b zs) body (valid-apart g v .differ) f
       ∙ current-block xs body k m b enough h
 
 -- the same of a caller's buffer, in whatever parts the input came
 pub session-current-block : (g : Settings) (parts : List (List ℕ)) (xs body b : List ℕ) → valid g ≡ true → capacityOf g ≤ length b
-    → length (joined parts) ≤ 18446744073709551615 → hasAny (g .«start_block») (g .«end_block») body ≡ false
+    → length (joined parts) ≤ greatestWord → hasAny (g .«start_block») (g .«end_block») body ≡ false
     → joined parts ≡ xs ++ g .«start_block» ∷ body
     → session g fresh b parts .buffer ≡ put (held g 0 between b xs) 0 (take (capacityOf g) body)
 session-current-block g parts xs body b v enough l h e =

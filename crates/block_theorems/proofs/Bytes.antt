@@ -8,6 +8,7 @@ use lib.ListN.{length}
 use lib.Dec.{eqb}
 use borrow.Author.Tests.{eqb-true, le-leb, ne-eqb, eqb-false, not-true}
 use Rattle.lists.proofs.Tests.{and-left, and-right}
+use Rattle.lists.proofs.All.{all-append}
 use Rattle.lists.specs.Bytes.{hasAny}
 use Rattle.settings.specs.DataBytes.{allAllowed, digit}
 use Rattle.block.specs.Format.{version, fiveDigits, threeDigits, countField, hybridBody}
@@ -26,11 +27,6 @@ allowed-free sb eb p q (x ∷ xs) e =
     let a : allowed x ≡ true = and-left (allowed x) (allAllowed xs) e in
     let ih = allowed-free sb eb p q xs (and-right (allowed x) (allAllowed xs) e) in
     rw (other x sb a p, other x eb a q, ih)
-
-pub all-append : (a b : List ℕ) → allAllowed a ≡ true → allAllowed b ≡ true → allAllowed (a ++ b) ≡ true
-all-append [] b p q = q
-all-append (x ∷ a) b p q =
-    rw (and-left (allowed x) (allAllowed a) p, all-append a b (and-right (allowed x) (allAllowed a) p) q)
 
 digit-allowed : (n : ℕ) → allowed (digit n) ≡ true
 digit-allowed n = rw (le-leb 32 (n % 10 + 48) (omega arith), le-leb (n % 10 + 48) 126 (omega arith))
@@ -56,9 +52,9 @@ type-allowed t d = go (eqb t 68) (eqb t 78) refl refl
 pub body-allowed : (t : ℕ) (d xxx : List ℕ) → typeMatches t d ≡ true → allAllowed d ≡ true → allAllowed xxx ≡ true → allAllowed (hybridBody t d xxx) ≡ true
 unfolding hybridBody countField
 body-allowed t d xxx m a x =
-    all-append ((t ∷ version) ++ d ++ fiveDigits (5 + length d)) xxx
-    (all-append ((t ∷ version) ++ d) (fiveDigits (5 + length d))
-    (all-append (t ∷ version) d (rw (type-allowed t d m)) a) (five-allowed (5 + length d))) x
+    all-append allowed ((t ∷ version) ++ d ++ fiveDigits (5 + length d)) xxx
+    (all-append allowed ((t ∷ version) ++ d) (fiveDigits (5 + length d))
+    (all-append allowed (t ∷ version) d (rw (type-allowed t d m)) a) (five-allowed (5 + length d))) x
 
 -- "A setting is refused if the two are equal, or if either is CR (0D) or lies in 20 to 7E"
 pub record Apart (g : Settings) : Type 0 where
@@ -70,7 +66,9 @@ pub valid-apart : (g : Settings) → valid g ≡ true → Apart g
 unfolding valid
 valid-apart g = go (g .kind)
   where
-    go : (k : Kind) → byKind k (hybridValid (g .«start_block») (g .«end_block») (g .«data_limit»)) (minimalValid (g .«start_block») (g .«end_block») (g .«data_limit»)) ≡ true → Apart g
+    go : (k : Kind)
+        → byKind k (hybridValid (g .«start_block») (g .«end_block») (g .«data_limit»)) (minimalValid (g .«start_block») (g .«end_block») (g .«data_limit»)) ≡ true
+        → Apart g
     go Hybrid h =
         let sb = g .«start_block» in
         let eb = g .«end_block» in

@@ -1,23 +1,19 @@
 -- The judge over a body that is put together of its fields.
 use mathlib.Core.Path.{_≡_, refl, sym, ap, _∙_}
-use mathlib.Core.List.{List, [], _∷_, _++_, append-assoc}
+use mathlib.Core.List.{List, _∷_, _++_, append-assoc}
 use mathlib.Core.Bool.{Bool, true, cond, or-true}
 use Prim.Native.Nat.{ℕ, _+_, _-_}
 use native.Mathlib.Omega.{arith}
 use lib.ListN.{length, take, drop, length-append}
 use lib.Seq.{take-at, drop-at}
-use borrow.Author.Tests.{eq-eqb, le-leb}
+use borrow.Author.Tests.{le-leb}
+use Rattle.lists.proofs.Same.{same-self}
 use Rattle.block.proofs.Laws.{parts-accepted}
 use Rattle.settings.specs.DataBytes.{allAllowed}
 use Rattle.block.specs.Format.{version, fiveDigits, threeDigits, countField, checksumOf, hybridBody}
 use Rattle.lists.specs.Bytes.{bytes, same}
 use Rattle.block.specs.Judge.{typeMatches, headerOk, checksumMatches, judgeParts, dataOf, judgeHybrid}
 use Rattle.refusal.specs.declared.Verdict.the-variants.{Accepted, Refused}
-
-pub same-self : (l : List ℕ) → same l l ≡ true
-unfolding same
-same-self [] = refl
-same-self (x ∷ l) = rw (eq-eqb x x refl, same-self l)
 
 pub length-count : (d : List ℕ) → length (countField d) ≡ 5
 unfolding countField fiveDigits

@@ -12,9 +12,8 @@ use Rattle.lists.proofs.Tests.{cond-ind}
 use Rattle.settings.specs.Settings.{valid}
 use Rattle.refusal.specs.Refusal.{numberOf, typeOf, lengthOf}
 use Rattle.settings.specs.declared.Settings.{Settings}
-use Rattle.refusal.specs.declared.Verdict.{Verdict}
 use Rattle.refusal.specs.declared.Verdict.the-variants.{Accepted, Refused}
-use Rattle.stream.proofs.Run.{run-append}
+use Rattle.stream.proofs.Run.{after-none, run-append}
 use Rattle.stream.specs.Stream.{Judged, Mode, between, inside, ended, Moved, moved, move, run, after, verdicts}
 use Rattle.whole_block.proofs.Checks.{check-setting, check-judged}
 use Rattle.whole_block.specs.Whole.{beginsWith, only, initial, wholeOf, checkOf}
@@ -53,13 +52,9 @@ module _ (g : Settings) where
   unfolding after
   after-cons k x m xs = refl
 
-  after-none : (k : ℕ) (m : Mode) → after g k m [] ≡ m
-  unfolding after
-  after-none k m = refl
-
   -- a block that has begun brings a verdict by the next SB
   spoken : (b : List ℕ) (k j : ℕ) (m : Mode) → Busy m → 1 ≤ length (run g k m b) + length (move g j (after g k m b) (g .«start_block») .says)
-  spoken [] k j m h = rw (after-none k m) (omega (arith, interrupts j m h))
+  spoken [] k j m h = rw (after-none g k m) (omega (arith, interrupts j m h))
   spoken (x ∷ b) k j m h = rw (run-length k x m b, after-cons k x m b) (go (λ u. spoken b (k + 1) j (move g k m x .mode) u) (stirs k x m h))
     where
       go : (Busy (move g k m x .mode) → 1 ≤ length (run g (k + 1) (move g k m x .mode) b) + length (move g j (after g (k + 1) (move g k m x .mode) b) (g .«start_block») .says))

@@ -2,11 +2,12 @@
 use mathlib.Core.Path.{_≡_, refl, sym, ap, _∙_}
 use mathlib.Core.List.{List, [], _∷_, _++_, append-assoc}
 use mathlib.Core.Bool.{true}
-use Prim.Native.Nat.{ℕ, zero, suc, _+_, _-_, _≤_, _<_}
+use Prim.Native.Nat.{ℕ, zero, suc, _+_, _≤_, _<_}
 use native.Mathlib.Nat.{add-zero}
 use native.Mathlib.Omega.{arith}
 use lib.ListN.{length, take, drop, length-append, length-drop, take-append-drop}
 use lib.Seq.{take-all, length-take-le}
+use Rattle.lists.specs.Bytes.{greatestWord}
 use Rattle.settings.specs.Settings.{valid, capacityOf}
 use Rattle.settings.specs.declared.Settings.{Settings}
 use Rattle.stream.specs.Stream.{Judged, Mode, between, move, run, after, hold, held, verdicts}
@@ -86,7 +87,7 @@ next-call g k n m b xs a r c later h ih = go a (h .ends) (h .says)
 
 -- each verdict takes a byte at least, so there are calls enough
 pub serve-is : (g : Settings) → valid g ≡ true → (n : ℕ) (xs : List ℕ) (k : ℕ) (m : Mode) (r : Reader) (b : List ℕ)
-    → length xs < n → k + length xs ≤ 18446744073709551615 → Stands g k m r b
+    → length xs < n → k + length xs ≤ greatestWord → Stands g k m r b
     → Serves g k m b xs (serve g n r b xs)
 unfolding serve
 serve-is g v zero xs k m r b f l h = absurd (omega arith)
@@ -127,7 +128,7 @@ one-served g k m b xs t u p q =
 
 -- ---- all parts
 pub session-from : (g : Settings) → valid g ≡ true → (parts : List (List ℕ)) (k : ℕ) (m : Mode) (r : Reader) (b : List ℕ)
-    → k + length (joined parts) ≤ 18446744073709551615 → Stands g k m r b
+    → k + length (joined parts) ≤ greatestWord → Stands g k m r b
     → Serves g k m b (joined parts) (session g r b parts)
 unfolding session
 session-from g v [] k m r b l h = serves-none g k m r b h
@@ -140,7 +141,7 @@ session-from g v (xs ∷ parts) k m r b l h =
 
 -- the same from the middle of an input on
 pub same-from : (g : Settings) → valid g ≡ true → (parts others : List (List ℕ)) (k : ℕ) (m : Mode) (r : Reader) (b : List ℕ)
-    → joined parts ≡ joined others → k + length (joined parts) ≤ 18446744073709551615 → Stands g k m r b
+    → joined parts ≡ joined others → k + length (joined parts) ≤ greatestWord → Stands g k m r b
     → session g r b parts ≡ session g r b others
 same-from g v parts others k m r b e l h =
     one-served g k m b (joined others) (session g r b parts) (session g r b others) (rw e at (session-from g v parts k m r b l h)) (session-from g v others k m r b (rw e at l) h)
@@ -149,20 +150,20 @@ pub fresh-stands : (g : Settings) (b : List ℕ) → capacityOf g ≤ length b �
 fresh-stands g b h = record { position = refl; enough = h; related = is-between }
 
 module _ (g : Settings) (b : List ℕ) (v : valid g ≡ true) (enough : capacityOf g ≤ length b) where
-  pub session-is : (parts : List (List ℕ)) → length (joined parts) ≤ 18446744073709551615
+  pub session-is : (parts : List (List ℕ)) → length (joined parts) ≤ greatestWord
       → Serves g 0 between b (joined parts) (session g fresh b parts)
   session-is parts l = session-from g v parts 0 between fresh b (omega arith) (fresh-stands g b enough)
 
-  pub session-verdicts : (parts : List (List ℕ)) → length (joined parts) ≤ 18446744073709551615
+  pub session-verdicts : (parts : List (List ℕ)) → length (joined parts) ≤ greatestWord
       → session g fresh b parts .says ≡ verdicts g (joined parts)
   session-verdicts parts l = session-is parts l .says
 
-  pub session-buffer : (parts : List (List ℕ)) → length (joined parts) ≤ 18446744073709551615
+  pub session-buffer : (parts : List (List ℕ)) → length (joined parts) ≤ greatestWord
       → session g fresh b parts .buffer ≡ held g 0 between b (joined parts)
   session-buffer parts l = session-is parts l .buffer
 
   -- two ways of cutting one input into parts give the same verdicts, the same state and the same buffer
-  pub same-for-any-parts : (parts others : List (List ℕ)) → joined parts ≡ joined others → length (joined parts) ≤ 18446744073709551615
+  pub same-for-any-parts : (parts others : List (List ℕ)) → joined parts ≡ joined others → length (joined parts) ≤ greatestWord
       → session g fresh b parts ≡ session g fresh b others
   same-for-any-parts parts others e l =
       same-from g v parts others 0 between fresh b e (omega arith) (fresh-stands g b enough)

@@ -10,20 +10,12 @@ use borrow.Author.Tests.{eq-eqb, ne-eqb}
 use Rattle.lists.specs.Bytes.{hasAny}
 use Rattle.settings.specs.Settings.{allowed}
 use Rattle.settings.specs.declared.Settings.{Settings}
-use Rattle.stream.proofs.Run.{run-append, after-append, free-run, free-after}
+use Rattle.stream.proofs.Run.{run-none, after-none, run-says, run-append, after-append, free-run, free-after}
 use Rattle.stream.specs.Stream.{Judged, Mode, between, inside, ended, judged, move, run, after, endVerdict}
+use Rattle.whole_block.proofs.Checks.{initial-last}
 use Rattle.whole_block.specs.Whole.{initial}
 use Rattle.block_theorems.proofs.Bytes.{Apart}
 use Rattle.block_theorems.specs.Shapes.{framed}
-
-initial-last : (l : List ℕ) (x : ℕ) → initial (l ++ x ∷ []) ≡ l
-initial-last [] x = refl
-initial-last (y ∷ []) x = refl
-initial-last (y ∷ z ∷ l) x = ap (λ (m : List ℕ). y ∷ m) (initial-last (z ∷ l) x)
-
-run-none : (g : Settings) (k : ℕ) (m : Mode) → run g k m [] ≡ []
-unfolding run
-run-none g k m = refl
 
 module _ (g : Settings) where
   move-opens : (k : ℕ) → move g k between (g .«start_block») ≡ record { says = []; mode = inside k [] }
@@ -46,17 +38,9 @@ module _ (g : Settings) where
   unfolding run
   run-silent k x m n ys e = rw e
 
-  run-says : (k x : ℕ) (m n : Mode) (w : Judged) (ys : List ℕ) → move g k m x ≡ record { says = w ∷ []; mode = n } → run g k m (x ∷ ys) ≡ w ∷ run g (k + 1) n ys
-  unfolding run
-  run-says k x m n w ys e = rw e
-
   after-move : (k x : ℕ) (m n : Mode) (l : List Judged) (ys : List ℕ) → move g k m x ≡ record { says = l; mode = n } → after g k m (x ∷ ys) ≡ after g (k + 1) n ys
   unfolding after
   after-move k x m n l ys e = rw e
-
-  after-none : (k : ℕ) (m : Mode) → after g k m [] ≡ m
-  unfolding after
-  after-none k m = refl
 
   module _ (h : Apart g) (body : List ℕ) (free : hasAny (g .«start_block») (g .«end_block») body ≡ false) (k : ℕ) where
     -- up to EB there is no verdict
@@ -84,14 +68,14 @@ module _ (g : Settings) where
         let e : k + (2 + length body) + 1 ≡ k + (3 + length body) = omega arith in
         ap (λ (l : List ℕ). run g k between (g .«start_block» ∷ l)) (append-assoc body (g .«end_block» ∷ 13 ∷ []) ys)
         ∙ run-body (13 ∷ ys)
-        ∙ run-says (k + (2 + length body)) 13 (ended k body) between (judged g k (endVerdict g body 13) body) ys (move-closes h (k + (2 + length body)) k body)
+        ∙ run-says g (k + (2 + length body)) 13 (ended k body) between (judged g k (endVerdict g body 13) body) ys (move-closes h (k + (2 + length body)) k body)
         ∙ ap (λ (i : ℕ). judged g k (endVerdict g body 13) body ∷ run g i between ys) e
 
     pub after-framed : after g k between (framed g body) ≡ between
     after-framed =
         after-body (13 ∷ [])
         ∙ after-move (k + (2 + length body)) 13 (ended k body) between (judged g k (endVerdict g body 13) body ∷ []) [] (move-closes h (k + (2 + length body)) k body)
-        ∙ after-none (k + (2 + length body) + 1) between
+        ∙ after-none g (k + (2 + length body) + 1) between
 
     pub initial-framed : run g k between (initial (framed g body)) ≡ []
     initial-framed =

@@ -16,7 +16,8 @@ use Rattle.settings.specs.declared.Kind.{Kind}
 use Rattle.settings.specs.declared.Kind.the-variants.{Hybrid, Minimal}
 use Rattle.settings.specs.declared.Settings.{Settings}
 use Rattle.refusal.specs.declared.Verdict.{Verdict}
-use Rattle.refusal.specs.declared.Verdict.the-variants.{Accepted, Refused}
+use Rattle.refusal.specs.declared.Verdict.the-variants.{Accepted}
+use Rattle.stream.proofs.Run.{run-none}
 use Rattle.stream.specs.Stream.{Judged, between, judged, run, endVerdict, verdicts}
 use Rattle.block.specs.Content.{contentOf}
 use Rattle.whole_block.specs.Whole.{initial, wholeOf, checkOf}
@@ -52,11 +53,8 @@ said-good g body t d k h =
 length-framed : (g : Settings) (body : List ℕ) → length (framed g body) ≡ 3 + length body
 length-framed g body = let e : length (body ++ g .«end_block» ∷ 13 ∷ []) ≡ length body + 2 = length-append body (g .«end_block» ∷ 13 ∷ []) in omega (arith, e)
 
-run-none : (g : Settings) (k : ℕ) → run g k between [] ≡ []
-unfolding run
-run-none g k = refl
-
-whole-framed : (g : Settings) (body : List ℕ) (w : Judged) → verdicts g (initial (framed g body)) ≡ [] → verdicts g (framed g body) ≡ w ∷ [] → wholeOf g (framed g body) ≡ w .verdict
+whole-framed : (g : Settings) (body : List ℕ) (w : Judged) → verdicts g (initial (framed g body)) ≡ [] → verdicts g (framed g body) ≡ w ∷ []
+    → wholeOf g (framed g body) ≡ w .verdict
 unfolding wholeOf
 whole-framed g body w e f = rw (eq-eqb (g .«start_block») (g .«start_block») refl, e, f)
 
@@ -68,7 +66,7 @@ good-reads g body t d h =
     ∙ ap (λ (n : ℕ). accepted k t d ∷ run g (k + n) between ys) (sym (length-framed g body)) in
     let o : verdicts g (framed g body) ≡ accepted 0 t d ∷ [] =
     ap (λ (l : List ℕ). verdicts g l) (sym (append-nil (framed g body))) ∙ v 0 []
-    ∙ ap (λ (l : List Judged). accepted 0 t d ∷ l) (run-none g (0 + length (framed g body))) in
+    ∙ ap (λ (l : List Judged). accepted 0 t d ∷ l) (run-none g (0 + length (framed g body)) between) in
     record {
       verdict = v;
       rest = after-framed g (h .apart) body (h .free);
@@ -93,7 +91,8 @@ hybrid-good g t d xxx k v l x n m a s =
     }
 
 -- "SB t v v CR data ccccc xxx EB CR"
-pub hybrid-reads-back : (g : Settings) (t : ℕ) (d : List ℕ) → g .kind ≡ Hybrid → valid g ≡ true → typeMatches t d ≡ true → allAllowed d ≡ true → length d ≤ g .«data_limit»
+pub hybrid-reads-back : (g : Settings) (t : ℕ) (d : List ℕ) → g .kind ≡ Hybrid → valid g ≡ true → typeMatches t d ≡ true → allAllowed d ≡ true
+    → length d ≤ g .«data_limit»
     → ReadsBack g (hybridBlock g t d) t d
 unfolding hybridBlock
 hybrid-reads-back g t d k v m a l =
@@ -108,7 +107,8 @@ hybrid-reads g t d e v m a l k ys =
     hybrid-reads-back g t d e v m a l .verdict k ys ∙ ap (λ (n : ℕ). accepted k t d ∷ run g (k + n) between ys) (sym (length-hybrid g t d))
 
 -- "999 means "not computed" and passes": the block with 999 for its sum reads as the one with the computed sum
-pub uncomputed-reads-back : (g : Settings) (t : ℕ) (d : List ℕ) → g .kind ≡ Hybrid → valid g ≡ true → typeMatches t d ≡ true → allAllowed d ≡ true → length d ≤ g .«data_limit»
+pub uncomputed-reads-back : (g : Settings) (t : ℕ) (d : List ℕ) → g .kind ≡ Hybrid → valid g ≡ true → typeMatches t d ≡ true → allAllowed d ≡ true
+    → length d ≤ g .«data_limit»
     → ReadsBack g (framed g (hybridBody t d (bytes "999"))) t d
 uncomputed-reads-back g t d k v m a l =
     good-reads g (hybridBody t d (bytes "999")) t d

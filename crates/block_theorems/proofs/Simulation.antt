@@ -10,6 +10,7 @@ use lib.ListN.{length, take, set, length-set, length-append}
 use lib.Seq.{take-suc-set, take-append-le, take-at}
 use lib.Dec.{eqb, ltb}
 use borrow.Author.Tests.{lt-ltb, le-ltb, ltb-true, ltb-false}
+use Rattle.lists.specs.Bytes.{greatestWord}
 use Rattle.lists.proofs.Tests.{cond-ind}
 use Rattle.settings.specs.Settings.{valid, capacityOf, dataOffsetOf}
 use Rattle.refusal.specs.Refusal.{lengthOf}
@@ -148,14 +149,16 @@ module _ (g : Settings) (n s k x : ℕ) (b : List ℕ) (enough : capacityOf g �
   unfolding move hold
   step-inside body h =
       by-test (eqb x (g .«start_block»))
-      (λ e. rw e (record { live = found; says = ap (λ (c : List ℕ). record { offset = s; verdict = (Refused 8 0); content = c } ∷ []) (content-none g (Refused 8 0) b body refl); stands = at-start; buffer = refl }))
+      (λ e. let w = ap (λ (c : List ℕ). record { offset = s; verdict = (Refused 8 0); content = c } ∷ []) (content-none g (Refused 8 0) b body refl) in
+      rw e (record { live = found; says = w; stands = at-start; buffer = refl }))
       (λ e. by-test (eqb x (g .«end_block»))
       (λ f. rw (e, f) (record { live = pending; says = refl; stands = record { position = refl; enough = enough; related = is-ended h }; buffer = refl }))
       (λ f. rw (e, f, same-space (capacityOf g) n b body h)
       (by-test (ltb n (capacityOf g))
       (λ a. let l : n < capacityOf g = ltb-true _ _ a in
       let c = stores (capacityOf g) n x b body enough l h in
-      rw a (record { live = pending; says = refl; stands = record { position = refl; enough = simp length-set enough; related = is-inside c }; buffer = ap (λ (i : ℕ). set b i x) (same-start (capacityOf g) n b body h l) }))
+      let stored = ap (λ (i : ℕ). set b i x) (same-start (capacityOf g) n b body h l) in
+      rw a (record { live = pending; says = refl; stands = record { position = refl; enough = simp length-set enough; related = is-inside c }; buffer = stored }))
       (λ a. let l : capacityOf g ≤ n = ltb-false _ _ a in
       let c = passes (capacityOf g) n x b body l h in
       rw a (record { live = pending; says = refl; stands = record { position = refl; enough = enough; related = is-inside c }; buffer = refl })))))
@@ -241,7 +244,7 @@ fold-reaches g (x ∷ xs) k m r b h =
     goes-on g k x m b xs (λ q c. fold-reaches g xs (k + 1) (move g k m x .mode) q c) (step g Pending r b x) (step-follows g k x m r b h)
 
 -- what a caller gets: as many bytes used as were read
-pub read-reaches : (g : Settings) (k : ℕ) (m : Mode) (r : Reader) (xs b : List ℕ) → valid g ≡ true → k + length xs ≤ 18446744073709551615 → Stands g k m r b
+pub read-reaches : (g : Settings) (k : ℕ) (m : Mode) (r : Reader) (xs b : List ℕ) → valid g ≡ true → k + length xs ≤ greatestWord → Stands g k m r b
     → Reaches g k m b xs (readOf g r xs b .answer .used) (readOf g r xs b .answer .answer) (readOf g r xs b .answer .reader) (readOf g r xs b .buffer)
 read-reaches g k m r xs b e l h =
     let t = fold g (record { answer = Pending; reader = r; buffer = b }) xs in

@@ -9,7 +9,7 @@ use native.Mathlib.Omega.{arith}
 use lib.ListN.{length, length-append}
 use lib.Seq.{append-snoc, take-length}
 use lib.Dec.{eqb, ltb}
-use borrow.Author.Tests.{eq-eqb, eqb-true}
+use borrow.Author.Tests.{eqb-true}
 use Rattle.lists.proofs.Tests.{cond-ind}
 use Rattle.settings.specs.Settings.{byKind, valid, capacityOf}
 use Rattle.settings.specs.DataBytes.{allAllowed}
@@ -22,7 +22,7 @@ use Rattle.refusal.specs.Refusal.{numberOf}
 use Rattle.settings.specs.declared.Settings.{Settings}
 use Rattle.refusal.specs.declared.Verdict.{Verdict}
 use Rattle.refusal.specs.declared.Verdict.the-variants.{Accepted, Refused}
-use Rattle.stream.proofs.Run.{run-append}
+use Rattle.stream.proofs.Run.{opens, run-append}
 use Rattle.stream.specs.Stream.{Judged, verdicts, Mode, between, inside, ended, Moved, moved, judged, endVerdict, move, run, after}
 use Rattle.block.specs.Content.{contentOf}
 use Rattle.block_theorems.proofs.Accepted.{outcome-sound, body-good}
@@ -32,16 +32,9 @@ use Rattle.block_theorems.specs.Shapes.{framed, accepted, Body, hybrid, 
 
 -- ---- what stands there is accepted
 module _ (g : Settings) where
-  -- "An SB inside a block ends it as cut, and starts the next": SB opens a block wherever the reader stands
-  opens : (k : ℕ) (m : Mode) → move g k m (g .«start_block») .mode ≡ inside k []
-  unfolding move
-  opens k between = rw (eq-eqb (g .«start_block») (g .«start_block») refl)
-  opens k (inside s body) = rw (eq-eqb (g .«start_block») (g .«start_block») refl)
-  opens k (ended s body) = rw (eq-eqb (g .«start_block») (g .«start_block») refl)
-
   run-opens : (k : ℕ) (m : Mode) (ys : List ℕ) → run g k m (g .«start_block» ∷ ys) ≡ move g k m (g .«start_block») .says ++ run g (k + 1) (inside k []) ys
   unfolding run
-  run-opens k m ys = rw (opens k m)
+  run-opens k m ys = rw (opens g k m)
 
   silent : (k x : ℕ) → move g k between x .says ≡ []
   unfolding move
@@ -161,7 +154,8 @@ module _ (g : Settings) (k : ℕ) where
       (moved [] (ended s body)) (moved [] (inside s (body ++ x ∷ []))) (λ r h v. absurd (List·Memᴰ·not-nil h)) (λ r h v. absurd (List·Memᴰ·not-nil h))) h v
   step-sound read i x t n (ended s body) w (at-ended p f e) h v = ended-sound read s x t n body p w f e (List·Memᴰ·eq-of-singleton h) v
 
-  run-cases : (i x : ℕ) (m : Mode) (xs : List ℕ) (w : Judged) → List·Memᴰ w (run g i m (x ∷ xs)) → List·Memᴰ w (move g i m x .says) ⊎ List·Memᴰ w (run g (i + 1) (move g i m x .mode) xs)
+  run-cases : (i x : ℕ) (m : Mode) (xs : List ℕ) (w : Judged) → List·Memᴰ w (run g i m (x ∷ xs))
+      → List·Memᴰ w (move g i m x .says) ⊎ List·Memᴰ w (run g (i + 1) (move g i m x .mode) xs)
   unfolding run
   run-cases i x m xs w h = List·Memᴰ·append-cases (move g i m x .says) h
 

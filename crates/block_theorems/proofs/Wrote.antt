@@ -1,13 +1,13 @@
 -- Wherever the writer answers that it wrote a block, the bytes at the place read back.
 use mathlib.Core.Path.{_≡_, refl, sym, ap, _∙_}
-use mathlib.Core.List.{List, _++_, append-assoc}
+use mathlib.Core.List.{List}
 use mathlib.Core.Bool.{Bool, true, false}
 use Prim.Native.Nat.{ℕ, _+_, _≤_}
 use native.Mathlib.Omega.{arith}
 use lib.ListN.{length, take, drop}
-use lib.Seq.{take-at, drop-at, length-take-le}
 use lib.Dec.{leb}
 use borrow.Author.Tests.{leb-true}
+use Rattle.lists.proofs.Put.{part-put}
 use Rattle.lists.specs.Bytes.{put}
 use Rattle.settings.specs.DataBytes.{allAllowed, firstForbidden}
 use Rattle.block.specs.Format.{blockOf}
@@ -52,13 +52,6 @@ module _ (g : Settings) (t : ℕ) (d : List ℕ) (start : ℕ) (b : List ℕ) wh
             buffer = ap (λ (o : Outcome Written). o .buffer) (sym (write-all g t d start b e₁ e₂ f e₄ e₅));
           }
 
--- the bytes that were written, at their place
-part-put : (l vs : List ℕ) (a : ℕ) → a ≤ length l → take (length vs) (drop a (put l a vs)) ≡ vs
-unfolding put
-part-put l vs a h =
-    rw (append-assoc (take a l) vs (drop (a + length vs) l), drop-at (take a l) (vs ++ drop (a + length vs) l) a (length-take-le a l h))
-    (take-at vs (drop (a + length vs) l) (length vs) refl)
-
 -- "The writer writes D blocks of 0 to D data bytes, or N blocks, always with the computed sum. It writes into the caller's buffer from a place the caller names"
 pub wrote-reads-back : (g : Settings) (t : ℕ) (d : List ℕ) (start : ℕ) (b : List ℕ) (n : ℕ) → writeOf g t d start b .answer ≡ Done n
     → Wrote g t d (take n (drop start (writeOf g t d start b .buffer)))
@@ -66,5 +59,6 @@ wrote-reads-back g t d start b n e =
     let w = tested g t d start b n e in
     let h : start ≤ length b = omega (arith, w .enough) in
     let i : take n (drop start (writeOf g t d start b .buffer)) ≡ blockOf g t d =
-    ap (λ (l : List ℕ). take n (drop start l)) (w .buffer) ∙ ap (λ (m : ℕ). take m (drop start (put b start (blockOf g t d)))) (sym (w .size)) ∙ part-put b (blockOf g t d) start h in
+    ap (λ (l : List ℕ). take n (drop start l)) (w .buffer) ∙ ap (λ (m : ℕ). take m (drop start (put b start (blockOf g t d)))) (sym (w .size))
+    ∙ part-put b (blockOf g t d) start h in
     record { is = i; able = w .able; reads = rw i (reads-back g t d (w .able)) }

@@ -105,7 +105,8 @@ some-rest f (a ∷ ar) (x ∷ l) e = go (sameArrival a (f x)) refl (λ z. some-r
     skipped : Rest f (a ∷ ar) l → Rest f (a ∷ ar) (x ∷ l)
     skipped (rest r s q) = rest r (skip s) q
 
-    go : (b : Bool) → sameArrival a (f x) ≡ b → (someOf ar (each f l) ≡ true → Rest f ar l) → (someOf (a ∷ ar) (each f l) ≡ true → Rest f (a ∷ ar) l) → Rest f (a ∷ ar) (x ∷ l)
+    go : (b : Bool) → sameArrival a (f x) ≡ b → (someOf ar (each f l) ≡ true → Rest f ar l) → (someOf (a ∷ ar) (each f l) ≡ true → Rest f (a ∷ ar) l)
+        → Rest f (a ∷ ar) (x ∷ l)
     go true z g h = kept (arrival-is a (f x) z) (g (ap (λ (b : Bool). cond b (someOf ar (each f l)) (someOf (a ∷ ar) (each f l))) (sym z) ∙ e))
     go false z g h = skipped (h (ap (λ (b : Bool). cond b (someOf ar (each f l)) (someOf (a ∷ ar) (each f l))) (sym z) ∙ e))
 
@@ -170,7 +171,8 @@ module _ (l : Link) (rd : Ready l) where
     still : (n : ℕ) → Keeps (senderActed y (refused n 0 (y .sending .sender)))
     still n = by-act (refused n 0 (y .sending .sender)) (quiet (i .core)) (i .ends .valid)
 
-    new-circuit : (a : Acted) → Core (l .first) (booksOf l (newCircuit y a) (transit [] [] [] (i .way .volatile) (i .way .persisted))) → validSender (a .sender) ≡ true → Keeps (newCircuit y a)
+    new-circuit : (a : Acted) → Core (l .first) (booksOf l (newCircuit y a) (transit [] [] [] (i .way .volatile) (i .way .persisted)))
+        → validSender (a .sender) ≡ true → Keeps (newCircuit y a)
     unfolding acceptedOf each run
     new-circuit a c v =
         record {
@@ -249,7 +251,8 @@ module _ (l : Link) (rd : Ready l) where
         }
 
     -- ---- a line has other bytes, of which this arrives
-    other-forward : (rs : List Judged) (x : Line) (xs : List SequenceNumber) → Sub xs (i .way .forward) → acceptedOf rs ++ arriving (l .settings) x ≡ each (asRequest l) xs
+    other-forward : (rs : List Judged) (x : Line) (xs : List SequenceNumber) → Sub xs (i .way .forward)
+        → acceptedOf rs ++ arriving (l .settings) x ≡ each (asRequest l) xs
         → Inv l (link (y .sending) (y .receiving) x (y .back)) rs []
     other-forward rs x xs s e =
         record {
@@ -303,7 +306,8 @@ module _ (l : Link) (rd : Ready l) where
   answers-read [] y i = i
   answers-read (w ∷ ws) y i = answers-read ws (senderActed y (blockReadOf (l .resends) (y .sending .sender) (w .verdict) (w .content))) (answer-one l y [] ws w i)
 
-  requests-read : (a : Application) (ws : List Judged) (y : System) → Inv l y ws [] → Keeps (link (y .sending) (requestsRead l a (y .receiving) ws) (y .forward) (y .back))
+  requests-read : (a : Application) (ws : List Judged) (y : System) → Inv l y ws []
+      → Keeps (link (y .sending) (requestsRead l a (y .receiving) ws) (y .forward) (y .back))
   requests-read a [] y i = i
   requests-read a (w ∷ ws) y i =
       let o = receiveOf (l .settings) a (y .receiving .volatile .expected) (w .verdict) (w .content) 0 (l .reply) in

@@ -32,7 +32,7 @@ use Rattle.link.proofs.Queues.{Answer, skip, sub-all, replies, refuses}
 use Rattle.link.proofs.Books.{Books, withSender, withLines, Core, lose-back}
 use Rattle.link.proofs.Naming.{quiet}
 use Rattle.link.proofs.Sending.{After, due, answered}
-use Rattle.link.proofs.Texts.{same-all}
+use Rattle.lists.proofs.Same.{same-self}
 use Rattle.link.proofs.Messages.{SayableAnswer}
 
 -- an answer of the receiver's, as the sender reads it
@@ -60,7 +60,7 @@ read-own r s v d m y l z w u n =
     on-open r s (Accepted (code "D") n) (answerMessage (textOf v) d m) l z w
     ∙ read-as r s v d m y n
     ∙ ap (answeredBy s (textOf v) (Known d) (Present m)) u
-    ∙ ap (λ (b : Bool). cond b (answerOf s (Known d) (Present m)) (acted s Nothing Dropped)) (same-all (textOf v))
+    ∙ ap (λ (b : Bool). cond b (answerOf s (Known d) (Present m)) (acted s Nothing Dropped)) (same-self (textOf v))
 
 module _ (f : ℕ) (b : Books) (r : ℕ) (s : Sender) where
   abbrev Here : List Answer → Type 0

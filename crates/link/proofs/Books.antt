@@ -53,7 +53,8 @@ pub record Numbers (f : ℕ) (p q : Persisted) (h k : ℕ) : Type 0 where
   pub last-more : q .last ≤ p .last
   pub last-most : p .last ≤ 999999999999998
 
-pub chain : {f : ℕ} {p q : Persisted} {h k : ℕ} → 1 ≤ f → f ≤ q .delivered + 1 → q .delivered ≤ p .delivered → p .delivered + 1 ≤ k → k ≤ h → h ≤ q .delivered + 2 → h ≤ q .last + 1
+pub chain : {f : ℕ} {p q : Persisted} {h k : ℕ} → 1 ≤ f → f ≤ q .delivered + 1 → q .delivered ≤ p .delivered → p .delivered + 1 ≤ k → k ≤ h
+    → h ≤ q .delivered + 2 → h ≤ q .last + 1
     → q .last ≤ p .last → p .last ≤ 999999999999998 → Numbers f p q h k
 chain a b c d e i j m n =
     record { first-least = a; persisted-least = b; delivered-more = c; covered = d; stored-most = e; ahead = i; submitted = j; last-more = m; last-most = n }
@@ -85,7 +86,8 @@ pub record Forward (f : ℕ) (p q : Persisted) (h : ℕ) (xs ns : List SequenceN
   pub start : q .resynchronized ≡ false → h ≡ f
   pub start-line : q .resynchronized ≡ false → All IsMinusOne xs
 
-pub forward-of : {f : ℕ} {p q : Persisted} {h : ℕ} {xs ns : List SequenceNumber} → Good f h (xs ++ ns) → All (Bounded q) xs → All (Bounded p) ns → (q .resynchronized ≡ false → h ≡ f)
+pub forward-of : {f : ℕ} {p q : Persisted} {h : ℕ} {xs ns : List SequenceNumber} → Good f h (xs ++ ns) → All (Bounded q) xs → All (Bounded p) ns
+    → (q .resynchronized ≡ false → h ≡ f)
     → (q .resynchronized ≡ false → All IsMinusOne xs) → Forward f p q h xs ns
 forward-of g l n s t = record { good = g; line = l; named = n; start = s; start-line = t }
 
@@ -96,7 +98,8 @@ pub record Querying-fine (resynchronized : Bool) (e d : Expected) (xs ns : List 
   pub names : All (NamesExpected e) (bs ++ cs)
   pub names-stored : All (NamesExpected d) bs
 
-pub queried-of : {r : Bool} {e d : Expected} {xs ns : List SequenceNumber} {bs cs : List Answer} → r ≡ true → All IsZero (xs ++ ns) → All (NamesExpected e) (bs ++ cs) → All (NamesExpected d) bs
+pub queried-of : {r : Bool} {e d : Expected} {xs ns : List SequenceNumber} {bs cs : List Answer} → r ≡ true → All IsZero (xs ++ ns)
+    → All (NamesExpected e) (bs ++ cs) → All (NamesExpected d) bs
     → Querying-fine r e d xs ns bs cs
 queried-of s z n t = record { synchronized = s; zeros = z; names = n; names-stored = t }
 
@@ -137,7 +140,8 @@ module _ {f : ℕ} {b : Books} (c : Core f b) where
   waits-with d g = waits-as (b .held .resynchronized) (b .named) (Queried b) (Queried d) (b .waiting) g (c .waits)
 
   -- all else equal: what the ends hold and have persisted
-  pub lines-with : (w : Waiting) (ns xs : List SequenceNumber) (bs cs : List Answer) → Forward f (b .held) (b .persisted) (b .volatile .next) xs ns → All (Given (b .stored)) bs
+  pub lines-with : (w : Waiting) (ns xs : List SequenceNumber) (bs cs : List Answer) → Forward f (b .held) (b .persisted) (b .volatile .next) xs ns
+      → All (Given (b .stored)) bs
       → All (Given (b .volatile)) cs
       → Waits (b .held .resynchronized) ns (Queried (books (b .held) (b .persisted) w ns (b .volatile) (b .stored) xs bs cs)) w
       → Core f (books (b .held) (b .persisted) w ns (b .volatile) (b .stored) xs bs cs)
@@ -203,7 +207,8 @@ module _ {f : ℕ} {b : Books} (c : Core f b) where
       }
 
   -- ---- a crash of the receiver: the lines are empty, and it holds what it has persisted
-  crash-good : (b .held .resynchronized ≡ true) ⊎ (b .held .resynchronized ≡ false) → (w : Waiting) → Waits (b .held .resynchronized) (b .named) (Queried b) w → Good f (b .stored .next) (b .named)
+  crash-good : (b .held .resynchronized ≡ true) ⊎ (b .held .resynchronized ≡ false) → (w : Waiting)
+      → Waits (b .held .resynchronized) (b .named) (Queried b) w → Good f (b .stored .next) (b .named)
   crash-good (inl z) w t = let n = c .numbers in good-behind f (b .forward) (b .named) (b .stored .next) stored-least (n .stored-most) (c .forward .good)
   crash-good (inr z) Closed t = subst (λ (l : List SequenceNumber). Good f (b .stored .next) l) (sym t) good-none
   crash-good (inr z) Idle t = not-both (sym t ∙ z)

@@ -77,7 +77,8 @@ pub record Ends (l : Link) (s : Sender) (p : Persisted) (v d : Stored) (m n : �
   pub volatile : StoredIs l v m
   pub persisted : StoredIs l d n
 
-pub ends-of : {l : Link} {s : Sender} {p : Persisted} {v d : Stored} {m n : ℕ} → validSender s ≡ true → validSender (afterCrash p) ≡ true → StoredIs l v m → StoredIs l d n → Ends l s p v d m n
+pub ends-of : {l : Link} {s : Sender} {p : Persisted} {v d : Stored} {m n : ℕ} → validSender s ≡ true → validSender (afterCrash p) ≡ true
+    → StoredIs l v m → StoredIs l d n → Ends l s p v d m n
 ends-of a b c e = record { valid = a; persisted-valid = b; volatile = c; persisted = e }
 
 -- answers that can be written, as they arrive, or as blocks
@@ -132,7 +133,8 @@ module _ (l : Link) (y : System) (rs ws : List Judged) where
         by-verdict (i .way .back) (refusal-read (l .first) (booksOf l y (i .way)) (l .resends) (y .sending .sender) (i .core) (w .verdict) (w .content) z)
         (record { sayable = i .back .sayable; are = ap (λ (a : List Arrival). (a ++ acceptedOf ws) ++ arriving (l .settings) (y .back)) (sym z) ∙ i .back .are })
 
-    accepted-read : (t n : ℕ) → w .verdict ≡ Accepted t n → Split asAnswer (arrival t (w .content)) left (i .way .back) → Inv l (senderActed y (acts (w .verdict) (w .content))) rs ws
+    accepted-read : (t n : ℕ) → w .verdict ≡ Accepted t n → Split asAnswer (arrival t (w .content)) left (i .way .back)
+        → Inv l (senderActed y (acts (w .verdict) (w .content))) rs ws
     accepted-read t n z (split a bs p q r) =
         by-verdict bs (subst Then (sym (z ∙ ap (λ (k : ℕ). Accepted k n) (arrival-type q)))
         (subst (λ (k : List ℕ). After (l .first) here (acts (Accepted (asAnswer a .type) n) k)) (sym (arrival-content q)) (go a sayable core)))

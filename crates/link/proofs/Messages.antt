@@ -2,14 +2,12 @@
 use mathlib.Core.Path.{_≡_, refl, sym, ap, subst}
 use mathlib.Core.List.{List, [], _∷_}
 use mathlib.Core.Bool.{Bool, true, false, cond}
-use Prim.Native.Nat.{ℕ, _+_, _≤_}
+use Prim.Native.Nat.{ℕ, _≤_}
 use Prim.Native.Char.{code}
 use native.Mathlib.Omega.{arith}
-use lib.ListN.{length, take, drop}
-use lib.Seq.{take-append-seam}
+use lib.ListN.{length}
 use lib.Dec.{leb, eqb}
 use borrow.Author.Tests.{leb-true, ne-eqb}
-use Rattle.lists.specs.Bytes.{put}
 use Rattle.lists.proofs.Tests.{and-left, and-right}
 use Rattle.settings.specs.Settings.{byKind, valid, validLink}
 use Rattle.settings.specs.declared.Kind.{Kind}
@@ -144,11 +142,6 @@ module _ (l : Link) (rd : Ready l) where
   request-control v x =
       let r = request-reads v x in
       subst (λ (id : List ℕ). validControlId id ≡ true) (r .id-read) (handed-out (requestOf l v) (r .readable))
-
--- the reply is what was written at the buffer's start
-pub put-taken : (b block : List ℕ) → take (length block) (put b 0 block) ≡ block
-unfolding put
-put-taken b block = take-append-seam block (drop (0 + length block) b)
 
 pub block-some : (g : Settings) (t : ℕ) (d : List ℕ) → eqb (length (blockOf g t d)) 0 ≡ false
 unfolding blockOf hybridBlock minimalBlock

@@ -20,7 +20,8 @@ module _ {f : ℕ} {b : Books} (c : Core f b) where
   abbrev opened : Waiting → SequenceNumber → Books
   opened w v = books (b .held) (b .persisted) w (v ∷ []) (b .volatile) (b .stored) [] [] []
 
-  open-circuit : (w : Waiting) (v : SequenceNumber) → Good f (b .volatile .next) (v ∷ []) → Bounded (b .held) v → Waits (b .held .resynchronized) (v ∷ []) (Queried (opened w v)) w
+  open-circuit : (w : Waiting) (v : SequenceNumber) → Good f (b .volatile .next) (v ∷ []) → Bounded (b .held) v
+      → Waits (b .held .resynchronized) (v ∷ []) (Queried (opened w v)) w
       → Core f (opened w v)
   open-circuit w v g m t =
       lines-with c w (v ∷ []) [] [] []
@@ -50,7 +51,8 @@ module _ {f : ℕ} {b : Books} (c : Core f b) where
 
   -- ---- one more message is named
   name : (w : Waiting) (v : SequenceNumber) → Good f (b .volatile .next) ((b .forward ++ b .named) ++ v ∷ []) → Bounded (b .held) v
-      → Waits (b .held .resynchronized) (b .named ++ v ∷ []) (Queried (withSender b (b .held) w (b .named ++ v ∷ []))) w → Core f (withSender b (b .held) w (b .named ++ v ∷ []))
+      → Waits (b .held .resynchronized) (b .named ++ v ∷ []) (Queried (withSender b (b .held) w (b .named ++ v ∷ []))) w
+      → Core f (withSender b (b .held) w (b .named ++ v ∷ []))
   name w v good m t =
       let g = c .forward in
       lines-with c w (b .named ++ v ∷ []) (b .forward) (b .back) (b .pending)
@@ -63,7 +65,8 @@ module _ {f : ℕ} {b : Books} (c : Core f b) where
       let n = c .numbers in
       all-map (λ v t. t .delivered) (all-append (all-map (bounded-more (b .persisted) (b .held) (n .delivered-more) (n .last-more)) (c .forward .line)) (c .forward .named))
 
-  pub send-next : b .held .resynchronized ≡ true → b .held .delivered < b .held .last → Core f (withSender b (b .held) Sending (b .named ++ Number (b .held .delivered + 1) ∷ []))
+  pub send-next : b .held .resynchronized ≡ true → b .held .delivered < b .held .last
+      → Core f (withSender b (b .held) Sending (b .named ++ Number (b .held .delivered + 1) ∷ []))
   send-next z l =
       let n = c .numbers in
       let k = b .held .delivered + 1 in
@@ -71,7 +74,8 @@ module _ {f : ℕ} {b : Books} (c : Core f b) where
       (record { delivered = omega arith; last = omega arith }) z
 
   -- ---- the sender's numbers change, and with a circuit open nothing waits or what waited
-  change : (p : Persisted) (w : Waiting) → 1 ≤ f → p .delivered + 1 ≤ b .stored .next → b .held .delivered ≤ p .delivered → b .held .last ≤ p .last → p .last ≤ 999999999999998
+  change : (p : Persisted) (w : Waiting) → 1 ≤ f → p .delivered + 1 ≤ b .stored .next → b .held .delivered ≤ p .delivered → b .held .last ≤ p .last
+      → p .last ≤ 999999999999998
       → Senders f p (b .persisted) → (p .resynchronized ≡ true → b .stored .old ≡ false) → Waits (p .resynchronized) (b .named) (Queried (withSender b p w (b .named))) w
       → Core f (withSender b p w (b .named))
   change p w m covered delivered last most s r t =

@@ -46,7 +46,7 @@ use Rattle.link.specs.Promise.{Logged, Ready}
 use Rattle.link.proofs.Facts.{not-both}
 use Rattle.link.proofs.SenderValid.{numbers-of, WaitsRight, right-from, right-valid}
 use Rattle.link.proofs.Messages.{Nameable, minus, query, transaction, link-valid, link-limit}
-use Rattle.link.proofs.Texts.{same-all}
+use Rattle.lists.proofs.Same.{same-self}
 use Rattle.link.proofs.RequestsRead.{number-answerable, unknown-row, next-row}
 use Rattle.link.proofs.Runs.{Reaches, stay, act, join, to}
 use Rattle.link.proofs.Exchange.{resting, sendingAt, quietAt, Comes, exchange}
@@ -75,7 +75,7 @@ module _ (l : Link) (rd : Ready l) where
 
     takes : (isNumber (p .last + 1) (numberField greatestSent (bytesOf (sequenceField message) message))
         && same (bytesOf (controlIdField message) message) (textOf (Number (p .last + 1)))) ≡ true
-    takes = rw (logged .reads .number-read, eq-eqb (p .last + 1) (p .last + 1) refl, logged .reads .id-read) (same-all (textOf (Number (p .last + 1))))
+    takes = rw (logged .reads .number-read, eq-eqb (p .last + 1) (p .last + 1) refl, logged .reads .id-read) (same-self (textOf (Number (p .last + 1))))
 
     pub submit-is : submitOf (l .settings .«data_limit») (afterCrash p) message ≡ acted (afterCrash (submitted p)) Nothing NoEvent
     unfolding submitOf
@@ -166,7 +166,8 @@ module _ (l : Link) (rd : Ready l) where
           go true e = (record { unfrozen = unfrozen; synchronized = e }, record { some = omega arith; few = omega arith })
           go false e = (record { unfrozen = unfrozen; synchronized = e }, record { some = omega arith; few = omega arith })
 
-      pub first-stage : (b : Bool) → q .resynchronized ≡ b → (r : Row) → rowOf a (d .expected) (Present (firstMessage b)) ≡ r → answerable (r .number) ≡ true → (p : Persisted) (ev : Event)
+      pub first-stage : (b : Bool) → q .resynchronized ≡ b → (r : Row) → rowOf a (d .expected) (Present (firstMessage b)) ≡ r
+          → answerable (r .number) ≡ true → (p : Persisted) (ev : Event)
           → answerOf (senderAt q (firstWaiting b) 1) (Known (r .code)) (Present (r .number)) ≡ proceeds p ev → r .persisted .transaction ≡ NoTransaction
           → Stage y p (stored (r .persisted .expected) (d .has))
       first-stage b e r meets sayable p ev takes none =
@@ -212,7 +213,8 @@ module _ (l : Link) (rd : Ready l) where
       meets : rowOf a (x .expected) (Present (Number (p .delivered + 1))) ≡ storing a (p .delivered + 1)
       meets = go expected
         where
-          go : (x .expected ≡ Unknown) ⊎ (x .expected ≡ Next (p .delivered + 1)) → rowOf a (x .expected) (Present (Number (p .delivered + 1))) ≡ storing a (p .delivered + 1)
+          go : (x .expected ≡ Unknown) ⊎ (x .expected ≡ Next (p .delivered + 1))
+              → rowOf a (x .expected) (Present (Number (p .delivered + 1))) ≡ storing a (p .delivered + 1)
           go (inl z) = ap (λ (k : Expected). rowOf a k (Present (Number (p .delivered + 1)))) z ∙ unknown-row a (p .delivered + 1) (omega arith)
           go (inr z) = ap (λ (k : Expected). rowOf a k (Present (Number (p .delivered + 1)))) z ∙ next-row a (p .delivered + 1) (omega arith)
 

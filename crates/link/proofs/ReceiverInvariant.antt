@@ -59,7 +59,8 @@ module _ (a : Application) where
   stores-valid : (n : ℕ) → n ≤ greatestSent → validExpected (afterRow (stores a n)) ≡ true
   stores-valid n h = expects-next (n + 1) (omega arith) (omega arith)
 
-  row-valid : (s : Expected) (f : NumberField) → validExpected s ≡ true → ((n : ℕ) → f ≡ Present (Number n) → n ≤ greatestSent) → validExpected (afterRow (rowOf a s f)) ≡ true
+  row-valid : (s : Expected) (f : NumberField) → validExpected s ≡ true → ((n : ℕ) → f ≡ Present (Number n) → n ≤ greatestSent)
+      → validExpected (afterRow (rowOf a s f)) ≡ true
   unfolding rowOf
   row-valid s Missing v h = v
   row-valid s NotNumber v h = v

@@ -50,7 +50,8 @@ module _ (l : Link) (P : Sender → Persisted → List Entry → Type 0)
 
   module _ (y : System) (v : validSender (y .sending .sender) ≡ true) (now : At (y .sending)) (persists : P (y .sending .sender) (y .sending .sender .persisted) (y .sending .history))
       (crashes : P (afterCrash (y .sending .persisted)) (y .sending .persisted) (crashed ∷ y .sending .history)) where
-    by : (a : Act) → resendsOf a ≤ l .resends → P (actOf a (y .sending .sender) .sender) (y .sending .persisted) (reported (actOf a (y .sending .sender)) ∷ y .sending .history)
+    by : (a : Act) → resendsOf a ≤ l .resends
+        → P (actOf a (y .sending .sender) .sender) (y .sending .persisted) (reported (actOf a (y .sending .sender)) ∷ y .sending .history)
     by = acts (y .sending .sender) (y .sending .persisted) (y .sending .history) v now
 
     written : (vs : List SequenceNumber) → At (requestWritten l y vs .sending)
@@ -100,7 +101,8 @@ module _ (l : Link) (rd : Ready l) (e : Expected) (v : validExpected e ≡ true)
       at-after l (λ s p h. Counts s h) (λ s p h i c a r. counts-step h c (steps s i a)) (at ds) (run-valid ds) (run-counts ds) (run-counts ds) (λ m. refl) d
 
   -- "and reports how many it made": the number that any act of the sender reports, at any moment of any run
-  pub reports : (ds : List SystemAct) (a : Act) → actOf a (at ds .sending .sender) .sends ≡ sendsToReport (at ds .sending .sender) (at ds .sending .history) (actOf a (at ds .sending .sender))
+  pub reports : (ds : List SystemAct) (a : Act)
+      → actOf a (at ds .sending .sender) .sends ≡ sendsToReport (at ds .sending .sender) (at ds .sending .history) (actOf a (at ds .sending .sender))
   reports ds a =
       reported-right (at ds .sending .sender) (at ds .sending .history) (actOf a (at ds .sending .sender)) (right-from (at ds .sending .sender) (run-valid ds)) (run-counts ds) (resendsOf a)
       (steps (at ds .sending .sender) (run-valid ds) a)
@@ -119,7 +121,8 @@ module _ (l : Link) (rd : Ready l) (e : Expected) (v : validExpected e ≡ true)
       go (shuts g j) z = not-both cc
 
   -- the other way: what an act names is what waits after it
-  pub named-waits : (ds : List SystemAct) (a : Act) (m : SequenceNumber) → actOf a (at ds .sending .sender) .send ≡ Numbered m → waitsOf (actOf a (at ds .sending .sender) .sender) ≡ Numbered m
+  pub named-waits : (ds : List SystemAct) (a : Act) (m : SequenceNumber) → actOf a (at ds .sending .sender) .send ≡ Numbered m
+      → waitsOf (actOf a (at ds .sending .sender) .sender) ≡ Numbered m
   named-waits ds a m w = go (steps (at ds .sending .sender) (run-valid ds) a) w
     where
       go : {r n k : ℕ} {s t : Sender} {c : NumberedMessage} {x : Event} → Step r s n t c k x → c ≡ Numbered m → waitsOf t ≡ Numbered m
@@ -131,7 +134,8 @@ module _ (l : Link) (rd : Ready l) (e : Expected) (v : validExpected e ≡ true)
       go (shuts g j) z = not-both cc
 
   -- and where nothing waits on an open circuit, all that was submitted is delivered
-  pub nothing-left : (ds : List SystemAct) → at ds .sending .sender .waiting ≡ Idle → at ds .sending .sender .persisted .delivered ≡ at ds .sending .sender .persisted .last
+  pub nothing-left : (ds : List SystemAct) → at ds .sending .sender .waiting ≡ Idle
+      → at ds .sending .sender .persisted .delivered ≡ at ds .sending .sender .persisted .last
   nothing-left ds z =
       subst (λ (w : Waiting). WaitsRight (at ds .sending .sender .persisted) w (at ds .sending .sender .sends)) z (right-from (at ds .sending .sender) (run-valid ds) .waits) .1 .all
 

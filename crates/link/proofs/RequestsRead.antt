@@ -9,6 +9,7 @@ use native.Mathlib.Omega.{arith}
 use lib.ListN.{length, take}
 use lib.Dec.{eqb}
 use borrow.Author.Tests.{le-leb, eq-eqb, ne-eqb}
+use Rattle.lists.proofs.Put.{part-put}
 use Rattle.lists.specs.Bytes.{put}
 use Rattle.lists.specs.Outcome.{Outcome}
 use Rattle.settings.specs.declared.Settings.{Settings}
@@ -41,7 +42,7 @@ use Rattle.link.proofs.Queues.{good-number, Answer, replies, refuses, s
 use Rattle.link.proofs.Books.{Books, withReceived, Core, nak}
 use Rattle.link.proofs.Moves.{receive-minus-one, receive-zero, Which, which, receive-next, receive-repeat}
 use Rattle.link.proofs.Invariant.{ends-of, each, Split, split, front, each-end, arrival-type, arrival-content, Reach, transit, booksOf, StoredIs, Answers, Inv}
-use Rattle.link.proofs.Messages.{asRequest, asBlock, Nameable, minus, query, transaction, Sayable, request-control, transaction-is, put-taken, block-some}
+use Rattle.link.proofs.Messages.{asRequest, asBlock, Nameable, minus, query, transaction, Sayable, request-control, transaction-is, block-some}
 use Rattle.link.proofs.Receiving.{received, refused, Refusal, naks, drops}
 
 -- ---- what can be named
@@ -66,7 +67,7 @@ reply-is g t d b x p q =
     ap (λ (k : ℕ). cond (eqb k 0) [] (take k (x .buffer) ∷ [])) p
     ∙ ap (λ (z : Bool). cond z [] (take (length (blockOf g t d)) (x .buffer) ∷ [])) (block-some g t d)
     ∙ ap (λ (z : List ℕ). take (length (blockOf g t d)) z ∷ []) q
-    ∙ ap (λ (z : List ℕ). z ∷ []) (put-taken b (blockOf g t d))
+    ∙ ap (λ (z : List ℕ). z ∷ []) (part-put b (blockOf g t d) 0 (omega arith))
 
 pub none-answerable : answerable MinusOne ≡ true
 unfolding answerable

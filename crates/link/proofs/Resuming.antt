@@ -124,7 +124,8 @@ module _ (l : Link) (rd : Ready l) (a : Application) (y : System) where
         (core .senders .first) (core .senders .unfrozen) refl (omega arith) refl (inl refl) expects-none
 
     -- 0 is answered by what the receiver has persisted
-    queried : q .resynchronized ≡ true → (p : Persisted) (ev : Event) → answerOf (senderAt q Querying 1) (Known AA) (Present (expectedNumber (d .expected))) ≡ proceeds p ev
+    queried : q .resynchronized ≡ true → (p : Persisted) (ev : Event)
+        → answerOf (senderAt q Querying 1) (Known AA) (Present (expectedNumber (d .expected))) ≡ proceeds p ev
         → p .first ≡ q .first → p .frozen ≡ q .frozen → p .resynchronized ≡ q .resynchronized
         → p .delivered + 1 ≡ l .first + count → p .last ≡ q .last → (d .expected ≡ Unknown) ⊎ (d .expected ≡ Next (p .delivered + 1)) → Delivering total count
     queried z p ev e f u r c m x =

@@ -94,7 +94,8 @@ module _ (r : ℕ) (s : Sender) (l : r ≤ 99) (v : validSender s ≡ true) (m :
   refused-as-timer x d h = block-in x d ∙ refused-in x d h ∙ ap (withBlock (numberOf x)) (sym timer-due)
 
   -- data without a readable answer (9) too
-  pub unreadable-as-timer : (t n : ℕ) (d : List ℕ) → eqb t (code "N") ≡ false → acknowledgmentOf d ≡ NoAnswer → blockReadOf r s (Accepted t n) d ≡ withBlock 9 (timerOf r s)
+  pub unreadable-as-timer : (t n : ℕ) (d : List ℕ) → eqb t (code "N") ≡ false → acknowledgmentOf d ≡ NoAnswer
+      → blockReadOf r s (Accepted t n) d ≡ withBlock 9 (timerOf r s)
   unreadable-as-timer t n d h e =
       block-in (Accepted t n) d
       ∙ ap (λ (b : Bool). cond b (resendOf r s (waitsOf s)) (dataBlock r s d (acknowledgmentOf d))) h

@@ -243,7 +243,8 @@ module _ (s : Sender) (v : validSender s ≡ true) where
       proceeding r (s .persisted) NoEvent refl (now .stored) (at Querying e .0)
       (fresh-at Querying (Numbered (Number (s .persisted .delivered + 1))) e (after-number 0 (s .persisted .delivered + 1) (omega arith)))
 
-  on-moved : (r : ℕ) (w : Waiting) (k : ℕ) (e : Event) → isAbandoned e ≡ false → s .waiting ≡ w → waitingMessage (s .persisted) w ≡ Numbered (Number k) → k < s .persisted .delivered + 1 + 1
+  on-moved : (r : ℕ) (w : Waiting) (k : ℕ) (e : Event) → isAbandoned e ≡ false → s .waiting ≡ w
+      → waitingMessage (s .persisted) w ≡ Numbered (Number k) → k < s .persisted .delivered + 1 + 1
       → OnCircuit (s .persisted) true → s .persisted .delivered < s .persisted .last → StepOf r s (proceeds (deliveredOf (s .persisted)) e)
   on-moved r w k e g a b l o m =
       proceeding r (deliveredOf (s .persisted)) e g (delivered-stored (s .persisted) (now .stored) (o .synchronized) m) (record { unfrozen = o .unfrozen; synchronized = o .synchronized })

@@ -71,7 +71,8 @@ module _ (f : ℕ) (b : Books) where
 
   -- ---- something falls due
   module _ (r : ℕ) (p : Persisted) where
-    again : (w : Waiting) (n : ℕ) (v : SequenceNumber) → After (acted (senderAt p w (n + 1)) (Numbered v) NoEvent) → Now p w → After (resendOf r (senderAt p w n) (Numbered v))
+    again : (w : Waiting) (n : ℕ) (v : SequenceNumber) → After (acted (senderAt p w (n + 1)) (Numbered v) NoEvent) → Now p w
+        → After (resendOf r (senderAt p w n) (Numbered v))
     again w n v a c = cond-ind After (ltb n (r + 1)) _ _ (λ z. a) (λ z. close-circuit c)
 
     pub due : (w : Waiting) (n : ℕ) → WaitsRight p w n → Now p w → After (resendOf r (senderAt p w n) (waitingMessage p w))
@@ -199,7 +200,8 @@ module _ (f : ℕ) (b : Books) where
         (λ v. quiet c)
 
     -- a transaction is taken: the message has the next number
-    submitted-in : (w : Waiting) (n : ℕ) → WaitsRight (s .persisted) w n → Now (s .persisted) w → s .persisted .last + 1 ≤ 999999999999998 → After (takenIn (senderAt (s .persisted) w n) w)
+    submitted-in : (w : Waiting) (n : ℕ) → WaitsRight (s .persisted) w n → Now (s .persisted) w → s .persisted .last + 1 ≤ 999999999999998
+        → After (takenIn (senderAt (s .persisted) w n) w)
     submitted-in Closed n t a l = quiet (submit a l)
     submitted-in Idle n t a l = send-next (submit a l) (t .0 .synchronized) (let r = t .1 .all in omega arith)
     submitted-in Resynchronizing n t a l = quiet (submit a l)

@@ -1,20 +1,12 @@
 -- Numbers are never written alike.
 use mathlib.Core.Path.{_≡_, refl, sym, ap, _∙_}
-use mathlib.Core.List.{List, [], _∷_}
-use mathlib.Core.Bool.{Bool, true, _&&_}
 use Prim.Native.Nat.{ℕ}
-use borrow.Author.Tests.{eq-eqb}
-use Rattle.lists.specs.Bytes.{same, all}
+use Rattle.lists.specs.Bytes.{all}
 use Rattle.numbers.specs.Numbers.{isDigit, textOf, decimal}
 use Rattle.numbers.specs.declared.SequenceNumber.{SequenceNumber}
 use Rattle.numbers.specs.declared.SequenceNumber.the-variants.{MinusOne, Number}
 use Rattle.numbers.proofs.Reading.{decimal-digits, decimal-one-to-one}
 use Rattle.link.proofs.Facts.{not-both}
-
-pub same-all : (a : List ℕ) → same a a ≡ true
-unfolding same
-same-all [] = refl
-same-all (x ∷ a) = ap (λ (b : Bool). b && same a a) (eq-eqb x x refl) ∙ same-all a
 
 minus-is-no-decimal : {P : Type 0} (n : ℕ) → textOf MinusOne ≡ decimal n → P
 minus-is-no-decimal n e = not-both (sym (ap (all isDigit) e ∙ decimal-digits n))

@@ -6,7 +6,7 @@ use native.Mathlib.Numerals.{add-one}
 use native.Mathlib.Nat.{add-zero, add-assoc}
 use native.Mathlib.Omega.{arith}
 use lib.ListN.{length, take, drop, set, length-append, length-drop, take-append-drop}
-use lib.Seq.{drop-drop, take-all, take-at, take-append-seam, drop-append-add, append-snoc, set-split, length-take-le}
+use lib.Seq.{drop-drop, take-all, take-at, take-append-seam, drop-at, drop-append-add, append-snoc, set-split, length-take-le}
 use borrow.Rule.Slice.PartMut.{midOf, putMid}
 use Rattle.lists.proofs.Parts.{drop-none}
 use Rattle.lists.specs.Bytes.{put, overwritten}
@@ -59,6 +59,13 @@ unfolding put
 length-put l vs a h =
     simp (length-append, length-drop, length-take-le a l (omega arith)) (omega arith)
 
+-- the bytes that were written, at their place
+pub part-put : (l vs : List ℕ) (a : ℕ) → a ≤ length l → take (length vs) (drop a (put l a vs)) ≡ vs
+unfolding put
+part-put l vs a h =
+    rw (append-assoc (take a l) vs (drop (a + length vs) l), drop-at (take a l) (vs ++ drop (a + length vs) l) a (length-take-le a l h))
+    (take-append-seam vs (drop (a + length vs) l))
+
 -- what was written at the beginning of a longer list is its first bytes
 module _ (l vs m : List ℕ) (h : length vs ≤ length l) (e : m ≡ put l 0 vs) (n : ℕ) (q : n ≡ length vs) where
   pub first-fits : n ≤ length m
@@ -68,5 +75,4 @@ module _ (l vs m : List ℕ) (h : length vs ≤ length l) (e : m ≡ put l 0 vs)
   first-size = sym (length-take-le n m first-fits)
 
   pub first-part : take n m ≡ vs
-  unfolding put
-  first-part = rw (q, e) (take-append-seam vs (drop (0 + length vs) l))
+  first-part = rw (q, e) (part-put l vs 0 (omega arith))

@@ -1,6 +1,11 @@
--- Truth values: what a conjunction and a disjunction say, and one way to go by a test's two outcomes.
-use mathlib.Core.Path.{_≡_, refl, sym}
+-- Truth values: what a conjunction and a disjunction say, one way to go by a test's two outcomes, and tests that say the same.
+use mathlib.Core.Path.{_≡_, refl, sym, _∙_}
 use mathlib.Core.Bool.{Bool, true, false, cond, _&&_, _||_, true≢false}
+use Prim.Native.Nat.{ℕ, _≤_}
+use native.Mathlib.Decide.{decLe}
+use native.Mathlib.Omega.{arith}
+use lib.Dec.{leb}
+use borrow.Author.Tests.{le-leb, lt-leb}
 
 pub and-left : (a b : Bool) → (a && b) ≡ true → a ≡ true
 and-left true b e = refl
@@ -26,3 +31,12 @@ or-cases false b e P f g = g e
 pub cond-ind : {A : Type 0} (P : A → Type 0) (b : Bool) (x y : A) → (b ≡ true → P x) → (b ≡ false → P y) → P (cond b x y)
 cond-ind P true x y f g = f refl
 cond-ind P false x y f g = g refl
+
+-- two tests of which each holds where the other does: a sum that fits, tested by a difference that cannot wrap
+pub leb-same : (a b c d : ℕ) → (a ≤ b → c ≤ d) → (c ≤ d → a ≤ b) → leb a b ≡ leb c d
+leb-same a b c d f g = go (decLe a b) (decLe c d)
+  where
+    go : Dec (a ≤ b) → Dec (c ≤ d) → leb a b ≡ leb c d
+    go (yes h) q = le-leb a b h ∙ sym (le-leb c d (f h))
+    go (no h) (yes k) = absurd (h (g k))
+    go (no h) (no k) = lt-leb a b (omega arith) ∙ sym (lt-leb c d (omega arith))

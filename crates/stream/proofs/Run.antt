@@ -5,15 +5,37 @@ use mathlib.Core.Bool.{false, _||_}
 use Prim.Native.Nat.{ℕ, suc, _+_}
 use native.Mathlib.Nat.{add-zero}
 use native.Mathlib.Omega.{arith}
-use lib.ListN.{length, take}
+use lib.ListN.{length}
 use lib.Dec.{eqb}
-use Rattle.lists.proofs.Tests.{cond-ind}
-use Rattle.lists.specs.Bytes.{clear, hasAny}
+use borrow.Author.Tests.{eq-eqb}
+use Rattle.lists.proofs.Tests.{or-left, or-right}
+use Rattle.lists.specs.Bytes.{hasAny}
 use Rattle.settings.specs.declared.Settings.{Settings}
-use Rattle.stream.proofs.Steps.{or-first, or-second}
-use Rattle.stream.specs.Stream.{Judged, Mode, inside, move, run, after}
+use Rattle.stream.specs.Stream.{Judged, Mode, between, inside, ended, move, run, after}
 
 module _ (g : Settings) where
+  -- ---- no byte, and one
+  pub run-none : (k : ℕ) (m : Mode) → run g k m [] ≡ []
+  unfolding run
+  run-none k m = refl
+
+  pub after-none : (k : ℕ) (m : Mode) → after g k m [] ≡ m
+  unfolding after
+  after-none k m = refl
+
+  pub run-says : (k x : ℕ) (m n : Mode) (w : Judged) (ys : List ℕ) → move g k m x ≡ record { says = w ∷ []; mode = n }
+      → run g k m (x ∷ ys) ≡ w ∷ run g (k + 1) n ys
+  unfolding run
+  run-says k x m n w ys e = rw e
+
+  -- "An SB inside a block ends it as cut, and starts the next": SB opens a block wherever the reader stands
+  pub opens : (k : ℕ) (m : Mode) → move g k m (g .«start_block») .mode ≡ inside k []
+  unfolding move
+  opens k between = rw (eq-eqb (g .«start_block») (g .«start_block») refl)
+  opens k (inside s body) = rw (eq-eqb (g .«start_block») (g .«start_block») refl)
+  opens k (ended s body) = rw (eq-eqb (g .«start_block») (g .«start_block») refl)
+
+  -- ---- two pieces
   pub run-append : (xs ys : List ℕ) (k : ℕ) (m : Mode) → run g k m (xs ++ ys) ≡ run g k m xs ++ run g (k + length xs) (after g k m xs) ys
   unfolding run after
   run-append [] ys k m = rw add-zero
@@ -32,7 +54,7 @@ module _ (g : Settings) where
       rw e at ih
 
   -- one byte of a block that is neither SB nor EB
-  grow : (k s x : ℕ) (body : List ℕ) → eqb x (g .«start_block») ≡ false → eqb x (g .«end_block») ≡ false
+  pub grow : (k s x : ℕ) (body : List ℕ) → eqb x (g .«start_block») ≡ false → eqb x (g .«end_block») ≡ false
       → move g k (inside s body) x ≡ record { says = []; mode = inside s (body ++ x ∷ []) }
   unfolding move
   grow k s x body e f = rw (e, f)
@@ -42,22 +64,16 @@ module _ (g : Settings) where
   unfolding run
   free-run [] body k s h = refl
   free-run (x ∷ xs) body k s h =
-      let q = or-first (eqb x (g .«start_block») || eqb x (g .«end_block»)) (hasAny (g .«start_block») (g .«end_block») xs) h in
-      let ih = free-run xs (body ++ x ∷ []) (k + 1) s (or-second (eqb x (g .«start_block») || eqb x (g .«end_block»)) (hasAny (g .«start_block») (g .«end_block») xs) h) in
-      rw (grow k s x body (or-first (eqb x (g .«start_block»)) (eqb x (g .«end_block»)) q) (or-second (eqb x (g .«start_block»)) (eqb x (g .«end_block»)) q)) ih
+      let q = or-left (eqb x (g .«start_block») || eqb x (g .«end_block»)) (hasAny (g .«start_block») (g .«end_block») xs) h in
+      let ih = free-run xs (body ++ x ∷ []) (k + 1) s (or-right (eqb x (g .«start_block») || eqb x (g .«end_block»)) (hasAny (g .«start_block») (g .«end_block») xs) h) in
+      rw (grow k s x body (or-left (eqb x (g .«start_block»)) (eqb x (g .«end_block»)) q) (or-right (eqb x (g .«start_block»)) (eqb x (g .«end_block»)) q)) ih
 
   pub free-after : (xs body : List ℕ) (k s : ℕ) → hasAny (g .«start_block») (g .«end_block») xs ≡ false
       → after g k (inside s body) xs ≡ inside s (body ++ xs)
   unfolding after
   free-after [] body k s h = rw append-nil
   free-after (x ∷ xs) body k s h =
-      let q = or-first (eqb x (g .«start_block») || eqb x (g .«end_block»)) (hasAny (g .«start_block») (g .«end_block») xs) h in
-      let ih = free-after xs (body ++ x ∷ []) (k + 1) s (or-second (eqb x (g .«start_block») || eqb x (g .«end_block»)) (hasAny (g .«start_block») (g .«end_block») xs) h) in
-      rw (grow k s x body (or-first (eqb x (g .«start_block»)) (eqb x (g .«end_block»)) q) (or-second (eqb x (g .«start_block»)) (eqb x (g .«end_block»)) q))
+      let q = or-left (eqb x (g .«start_block») || eqb x (g .«end_block»)) (hasAny (g .«start_block») (g .«end_block») xs) h in
+      let ih = free-after xs (body ++ x ∷ []) (k + 1) s (or-right (eqb x (g .«start_block») || eqb x (g .«end_block»)) (hasAny (g .«start_block») (g .«end_block») xs) h) in
+      rw (grow k s x body (or-left (eqb x (g .«start_block»)) (eqb x (g .«end_block»)) q) (or-right (eqb x (g .«start_block»)) (eqb x (g .«end_block»)) q))
       (ih ∙ ap (inside s) (append-assoc body (x ∷ []) xs))
-
-pub clear-free : (a b : ℕ) (l : List ℕ) → hasAny a b (take (clear a b l) l) ≡ false
-clear-free a b [] = refl
-clear-free a b (x ∷ xs) =
-    let ih = clear-free a b xs in
-    cond-ind (λ (n : ℕ). hasAny a b (take n (x ∷ xs)) ≡ false) (eqb x a || eqb x b) 0 (suc (clear a b xs)) (λ e. refl) (λ e. rw (e, ih))

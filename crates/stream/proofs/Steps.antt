@@ -1,7 +1,7 @@
 -- Laws of the scan: a stretch without SB or EB, and what stands where it stops.
 use mathlib.Core.Path.{_≡_, refl, sym, ap, _∙_}
 use mathlib.Core.List.{List, [], _∷_}
-use mathlib.Core.Bool.{Bool, true, false, cond, _||_, true≢false}
+use mathlib.Core.Bool.{true, false, cond, _||_}
 use Prim.Native.Nat.{ℕ, suc, _+_, _≤_, _<_, max, _-_}
 use native.Mathlib.Nat.{add-zero, add-assoc, max-eq-left, max-eq-right}
 use native.Mathlib.Decide.{decLe}
@@ -10,7 +10,7 @@ use lib.ListN.{length, take, drop, getD, set, length-set}
 use lib.Seq.{drop-drop, take-nil}
 use lib.Dec.{eqb, ltb, leb}
 use borrow.Author.Tests.{eq-eqb, ne-eqb, lt-ltb, le-ltb, le-leb, lt-leb, ltb-true, ltb-false, leb-true, leb-false}
-use Rattle.lists.proofs.Tests.{cond-ind}
+use Rattle.lists.proofs.Tests.{or-left, or-right, cond-ind}
 use Rattle.lists.proofs.Parts.{drop-more, drop-none}
 use Rattle.lists.proofs.Put.{put-none, put-set}
 use Rattle.lists.specs.Bytes.{clear}
@@ -79,14 +79,6 @@ max-more n m c h = go (decLe n m)
     go (yes l) = rw (max-eq-right l) h
     go (no l) = rw (max-eq-left {n = n} {m = m} (omega arith)) (omega arith)
 
-pub or-first : (a b : Bool) → (a || b) ≡ false → a ≡ false
-or-first true b e = e
-or-first false b e = refl
-
-pub or-second : (a b : Bool) → (a || b) ≡ false → b ≡ false
-or-second true b e = absurd (true≢false e)
-or-second false b e = e
-
 -- ---- stretches
 module _ (g : Settings) where
   fold-same : (p : Phase) (n m s k j : ℕ) (b d l : List ℕ) → n ≡ m → k ≡ j → b ≡ d
@@ -105,11 +97,12 @@ module _ (g : Settings) where
   skip [] b n s k = fold-same Between n n s k (k + 0) b b [] refl (sym (add-zero k)) refl
   skip (x ∷ xs) b n s k =
       let ih = skip xs b n s (k + 1) in
+      let m = clear (g .«start_block») (g .«start_block») xs in
       cond-ind
       (λ (c : ℕ). fold g (scan Pending Between n s k b) (x ∷ xs) ≡ fold g (scan Pending Between n s (k + c) b) (drop c (x ∷ xs)))
-      (eqb x (g .«start_block») || eqb x (g .«start_block»)) 0 (suc (clear (g .«start_block») (g .«start_block») xs))
+      (eqb x (g .«start_block») || eqb x (g .«start_block»)) 0 (suc m)
       (λ e. fold-same Between n n s k (k + 0) b b (x ∷ xs) refl (sym (add-zero k)) refl)
-      (λ e. skipped x xs b n s k (or-first _ _ e) ∙ ih ∙ fold-same Between n n s (k + 1 + clear (g .«start_block») (g .«start_block») xs) (k + suc (clear (g .«start_block») (g .«start_block») xs)) b b _ refl (omega arith) refl)
+      (λ e. skipped x xs b n s k (or-left _ _ e) ∙ ih ∙ fold-same Between n n s (k + 1 + m) (k + suc m) b b _ refl (omega arith) refl)
 
   -- one byte inside a block that is neither SB nor EB
   kept : (x : ℕ) (xs b : List ℕ) (n s k : ℕ) → eqb x (g .«start_block») ≡ false → eqb x (g .«end_block») ≡ false
@@ -120,11 +113,10 @@ module _ (g : Settings) where
 
   -- inside a block, up to the next SB or EB
   pub stretch : (l b : List ℕ) (n s k : ℕ) → capacityOf g ≤ length b
-      → fold g (scan Pending Inside n s k b) l
-      ≡ fold g
-      (scan Pending Inside (advanced (capacityOf g) n (clear (g .«start_block») (g .«end_block») l)) s (k + clear (g .«start_block») (g .«end_block») l)
-      (stored (capacityOf g) n (take (clear (g .«start_block») (g .«end_block») l) l) b))
-      (drop (clear (g .«start_block») (g .«end_block») l) l)
+      → let cap = capacityOf g in
+      let m = clear (g .«start_block») (g .«end_block») l in
+      fold g (scan Pending Inside n s k b) l
+      ≡ fold g (scan Pending Inside (advanced cap n m) s (k + m) (stored cap n (take m l) b)) (drop m l)
   stretch [] b n s k h =
       fold-same Inside n _ s k _ b _ [] (sym (advanced-none (capacityOf g) n)) (sym (add-zero k)) (sym (stored-none (capacityOf g) n b))
   stretch (x ∷ xs) b n s k h =
@@ -136,7 +128,7 @@ module _ (g : Settings) where
       (λ (m : ℕ). fold g (scan Pending Inside n s k b) (x ∷ xs) ≡ fold g (scan Pending Inside (advanced cap n m) s (k + m) (stored cap n (take m (x ∷ xs)) b)) (drop m (x ∷ xs)))
       (eqb x (g .«start_block») || eqb x (g .«end_block»)) 0 (suc c)
       (λ e. fold-same Inside n _ s k _ b _ (x ∷ xs) (sym (advanced-none cap n)) (sym (add-zero k)) (sym (stored-none cap n b)))
-      (λ e. kept x xs b n s k (or-first (eqb x (g .«start_block»)) (eqb x (g .«end_block»)) e) (or-second (eqb x (g .«start_block»)) (eqb x (g .«end_block»)) e)
+      (λ e. kept x xs b n s k (or-left (eqb x (g .«start_block»)) (eqb x (g .«end_block»)) e) (or-right (eqb x (g .«start_block»)) (eqb x (g .«end_block»)) e)
       ∙ cond-ind (λ (t : Scan). fold g t xs ≡ fold g (scan Pending Inside (advanced cap n (suc c)) s (k + suc c) (stored cap n (x ∷ take c xs) b)) (drop c xs))
       (ltb n cap) _ _
       (λ f. let lt : n < cap = ltb-true _ _ f in
@@ -194,18 +186,19 @@ module _ (g : Settings) (xs b : List ℕ) (n s k : ℕ) where
       ∙ fold-same g Inside 0 0 (k + j) _ _ b b _ refl (add-assoc k j 1) refl
 
   pub from-stretch : (i : ℕ) → capacityOf g ≤ length b
-      → from g Inside n s k b i xs
-      ≡ from g Inside (advanced (capacityOf g) n (clear (g .«start_block») (g .«end_block») (drop i xs))) s k
-      (stored (capacityOf g) n (take (clear (g .«start_block») (g .«end_block») (drop i xs)) (drop i xs)) b)
-      (i + clear (g .«start_block») (g .«end_block») (drop i xs)) xs
+      → let cap = capacityOf g in
+      let m = clear (g .«start_block») (g .«end_block») (drop i xs) in
+      from g Inside n s k b i xs ≡ from g Inside (advanced cap n m) s k (stored cap n (take m (drop i xs)) b) (i + m) xs
   unfolding from
   from-stretch i h =
+      let cap = capacityOf g in
+      let m = clear (g .«start_block») (g .«end_block») (drop i xs) in
       stretch g (drop i xs) b n s (k + i) h
-      ∙ ap (λ (l : List ℕ). fold g (scan Pending Inside (advanced (capacityOf g) n (clear (g .«start_block») (g .«end_block») (drop i xs))) s (k + i + clear (g .«start_block») (g .«end_block») (drop i xs)) (stored (capacityOf g) n (take (clear (g .«start_block») (g .«end_block») (drop i xs)) (drop i xs)) b)) l)
-      (drop-drop (clear (g .«start_block») (g .«end_block») (drop i xs)) i xs)
-      ∙ fold-same g Inside _ _ s _ _ _ _ _ refl (add-assoc k i (clear (g .«start_block») (g .«end_block») (drop i xs))) refl
+      ∙ ap (λ (l : List ℕ). fold g (scan Pending Inside (advanced cap n m) s (k + i + m) (stored cap n (take m (drop i xs)) b)) l) (drop-drop m i xs)
+      ∙ fold-same g Inside _ _ s _ _ _ _ _ refl (add-assoc k i m) refl
 
-  pub from-interrupted : (j : ℕ) → j < length xs → getD xs j 0 ≡ g .«start_block» → from g Inside n s k b j xs ≡ scan (Found s (Refused 8 0)) Inside 0 (k + j) (k + j + 1) b
+  pub from-interrupted : (j : ℕ) → j < length xs → getD xs j 0 ≡ g .«start_block»
+      → from g Inside n s k b j xs ≡ scan (Found s (Refused 8 0)) Inside 0 (k + j) (k + j + 1) b
   from-interrupted j h e = at-offset Inside j h ∙ one-interrupts g _ (drop (j + 1) xs) b n s (k + j) (eq-eqb _ _ e)
 
   pub from-ends : (j : ℕ) → j < length xs → (getD xs j 0 ≡ g .«start_block» → ⊥) → getD xs j 0 ≡ g .«end_block»

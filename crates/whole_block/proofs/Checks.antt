@@ -12,7 +12,8 @@ use borrow.Author.Tests.{eq-eqb, ne-eqb}
 use Rattle.lists.proofs.Parts.{drop-more, drop-none}
 use Rattle.lists.specs.Bytes.{hasAny}
 use Rattle.refusal.specs.declared.Verdict.the-variants.{Refused}
-use Rattle.stream.proofs.Run.{run-append, free-run, free-after, clear-free}
+use Rattle.lists.proofs.Search.{clear-free}
+use Rattle.stream.proofs.Run.{run-none, run-says, run-append, free-run, free-after}
 use Rattle.stream.proofs.Store.{Stopped}
 use Rattle.stream.specs.Stream.{Judged, Mode, between, inside, ended, judged, move, run, endVerdict, verdicts}
 use Rattle.settings.specs.Settings.{valid}
@@ -20,7 +21,7 @@ use Rattle.settings.specs.declared.Settings.{Settings}
 use Rattle.whole_block.specs.Whole.{beginsWith, only, initial, wholeOf, checkOf}
 
 -- ---- all bytes but the last
-initial-last : (l : List ℕ) (x : ℕ) → initial (l ++ x ∷ []) ≡ l
+pub initial-last : (l : List ℕ) (x : ℕ) → initial (l ++ x ∷ []) ≡ l
 initial-last [] x = refl
 initial-last (y ∷ []) x = refl
 initial-last (y ∷ z ∷ l) x = ap (λ (m : List ℕ). y ∷ m) (initial-last (z ∷ l) x)
@@ -37,15 +38,6 @@ only-none (w ∷ l) = refl
 begins-append : (sb : ℕ) (p ys : List ℕ) → beginsWith sb p ≡ true → beginsWith sb (p ++ ys) ≡ true
 begins-append sb [] ys e = absurd (false≢true e)
 begins-append sb (x ∷ p) ys e = e
-
-run-none : (g : Settings) (k : ℕ) (m : Mode) → run g k m [] ≡ []
-unfolding run
-run-none g k m = refl
-
-run-one : (g : Settings) (k : ℕ) (m n : Mode) (x : ℕ) (w : Judged) (ys : List ℕ) → move g k m x ≡ record { says = w ∷ []; mode = n }
-    → run g k m (x ∷ ys) ≡ w ∷ run g (k + 1) n ys
-unfolding run
-run-one g k m n x w ys e = rw e
 
 -- p begins with SB, brings no verdict and leads to the mode m
 module _ (g : Settings) (p : List ℕ) (k : ℕ) (m : Mode) (b : beginsWith (g .«start_block») p ≡ true)
@@ -66,7 +58,7 @@ module _ (g : Settings) (p : List ℕ) (k : ℕ) (m : Mode) (b : beginsWith (g .
   -- one byte more, with which the verdict comes
   pub whole-one : (x : ℕ) (w : Judged) (n : Mode) → move g k m x ≡ record { says = w ∷ []; mode = n } → w .verdict ≡ wholeOf g (p ++ x ∷ [])
   whole-one x w n e =
-      let v : verdicts g (p ++ x ∷ []) ≡ w ∷ [] = reach (x ∷ []) ∙ run-one g k m n x w [] e ∙ ap (λ (l : List Judged). w ∷ l) (run-none g (k + 1) n) in
+      let v : verdicts g (p ++ x ∷ []) ≡ w ∷ [] = reach (x ∷ []) ∙ run-says g k x m n w [] e ∙ ap (λ (l : List Judged). w ∷ l) (run-none g (k + 1) n) in
       sym (whole (x ∷ []) ∙ ap (λ (l : List ℕ). only (verdicts g l) (verdicts g (p ++ x ∷ []))) (initial-last p x)
       ∙ ap (λ (l : List Judged). only l (verdicts g (p ++ x ∷ []))) none-yet ∙ ap (λ (l : List Judged). only [] l) v)
 
@@ -74,7 +66,7 @@ module _ (g : Settings) (p : List ℕ) (k : ℕ) (m : Mode) (b : beginsWith (g .
   pub whole-early : (x y : ℕ) (ys : List ℕ) (w : Judged) (n : Mode) → move g k m x ≡ record { says = w ∷ []; mode = n }
       → (Refused 5 0) ≡ wholeOf g (p ++ x ∷ y ∷ ys)
   whole-early x y ys w n e =
-      let v : verdicts g (p ++ x ∷ initial (y ∷ ys)) ≡ w ∷ run g (k + 1) n (initial (y ∷ ys)) = reach (x ∷ initial (y ∷ ys)) ∙ run-one g k m n x w (initial (y ∷ ys)) e in
+      let v : verdicts g (p ++ x ∷ initial (y ∷ ys)) ≡ w ∷ run g (k + 1) n (initial (y ∷ ys)) = reach (x ∷ initial (y ∷ ys)) ∙ run-says g k x m n w (initial (y ∷ ys)) e in
       sym (whole (x ∷ y ∷ ys) ∙ ap (λ (l : List ℕ). only (verdicts g l) (verdicts g (p ++ x ∷ y ∷ ys))) (initial-longer p x y ys)
       ∙ ap (λ (l : List Judged). only l (verdicts g (p ++ x ∷ y ∷ ys))) v)
 
@@ -100,7 +92,8 @@ module _ (g : Settings) (body : List ℕ) (free : hasAny (g .«start_block») (g
       ap (λ (l : List ℕ). verdicts g l) (append-assoc (g .«start_block» ∷ body) (g .«end_block» ∷ []) ys)
       ∙ reach-body (g .«end_block» ∷ ys) ∙ ends e ys
 
-pub move-interrupted : (g : Settings) (k s : ℕ) (body : List ℕ) → move g k (inside s body) (g .«start_block») ≡ record { says = judged g s (Refused 8 0) body ∷ []; mode = inside k [] }
+pub move-interrupted : (g : Settings) (k s : ℕ) (body : List ℕ)
+    → move g k (inside s body) (g .«start_block») ≡ record { says = judged g s (Refused 8 0) body ∷ []; mode = inside k [] }
 unfolding move
 move-interrupted g k s body = rw (eq-eqb (g .«start_block») (g .«start_block») refl)
 
@@ -165,22 +158,25 @@ module _ (g : Settings) (xs : List ℕ) (m : ℕ) (h : Begins g xs m) where
 
     pub check-open : 1 + m + 1 ≡ length xs → (Refused 5 0) ≡ wholeOf g xs
     check-open l =
+        let after = drop-none xs (1 + m + 1) (omega arith) in
         whole-unfinished g (g .«start_block» ∷ body ++ g .«end_block» ∷ []) (1 + length body + 1) (ended 0 body) same-block (reach-end g body free apart)
-        ∙ ap (λ (z : List ℕ). wholeOf g z) (sym (closed [] (omega arith) (drop-none xs (1 + m + 1) (omega arith)) ∙ append-nil (g .«start_block» ∷ body ++ g .«end_block» ∷ [])))
+        ∙ ap (λ (z : List ℕ). wholeOf g z) (sym (closed [] (omega arith) after ∙ append-nil (g .«start_block» ∷ body ++ g .«end_block» ∷ [])))
 
     pub check-early : 1 + m + 1 + 1 < length xs → (Refused 5 0) ≡ wholeOf g xs
     check-early l =
+        let after = drop-more xs (1 + m + 1) (omega arith) ∙ ap (λ (r : List ℕ). getD xs (1 + m + 1) 0 ∷ r) (drop-more xs (1 + m + 1 + 1) l) in
         whole-early g (g .«start_block» ∷ body ++ g .«end_block» ∷ []) (1 + length body + 1) (ended 0 body) same-block (reach-end g body free apart)
         (getD xs (1 + m + 1) 0) (getD xs (1 + m + 1 + 1) 0) (drop (1 + m + 1 + 1 + 1) xs) _ _ (move-ended g (1 + length body + 1) 0 (getD xs (1 + m + 1) 0) body)
-        ∙ ap (λ (z : List ℕ). wholeOf g z) (sym (closed _ (omega arith) (drop-more xs (1 + m + 1) (omega arith) ∙ ap (λ (r : List ℕ). getD xs (1 + m + 1) 0 ∷ r) (drop-more xs (1 + m + 1 + 1) l))))
+        ∙ ap (λ (z : List ℕ). wholeOf g z) (sym (closed _ (omega arith) after))
 
     pub check-verdict : 1 + m + 1 + 1 ≡ length xs → endVerdict g (take (1 + m - 1) (drop 1 xs)) (getD xs (1 + m + 1) 0) ≡ wholeOf g xs
     unfolding body
     check-verdict l =
+        let after = drop-more xs (1 + m + 1) (omega arith) ∙ ap (λ (r : List ℕ). getD xs (1 + m + 1) 0 ∷ r) (drop-none xs (1 + m + 1 + 1) (omega arith)) in
         ap (λ (n : ℕ). endVerdict g (take n (drop 1 xs)) (getD xs (1 + m + 1) 0)) (add-sub-cancel-left 1 m)
         ∙ whole-one g (g .«start_block» ∷ body ++ g .«end_block» ∷ []) (1 + length body + 1) (ended 0 body) same-block (reach-end g body free apart)
         (getD xs (1 + m + 1) 0) _ _ (move-ended g (1 + length body + 1) 0 (getD xs (1 + m + 1) 0) body)
-        ∙ ap (λ (z : List ℕ). wholeOf g z) (sym (closed _ (omega arith) (drop-more xs (1 + m + 1) (omega arith) ∙ ap (λ (r : List ℕ). getD xs (1 + m + 1) 0 ∷ r) (drop-none xs (1 + m + 1 + 1) (omega arith)))))
+        ∙ ap (λ (z : List ℕ). wholeOf g z) (sym (closed _ (omega arith) after))
 
 -- bytes that do not begin with SB
 pub whole-empty : (g : Settings) → (Refused 5 0) ≡ wholeOf g []

@@ -4,22 +4,19 @@ use mathlib.Core.List.{List, []}
 use Prim.Native.Nat.{ℕ}
 use lib.Dec.{leb}
 use Rattle.lists.proofs.Tests.{cond-ind}
-use Rattle.lists.specs.Bytes.{over}
+use Rattle.lists.proofs.Calls.{withBuffer}
 use Rattle.lists.specs.Outcome.{Outcome, outcome, Called, called}
 use Rattle.refusal.specs.declared.Written.{Written}
 use Rattle.refusal.specs.declared.Written.the-variants.{Done, Refused}
-use Rattle.words.specs.Words.{reportWords, writeFinished}
+use Rattle.words.specs.Words.{writeFinished}
 
-abbrev withBuffer : List ℕ → Called → Called
-withBuffer b c = called (c .number) (c .state) b (c .report)
-
-with-buffer : (b p : List ℕ) (w : Written) → withBuffer b (writeFinished [] p w) ≡ writeFinished b p w
+finished-with : (b p : List ℕ) (w : Written) → withBuffer (writeFinished [] p w) b ≡ writeFinished b p w
 unfolding writeFinished
-with-buffer b p (Done n) = refl
-with-buffer b p (Refused k i) =
-    cond-ind (λ (z : Called). withBuffer b z ≡ writeFinished b p (Refused k i)) (leb k 2) _ _ (λ e. rw e) (λ e. rw e)
+finished-with b p (Done n) = refl
+finished-with b p (Refused k i) =
+    cond-ind (λ (z : Called). withBuffer z b ≡ writeFinished b p (Refused k i)) (leb k 2) _ _ (λ e. rw e) (λ e. rw e)
 
 pub write-finished : (p b q : List ℕ) (w : Written) (n : ℕ) (o : Outcome Written) → called n [] [] q ≡ writeFinished [] p w → outcome w b ≡ o
     → called n [] b q ≡ writeFinished (o .buffer) p (o .answer)
 write-finished p b q w n o e f =
-    ap (withBuffer b) e ∙ with-buffer b p w ∙ ap (λ (z : Outcome Written). writeFinished (z .buffer) p (z .answer)) f
+    ap (λ (z : Called). withBuffer z b) e ∙ finished-with b p w ∙ ap (λ (z : Outcome Written). writeFinished (z .buffer) p (z .answer)) f

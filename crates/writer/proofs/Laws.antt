@@ -3,7 +3,6 @@ use mathlib.Core.Path.{_≡_, refl, sym, ap, _∙_}
 use mathlib.Core.List.{List, [], _∷_, _++_, append-assoc}
 use mathlib.Core.Bool.{true, false}
 use Prim.Native.Nat.{ℕ, _+_, _≤_, _<_, _-_}
-use native.Mathlib.Decide.{decLe}
 use native.Mathlib.Omega.{arith}
 use lib.ListN.{length, drop, length-append}
 use lib.Dec.{leb}
@@ -19,7 +18,6 @@ use Rattle.settings.specs.declared.Kind.the-variants.{Hybrid, Minimal}
 use Rattle.settings.specs.declared.Settings.{Settings}
 use Rattle.writer.specs.Write.{frameLength, needOf, typeValid, refused, wrote, frameOf, writeOf}
 use Rattle.writer.specs.Internal.{hybridHeader, hybridTrailer}
-use Rattle.refusal.specs.declared.Written.{Written}
 use Rattle.refusal.specs.declared.Written.the-variants.{Done}
 use Rattle.lists.specs.Outcome.{outcome}
 
@@ -85,14 +83,6 @@ need-is s t d = go (s .kind)
     go : (k : Kind) → length d + frameLength k ≡ length (byKind k (hybridBlock s t d) (minimalBlock s d))
     go Hybrid = length-hybrid s t d
     go Minimal = length-minimal s d
-
--- the room, as the code tests it
-pub space-left : (have start frame size : ℕ) → start ≤ have → frame ≤ have - start → leb size (have - start - frame) ≡ leb (start + (size + frame)) have
-space-left have start frame size h l = go (decLe size (have - start - frame))
-  where
-    go : Dec (size ≤ have - start - frame) → leb size (have - start - frame) ≡ leb (start + (size + frame)) have
-    go (yes e) = le-leb size (have - start - frame) e ∙ sym (le-leb (start + (size + frame)) have (omega arith))
-    go (no e) = lt-leb size (have - start - frame) (omega arith) ∙ sym (lt-leb (start + (size + frame)) have (omega arith))
 
 -- what the writer says, by the first test that fails
 module _ (s : Settings) (t : ℕ) (d : List ℕ) (start : ℕ) (b : List ℕ) where

@@ -35,12 +35,16 @@ loop-less c = search needs
 
 loop-again : tie.Need-loop-again Inv-loop μ-loop
 loop-again c =
-    let l = c .before .before .loop in
-    let t : length (c .before .before .before .before .before .before .args .target .now) ≡ length (l .target) = sym (l .inv .1) in
-    let h = c .before .before .before .smaller .ensures in (
+    let at-loop = c .before .before in
+    let at-smaller = at-loop .before in
+    let a = at-smaller .before .before .before .args in
+    let l = at-loop .loop in
+    let t : length (a .target .now) ≡ length (l .target) = sym (l .inv .1) in
+    let h = at-smaller .smaller .ensures in (
       omega arith,
       simp length-set (l .inv .1),
-      ap (λ (z : List ℕ). set z (l .i) (getD (c .before .before .before .before .before .before .args .source .now) (l .i) 0)) (l .inv .2) ∙ over-more (c .before .before .before .before .before .before .args .target .now) (c .before .before .before .before .before .before .args .source .now) (l .i) (omega arith) (omega arith),
+      ap (λ (z : List ℕ). set z (l .i) (getD (a .source .now) (l .i) 0)) (l .inv .2) ∙ over-more (a .target .now) (a .source .now) (l .i)
+          (omega arith) (omega arith),
     )
 
 same-length : tie.Need-same-length Inv-loop μ-loop
@@ -48,9 +52,10 @@ same-length c = c .before .loop .inv .1
 
 returns : tie.Need-returns Inv-loop μ-loop
 returns c =
+    let a = c .before .before .before .before .before .args in
     let l = c .before .loop in
-    let e : l .i ≡ min (length (c .before .before .before .before .before .args .source .now)) (length (c .before .before .before .before .before .args .target .now)) = omega arith in
-    l .inv .2 ∙ rw e (over-least (c .before .before .before .before .before .args .target .now) (c .before .before .before .before .before .args .source .now))
+    let e : l .i ≡ min (length (a .source .now)) (length (a .target .now)) = omega arith in
+    l .inv .2 ∙ rw e (over-least (a .target .now) (a .source .now))
 
 pub copy-bytes-spec : {M : Type 1} → statement M
 copy-bytes-spec =

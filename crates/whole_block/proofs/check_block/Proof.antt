@@ -10,7 +10,8 @@ is-valid-requires : tie.Need-is-valid-requires
 is-valid-requires c κs = search needs
 
 returns : tie.Need-returns
-returns c = let a = c .before .before .before .args in check-setting (a .settings) (a .block .now) (sym (c .before .is-valid .ensures) ∙ not-true _ (c .if1 .taken))
+returns c =
+    let a = c .before .before .before .args in check-setting (a .settings) (a .block .now) (sym (c .before .is-valid .ensures) ∙ not-true _ (c .if1 .taken))
 
 judge-whole-requires : tie.Need-judge-whole-requires
 judge-whole-requires c κs = search needs

@@ -22,7 +22,9 @@ judge-block-requires c κs = search needs
 
 returns-3 : tie.Need-returns-3
 unfolding endVerdict
-returns-3 c = rw (sym (c .before .before .before .is-long .ensures) ∙ c .before .before .if1 .left, eq-eqb _ _ (c .before .if2 .left)) (c .judge-block .ensures)
+returns-3 c =
+    let at-if1 = c .before .before in
+    rw (sym (at-if1 .before .is-long .ensures) ∙ at-if1 .if1 .left, eq-eqb _ _ (c .before .if2 .left)) (c .judge-block .ensures)
 
 pub end-verdict-spec : {M : Type 1} → statement M
 end-verdict-spec =

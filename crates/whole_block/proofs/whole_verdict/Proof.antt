@@ -12,7 +12,12 @@ use Rattle.whole_block.proofs.whole_verdict.Tie as tie
 -- the bytes begin with SB, and the search stopped
 begins : (c : tie.After-find-stop) → Begins (c .before .before .before .args .settings) (c .before .before .before .args .block .now) (c .find-stop .result)
 begins c =
-    record { long = c .before .before .before .pre .0; first = c .before .before .before .pre .1; stop = stopped _ _ (c .before .before .before .args .block .now) 1 _ (c .before .before .before .pre .0) (c .find-stop .ensures) }
+    let at-start = c .before .before .before in
+    record {
+      long = at-start .pre .0;
+      first = at-start .pre .1;
+      stop = stopped _ _ (at-start .args .block .now) 1 _ (at-start .pre .0) (c .find-stop .ensures);
+    }
 
 end-byte : (c : tie.After-find-stop) → 1 + c .find-stop .result < length (c .before .before .before .args .block .now)
     → (getD (c .before .before .before .args .block .now) (1 + c .find-stop .result) 0 ≡ c .before .before .before .args .settings .«start_block» → ⊥)
@@ -47,16 +52,25 @@ returns-2 : tie.Need-returns-2
 returns-2 c = check-interrupted _ _ _ (begins (c .before .before .before .before .before)) (c .before .if2 .taken) (c .if3 .taken)
 
 returns-3 : tie.Need-returns-3
-returns-3 c = check-interrupted-early _ _ _ (begins (c .before .before .before .before .before)) (c .before .if2 .taken) (omega (arith, begins (c .before .before .before .before .before) .stop .most))
+returns-3 c =
+    let at-find-stop = c .before .before .before .before .before in
+    check-interrupted-early _ _ _ (begins at-find-stop) (c .before .if2 .taken) (omega (arith, begins at-find-stop .stop .most))
 
 returns-4 : tie.Need-returns-4
-returns-4 c = check-open _ _ _ (begins (c .before .before .before .before .before)) (c .before .if2 .left) (end-byte (c .before .before .before .before .before) (omega arith) (c .before .if2 .left)) (c .if4 .taken)
+returns-4 c =
+    let at-find-stop = c .before .before .before .before .before in
+    check-open _ _ _ (begins at-find-stop) (c .before .if2 .left) (end-byte at-find-stop (omega arith) (c .before .if2 .left)) (c .if4 .taken)
 
 add-if5 : tie.Need-add-if5
 add-if5 c = omega (arith, begins (c .before .before .before .before .before) .stop .most)
 
 returns-5 : tie.Need-returns-5
-returns-5 c = check-early _ _ _ (begins (c .before .before .before .before .before .before)) (c .before .before .if2 .left) (end-byte (c .before .before .before .before .before .before) (omega (arith, begins (c .before .before .before .before .before .before) .stop .most)) (c .before .before .if2 .left)) (omega (arith, begins (c .before .before .before .before .before .before) .stop .most))
+returns-5 c =
+    let at-if2 = c .before .before in
+    let at-find-stop = at-if2 .before .before .before .before in
+    check-early _ _ _ (begins at-find-stop) (at-if2 .if2 .left)
+    (end-byte at-find-stop (omega (arith, begins at-find-stop .stop .most)) (at-if2 .if2 .left))
+    (omega (arith, begins at-find-stop .stop .most))
 
 sub-end-verdict : tie.Need-sub-end-verdict
 sub-end-verdict c = search needs
@@ -74,7 +88,13 @@ end-verdict-requires : tie.Need-end-verdict-requires
 end-verdict-requires c κs = search needs
 
 returns-6 : tie.Need-returns-6
-returns-6 c = c .end-verdict .ensures ∙ check-verdict (c .before .before .before .before .before .before .before .before .before .before .before .before .args .settings) (c .before .before .before .before .before .before .before .before .before .before .before .before .args .block .now) (c .before .before .before .before .before .before .before .before .before .find-stop .result) (begins (c .before .before .before .before .before .before .before .before .before)) (c .before .before .before .before .before .if2 .left) (end-byte (c .before .before .before .before .before .before .before .before .before) (omega (arith, begins (c .before .before .before .before .before .before .before .before .before) .stop .most)) (c .before .before .before .before .before .if2 .left)) (c .before .before .before .if5 .left)
+returns-6 c =
+    let at-if5 = c .before .before .before in
+    let at-if2 = at-if5 .before .before in
+    let at-find-stop = at-if2 .before .before .before .before in
+    let a = at-find-stop .before .before .before .args in
+    c .end-verdict .ensures ∙ check-verdict (a .settings) (a .block .now) (at-find-stop .find-stop .result) (begins at-find-stop)
+    (at-if2 .if2 .left) (end-byte at-find-stop (omega (arith, begins at-find-stop .stop .most)) (at-if2 .if2 .left)) (at-if5 .if5 .left)
 
 pub whole-verdict-spec : {M : Type 1} → statement M
 whole-verdict-spec =

@@ -27,7 +27,9 @@ same-length : tie.Need-same-length
 same-length c = simp length-set
 
 returns-2 : tie.Need-returns-2
-returns-2 c = written-over (c .before .before .before .before .args .words .now) (_ ∷ _ ∷ []) (c .before .before .if1 .left) ∙ rw (c .before .word .ensures, c .word2 .ensures)
+returns-2 c =
+    let at-if1 = c .before .before in
+    written-over (at-if1 .before .before .args .words .now) (_ ∷ _ ∷ []) (at-if1 .if1 .left) ∙ rw (c .before .word .ensures, c .word2 .ensures)
 
 pub write-report-spec : {M : Type 1} → statement M
 write-report-spec =

@@ -1,7 +1,11 @@
-use mathlib.Core.Path.{sym, ap, _∙_}
+use mathlib.Core.Path.{_≡_, sym, ap, _∙_}
+use mathlib.Core.Bool.{true}
+use Prim.Native.Nat.{_+_}
+use lib.ListN.{length}
+use lib.Dec.{leb}
 use borrow.Author.Tests.{not-true, not-false}
 use Rattle.block.specs.Format.{hybridBlock, minimalBlock, blockOf}
-use Rattle.writer.specs.Write.{refused}
+use Rattle.writer.specs.Write.{needOf, refused}
 use Rattle.writer.proofs.Laws.{frame-too-short, frame-long, frame-shape, frame-byte, frame-all, block-hybrid, block-minimal, wrote-is, space-hybrid, space-minimal}
 use borrow.Author.Needs.{needs}
 use Rattle.writer.proofs.frame.Statement.{statement}
@@ -13,33 +17,35 @@ frame-length-requires c κs = search needs
 is-long-enough-requires : tie.Need-is-long-enough-requires
 is-long-enough-requires c κs = search needs
 
+-- the block fits into the buffer from that offset on
+enough : (c : tie.Else1)
+    → let a = c .before .before .before .before .before .args in
+    leb (a .start + needOf (a .settings) (a .content .now)) (length (a .buffer .now)) ≡ true
+enough c =
+    sym (rw (c .before .before .frame-length .ensures) at (c .before .is-long-enough .ensures)) ∙ not-false _ (c .if1 .left)
+
 returns : tie.Need-returns
 returns c =
-    let at2 = c in
-    let a = at2 .before .before .before .before .before .args in
-    let enough = sym (rw (at2 .before .before .frame-length .ensures) at (at2 .before .is-long-enough .ensures)) ∙ not-true _ (at2 .if1 .taken) in
-    frame-too-short (a .settings) (a .t) (a .content .now) (a .start) (a .buffer .now) enough
+    let a = c .before .before .before .before .before .args in
+    frame-too-short (a .settings) (a .t) (a .content .now) (a .start) (a .buffer .now)
+    (sym (rw (c .before .before .frame-length .ensures) at (c .before .is-long-enough .ensures)) ∙ not-true _ (c .if1 .taken))
 
 returns-2 : tie.Need-returns-2
 returns-2 c =
-    let at3 = c in
-    let at2 = at3 .before .before in
+    let at2 = c .before .before in
     let a = at2 .before .before .before .before .before .args in
-    let enough = sym (rw (at2 .before .before .frame-length .ensures) at (at2 .before .is-long-enough .ensures)) ∙ not-false _ (at2 .if1 .left) in
-    frame-long (a .settings) (a .t) (a .content .now) (a .start) (a .buffer .now) enough (at3 .if2 .taken)
+    frame-long (a .settings) (a .t) (a .content .now) (a .start) (a .buffer .now) (enough at2) (c .if2 .taken)
 
 type-valid-requires : tie.Need-type-valid-requires
 type-valid-requires c κs = search needs
 
 returns-3 : tie.Need-returns-3
 returns-3 c =
-    let at4 = c in
-    let at3 = at4 .before .before in
+    let at3 = c .before .before in
     let at2 = at3 .before .before in
     let a = at2 .before .before .before .before .before .args in
-    let enough = sym (rw (at2 .before .before .frame-length .ensures) at (at2 .before .is-long-enough .ensures)) ∙ not-false _ (at2 .if1 .left) in
-    let type = sym (at4 .before .type-valid .ensures) ∙ not-true _ (at4 .if3 .taken) in
-    frame-shape (a .settings) (a .t) (a .content .now) (a .start) (a .buffer .now) enough (at3 .if2 .left) type
+    let type = sym (c .before .type-valid .ensures) ∙ not-true _ (c .if3 .taken) in
+    frame-shape (a .settings) (a .t) (a .content .now) (a .start) (a .buffer .now) (enough at2) (at3 .if2 .left) type
 
 are-allowed-requires : tie.Need-are-allowed-requires
 are-allowed-requires c κs = search needs
@@ -54,11 +60,10 @@ returns-4 c =
     let at3 = at4 .before .before in
     let at2 = at3 .before .before in
     let a = at2 .before .before .before .before .before .args in
-    let enough = sym (rw (at2 .before .before .frame-length .ensures) at (at2 .before .is-long-enough .ensures)) ∙ not-false _ (at2 .if1 .left) in
     let type = sym (at4 .before .type-valid .ensures) ∙ not-false _ (at4 .if3 .left) in
     let bytes = sym (at5 .before .are-allowed .ensures) ∙ not-true _ (at5 .if4 .taken) in
     ap (λ n. refused 3 n (a .buffer .now)) (c .first-forbidden .ensures)
-    ∙ frame-byte (a .settings) (a .t) (a .content .now) (a .start) (a .buffer .now) enough (at3 .if2 .left) type bytes
+    ∙ frame-byte (a .settings) (a .t) (a .content .now) (a .start) (a .buffer .now) (enough at2) (at3 .if2 .left) type bytes
 
 enum-told : tie.Need-enum-told
 enum-told c = search needs
@@ -70,8 +75,7 @@ write-block-requires c κs =
     let at3 = at4 .before .before in
     let at2 = at3 .before .before in
     let a = at2 .before .before .before .before .before .args in
-    let enough = sym (rw (at2 .before .before .frame-length .ensures) at (at2 .before .is-long-enough .ensures)) ∙ not-false _ (at2 .if1 .left) in
-    space-hybrid (a .settings .kind) (a .start) _ (a .content .now) enough (c .before .enum-told .given .1)
+    space-hybrid (a .settings .kind) (a .start) _ (a .content .now) (enough at2) (c .before .enum-told .given .1)
 
 enum-told-2 : tie.Need-enum-told-2
 enum-told-2 c = search needs
@@ -83,8 +87,7 @@ write-block-requires-2 c κs =
     let at3 = at4 .before .before in
     let at2 = at3 .before .before in
     let a = at2 .before .before .before .before .before .args in
-    let enough = sym (rw (at2 .before .before .frame-length .ensures) at (at2 .before .is-long-enough .ensures)) ∙ not-false _ (at2 .if1 .left) in
-    space-minimal (a .settings .kind) (a .start) _ (a .content .now) enough (c .before .enum-told2 .given .1)
+    space-minimal (a .settings .kind) (a .start) _ (a .content .now) (enough at2) (c .before .enum-told2 .given .1)
 
 same-length : tie.Need-same-length
 same-length c = search needs
@@ -96,13 +99,12 @@ returns-5 c =
     let at3 = at4 .before .before in
     let at2 = at3 .before .before in
     let a = at2 .before .before .before .before .before .args in
-    let enough = sym (rw (at2 .before .before .frame-length .ensures) at (at2 .before .is-long-enough .ensures)) ∙ not-false _ (at2 .if1 .left) in
     let type = sym (at4 .before .type-valid .ensures) ∙ not-false _ (at4 .if3 .left) in
     let bytes = sym (at5 .before .are-allowed .ensures) ∙ not-false _ (at5 .if4 .left) in
     let block = c .before .before .write-block in
     wrote-is (a .buffer .now) (a .start) (block .result) _ (hybridBlock (a .settings) (a .t) (a .content .now)) (blockOf (a .settings) (a .t) (a .content .now)) (block .ensures .0)
     (block .ensures .1) (block-hybrid (a .settings) (a .t) (a .content .now) (a .start) (a .buffer .now) (c .before .before .before .before .enum-told .given .1))
-    ∙ frame-all (a .settings) (a .t) (a .content .now) (a .start) (a .buffer .now) enough (at3 .if2 .left) type bytes
+    ∙ frame-all (a .settings) (a .t) (a .content .now) (a .start) (a .buffer .now) (enough at2) (at3 .if2 .left) type bytes
 
 same-length-2 : tie.Need-same-length-2
 same-length-2 c = search needs
@@ -114,13 +116,12 @@ returns-6 c =
     let at3 = at4 .before .before in
     let at2 = at3 .before .before in
     let a = at2 .before .before .before .before .before .args in
-    let enough = sym (rw (at2 .before .before .frame-length .ensures) at (at2 .before .is-long-enough .ensures)) ∙ not-false _ (at2 .if1 .left) in
     let type = sym (at4 .before .type-valid .ensures) ∙ not-false _ (at4 .if3 .left) in
     let bytes = sym (at5 .before .are-allowed .ensures) ∙ not-false _ (at5 .if4 .left) in
     let block = c .before .before .write-block2 in
     wrote-is (a .buffer .now) (a .start) (block .result) _ (minimalBlock (a .settings) (a .content .now)) (blockOf (a .settings) (a .t) (a .content .now)) (block .ensures .0)
     (block .ensures .1) (block-minimal (a .settings) (a .t) (a .content .now) (a .start) (a .buffer .now) (c .before .before .before .before .enum-told2 .given .1))
-    ∙ frame-all (a .settings) (a .t) (a .content .now) (a .start) (a .buffer .now) enough (at3 .if2 .left) type bytes
+    ∙ frame-all (a .settings) (a .t) (a .content .now) (a .start) (a .buffer .now) (enough at2) (at3 .if2 .left) type bytes
 
 pub frame-spec : {M : Type 1} → statement M
 frame-spec =

@@ -15,8 +15,10 @@ part-of-requires c κs = search needs
 
 returns : tie.Need-returns
 returns c =
-    let a = c .before .before .before .before .args in
-    content-part (a .settings) (a .verdict) (a .buffer .now) _ (c .before .before .data-offset .result) (c .before .data-length .result) (c .before .before .data-offset .ensures) (c .before .data-length .ensures) (c .part-of .ensures)
+    let at-data-offset = c .before .before in
+    let a = at-data-offset .before .before .args in
+    content-part (a .settings) (a .verdict) (a .buffer .now) _ (at-data-offset .data-offset .result) (c .before .data-length .result)
+    (at-data-offset .data-offset .ensures) (c .before .data-length .ensures) (c .part-of .ensures)
 
 pub block-content-spec : {M : Type 1} → statement M
 block-content-spec =

@@ -12,13 +12,17 @@ enum-told : tie.Need-enum-told
 enum-told c = search needs
 
 returns : tie.Need-returns
-returns c = rw (c .before .enum-told .given .1) (sym (le-ltb (c .before .before .before .args .settings .«data_limit» + 12) (c .before .before .before .args .body-length) (omega arith)))
+returns c =
+    let a = c .before .before .before .args in
+    rw (c .before .enum-told .given .1) (sym (le-ltb (a .settings .«data_limit» + 12) (a .body-length) (omega arith)))
 
 enum-told-2 : tie.Need-enum-told-2
 enum-told-2 c = search needs
 
 returns-2 : tie.Need-returns-2
-returns-2 c = rw (c .before .enum-told .given .1) (ltb-less (c .before .before .before .args .settings .«data_limit») (c .before .before .before .args .body-length) 12 (c .if1 .left))
+returns-2 c =
+    let a = c .before .before .before .args in
+    rw (c .before .enum-told .given .1) (ltb-less (a .settings .«data_limit») (a .body-length) 12 (c .if1 .left))
 
 returns-3 : tie.Need-returns-3
 returns-3 c = rw (c .enum-told2 .given .1)

@@ -38,8 +38,13 @@ digit-of-requires-5 c κs = search needs
 returns : tie.Need-returns
 unfolding fiveDigits
 returns c =
-    rw (c .before .before .before .before .before .before .before .before .digit-of .ensures, c .before .before .before .before .before .before .digit-of2 .ensures, c .before .before .before .before .digit-of3 .ensures, c .before .before .digit-of4 .ensures, c .digit-of5 .ensures)
-    (five-same (c .before .before .before .before .before .before .before .before .before .before .before .args .s .now) _ _ _ _ _ (c .before .before .before .before .before .before .before .before .before .before .before .pre))
+    let at-digit-of4 = c .before .before in
+    let at-digit-of3 = at-digit-of4 .before .before in
+    let at-digit-of2 = at-digit-of3 .before .before in
+    let at-digit-of = at-digit-of2 .before .before in
+    let at-start = at-digit-of .before .before .before in
+    rw (at-digit-of .digit-of .ensures, at-digit-of2 .digit-of2 .ensures, at-digit-of3 .digit-of3 .ensures, at-digit-of4 .digit-of4 .ensures, c .digit-of5 .ensures)
+    (five-same (at-start .args .s .now) _ _ _ _ _ (at-start .pre))
 
 pub is-five-digits-spec : {M : Type 1} → statement M
 is-five-digits-spec =

@@ -19,7 +19,9 @@ is-three-requires c κs = search needs
 
 returns : tie.Need-returns
 unfolding threeDigits
-returns c = c .is-three .ensures ∙ rw (c .before .before .before .digit-of .ensures, c .before .before .digit-of2 .ensures, c .before .digit-of3 .ensures)
+returns c =
+    let at-digit-of2 = c .before .before in
+    c .is-three .ensures ∙ rw (at-digit-of2 .before .digit-of .ensures, at-digit-of2 .digit-of2 .ensures, c .before .digit-of3 .ensures)
 
 pub is-three-digits-spec : {M : Type 1} → statement M
 is-three-digits-spec =

@@ -67,7 +67,13 @@ judge-parts-requires : tie.Need-judge-parts-requires
 judge-parts-requires c κs = search needs
 
 returns-3 : tie.Need-returns-3
-returns-3 c = c .judge-parts .ensures ∙ hybrid-parts (c .before .before .before .before .before .before .before .before .before .before .args .start-block) (c .before .before .before .before .before .before .before .before .before .before .args .body .now) (c .before .before .before .before .before .before .before .before .if1 .left) (sym (c .before .before .before .before .before .before .is-three .ensures) ∙ not-false _ (c .before .before .before .before .before .if2 .left))
+returns-3 c =
+    let at-if2 = c .before .before .before .before .before in
+    let at-is-three = at-if2 .before in
+    let at-if1 = at-is-three .before .before in
+    let a = at-if1 .before .before .args in
+    c .judge-parts .ensures ∙ hybrid-parts (a .start-block) (a .body .now) (at-if1 .if1 .left)
+    (sym (at-is-three .is-three .ensures) ∙ not-false _ (at-if2 .if2 .left))
 
 pub judge-hybrid-spec : {M : Type 1} → statement M
 judge-hybrid-spec =

@@ -23,9 +23,13 @@ first-forbidden-requires c κs = search needs
 
 returns-2 : tie.Need-returns-2
 returns-2 c =
-    let a = c .before .before .before .before .before .before .before .before .args in
+    let at-are-allowed = c .before .before in
+    let at-if1 = at-are-allowed .before in
+    let at-type-matches = at-if1 .before in
+    let a = at-type-matches .before .before .before .before .args in
     ap (λ (i : ℕ). Refused 3 i) (c .first-forbidden .ensures) ∙ parts-byte (a .start-block) (a .t) (a .s .now) (a .count .now) (a .sum .now)
-    (sym (c .before .before .before .before .type-matches .ensures) ∙ not-false _ (c .before .before .before .if1 .left)) (sym (c .before .before .are-allowed .ensures) ∙ not-true _ (c .before .if2 .taken))
+    (sym (at-type-matches .type-matches .ensures) ∙ not-false _ (at-if1 .if1 .left))
+    (sym (at-are-allowed .are-allowed .ensures) ∙ not-true _ (c .before .if2 .taken))
 
 add-is-five-digits : tie.Need-add-is-five-digits
 add-is-five-digits c = search needs
@@ -36,9 +40,14 @@ is-five-digits-requires c κs = search needs
 returns-3 : tie.Need-returns-3
 unfolding countField
 returns-3 c =
-    let a = c .before .before .before .before .before .before .before .before .before .args in
+    let at-if2 = c .before .before in
+    let at-are-allowed = at-if2 .before in
+    let at-if1 = at-are-allowed .before in
+    let at-type-matches = at-if1 .before in
+    let a = at-type-matches .before .before .before .before .args in
     parts-count (a .start-block) (a .t) (a .s .now) (a .count .now) (a .sum .now)
-    (sym (c .before .before .before .before .before .type-matches .ensures) ∙ not-false _ (c .before .before .before .before .if1 .left)) (sym (c .before .before .before .are-allowed .ensures) ∙ not-false _ (c .before .before .if2 .left))
+    (sym (at-type-matches .type-matches .ensures) ∙ not-false _ (at-if1 .if1 .left))
+    (sym (at-are-allowed .are-allowed .ensures) ∙ not-false _ (at-if2 .if2 .left))
     (sym (c .before .is-five-digits .ensures) ∙ not-true _ (c .if3 .taken))
 
 checksum-matches-requires : tie.Need-checksum-matches-requires
@@ -47,18 +56,34 @@ checksum-matches-requires c κs = search needs
 returns-4 : tie.Need-returns-4
 unfolding countField
 returns-4 c =
-    let a = c .before .before .before .before .before .before .before .before .before .before .before .args in
+    let at-if3 = c .before .before in
+    let at-is-five-digits = at-if3 .before in
+    let at-if2 = at-is-five-digits .before in
+    let at-are-allowed = at-if2 .before in
+    let at-if1 = at-are-allowed .before in
+    let at-type-matches = at-if1 .before in
+    let a = at-type-matches .before .before .before .before .args in
     parts-check (a .start-block) (a .t) (a .s .now) (a .count .now) (a .sum .now)
-    (sym (c .before .before .before .before .before .before .before .type-matches .ensures) ∙ not-false _ (c .before .before .before .before .before .before .if1 .left)) (sym (c .before .before .before .before .before .are-allowed .ensures) ∙ not-false _ (c .before .before .before .before .if2 .left))
-    (sym (c .before .before .before .is-five-digits .ensures) ∙ not-false _ (c .before .before .if3 .left)) (sym (c .before .checksum-matches .ensures) ∙ not-true _ (c .if4 .taken))
+    (sym (at-type-matches .type-matches .ensures) ∙ not-false _ (at-if1 .if1 .left))
+    (sym (at-are-allowed .are-allowed .ensures) ∙ not-false _ (at-if2 .if2 .left))
+    (sym (at-is-five-digits .is-five-digits .ensures) ∙ not-false _ (at-if3 .if3 .left))
+    (sym (c .before .checksum-matches .ensures) ∙ not-true _ (c .if4 .taken))
 
 returns-5 : tie.Need-returns-5
 unfolding countField
 returns-5 c =
-    let a = c .before .before .before .before .before .before .before .before .before .before .before .args in
+    let at-if3 = c .before .before in
+    let at-is-five-digits = at-if3 .before in
+    let at-if2 = at-is-five-digits .before in
+    let at-are-allowed = at-if2 .before in
+    let at-if1 = at-are-allowed .before in
+    let at-type-matches = at-if1 .before in
+    let a = at-type-matches .before .before .before .before .args in
     parts-accepted (a .start-block) (a .t) (a .s .now) (a .count .now) (a .sum .now)
-    (sym (c .before .before .before .before .before .before .before .type-matches .ensures) ∙ not-false _ (c .before .before .before .before .before .before .if1 .left)) (sym (c .before .before .before .before .before .are-allowed .ensures) ∙ not-false _ (c .before .before .before .before .if2 .left))
-    (sym (c .before .before .before .is-five-digits .ensures) ∙ not-false _ (c .before .before .if3 .left)) (sym (c .before .checksum-matches .ensures) ∙ not-false _ (c .if4 .left))
+    (sym (at-type-matches .type-matches .ensures) ∙ not-false _ (at-if1 .if1 .left))
+    (sym (at-are-allowed .are-allowed .ensures) ∙ not-false _ (at-if2 .if2 .left))
+    (sym (at-is-five-digits .is-five-digits .ensures) ∙ not-false _ (at-if3 .if3 .left))
+    (sym (c .before .checksum-matches .ensures) ∙ not-false _ (c .if4 .left))
 
 pub judge-parts-spec : {M : Type 1} → statement M
 judge-parts-spec =

@@ -19,8 +19,9 @@ returns c =
 
 returns-2 : tie.Need-returns-2
 returns-2 c =
-    let a = c .before .before .before .before .before .before .args in
-    rw (c .before .before .made .given .1) (check-few _ (a .block .now) (a .verdict .now) (c .if1 .taken))
+    let at-made = c .before .before in
+    let a = at-made .before .before .before .before .args in
+    rw (at-made .made .given .1) (check-few _ (a .block .now) (a .verdict .now) (c .if1 .taken))
 
 judge-whole-requires : tie.Need-judge-whole-requires
 judge-whole-requires c κs = search needs

@@ -21,7 +21,11 @@ same-length c = search needs
 
 returns-2 : tie.Need-returns-2
 unfolding freshReaderCall
-returns-2 c = rw (le-leb 4 (length (c .before .before .before .before .before .before .before .args .state .now)) (c .before .before .before .before .before .if1 .left), c .before .before .write-reader .ensures, c .before .before .before .new .ensures)
+returns-2 c =
+    let at-write-reader = c .before .before in
+    let at-new = at-write-reader .before in
+    let at-if1 = at-new .before .before in
+    rw (le-leb 4 (length (at-if1 .before .before .args .state .now)) (at-if1 .if1 .left), at-write-reader .write-reader .ensures, at-new .new .ensures)
 
 pub fresh-words-spec : {M : Type 1} → statement M
 fresh-words-spec =

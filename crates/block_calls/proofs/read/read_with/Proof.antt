@@ -36,9 +36,13 @@ same-length-4 c = search needs
 
 returns-2 : tie.Need-returns-2
 returns-2 c =
-    let a = c .before .before .before .before .before .before .before .before .before .before .before .before .before .before .before .before .before .before .before .before .args in
-    rw (← (c .before .before .before .before .before .before .before .before .before .before .before .before .before .before .read-reader .ensures), c .before .before .before .before .before .before .before .before .before .before .before .before .reader .given .1)
-    (read-known (a .settings) (a .state .now) (a .verdict .now) (c .before .before .before .before .before .before .before .before .before .read .last .1 .1 .1 .0) (c .before .before .before .before .before .before .before .before .before .read .result) _ (c .before .before .before .before .finish .result) _ _ (c .before .before .before .before .finish .ensures) (c .before .before .before .before .before .before .before .before .before .read .ensures))
+    let at-finish = c .before .before .before .before in
+    let at-read = at-finish .before .before .before .before .before in
+    let at-reader = at-read .before .before .before in
+    let at-read-reader = at-reader .before .before in
+    let a = at-read-reader .before .before .before .before .before .before .args in
+    rw (← (at-read-reader .read-reader .ensures), at-reader .reader .given .1)
+    (read-known (a .settings) (a .state .now) (a .verdict .now) (at-read .read .last .1 .1 .1 .0) (at-read .read .result) _ (at-finish .finish .result) _ _ (at-finish .finish .ensures) (at-read .read .ensures))
 
 pub read-with-spec : {M : Type 1} → statement M
 read-with-spec =

@@ -19,13 +19,16 @@ returns c =
 
 returns-2 : tie.Need-returns-2
 returns-2 c =
-    let a = c .before .before .before .before .before .before .before .before .args in
-    rw (c .before .before .made .given .1) (read-few-state _ (a .state .now) (a .part .now) (a .buffer .now) (a .verdict .now) (c .if1 .taken))
+    let at-made = c .before .before in
+    let a = at-made .before .before .before .before .before .before .args in
+    rw (at-made .made .given .1) (read-few-state _ (a .state .now) (a .part .now) (a .buffer .now) (a .verdict .now) (c .if1 .taken))
 
 returns-3 : tie.Need-returns-3
 returns-3 c =
-    let a = c .before .before .before .before .before .before .before .before .before .args in
-    rw (c .before .before .before .made .given .1) (read-few-verdict _ (a .state .now) (a .part .now) (a .buffer .now) (a .verdict .now) (c .before .if1 .left) (c .if2 .taken))
+    let at-made = c .before .before .before in
+    let a = at-made .before .before .before .before .before .before .args in
+    rw (at-made .made .given .1)
+    (read-few-verdict _ (a .state .now) (a .part .now) (a .buffer .now) (a .verdict .now) (c .before .if1 .left) (c .if2 .taken))
 
 buffer-fits-requires : tie.Need-buffer-fits-requires
 buffer-fits-requires c κs = search needs
@@ -35,8 +38,12 @@ same-length c = search needs
 
 returns-4 : tie.Need-returns-4
 returns-4 c =
-    let a = c .before .before .before .before .before .before .before .before .before .before .before .before .args in
-    rw (c .before .before .before .before .before .before .made .given .1) (read-few-buffer _ (a .state .now) (a .part .now) (a .buffer .now) (a .verdict .now) (c .before .before .before .before .if1 .left) (c .before .before .before .if2 .left) (sym (c .before .buffer-fits .ensures) ∙ not-true _ (c .if3 .taken)))
+    let at-if2 = c .before .before .before in
+    let at-if1 = at-if2 .before in
+    let at-made = at-if1 .before .before in
+    let a = at-made .before .before .before .before .before .before .args in
+    rw (at-made .made .given .1)
+    (read-few-buffer _ (a .state .now) (a .part .now) (a .buffer .now) (a .verdict .now) (at-if1 .if1 .left) (at-if2 .if2 .left) (sym (c .before .buffer-fits .ensures) ∙ not-true _ (c .if3 .taken)))
 
 read-with-requires : tie.Need-read-with-requires
 read-with-requires c κs = search needs
@@ -52,8 +59,15 @@ same-length-4 c = search needs
 
 returns-5 : tie.Need-returns-5
 returns-5 c =
-    let a = c .before .before .before .before .before .before .before .before .before .before .before .before .before .before .before .before .before .before .before .before .before .before .args in
-    rw (c .before .before .before .before .before .before .before .before .before .before .before .before .before .before .before .before .made .given .1) (c .before .before .before .before .before .before .read-with .ensures ∙ read-done _ (a .state .now) (a .part .now) (a .buffer .now) (a .verdict .now) (c .before .before .before .before .before .before .before .before .before .before .before .before .before .before .if1 .left) (c .before .before .before .before .before .before .before .before .before .before .before .before .before .if2 .left) (sym (c .before .before .before .before .before .before .before .before .before .before .before .buffer-fits .ensures) ∙ not-false _ (c .before .before .before .before .before .before .before .before .before .before .if3 .left)))
+    let at-read-with = c .before .before .before .before .before .before in
+    let at-if3 = at-read-with .before .before .before .before in
+    let at-buffer-fits = at-if3 .before in
+    let at-if2 = at-buffer-fits .before .before in
+    let at-if1 = at-if2 .before in
+    let at-made = at-if1 .before .before in
+    let a = at-made .before .before .before .before .before .before .args in
+    rw (at-made .made .given .1)
+    (at-read-with .read-with .ensures ∙ read-done _ (a .state .now) (a .part .now) (a .buffer .now) (a .verdict .now) (at-if1 .if1 .left) (at-if2 .if2 .left) (sym (at-buffer-fits .buffer-fits .ensures) ∙ not-false _ (at-if3 .if3 .left)))
 
 pub read-words-spec : {M : Type 1} → statement M
 read-words-spec =

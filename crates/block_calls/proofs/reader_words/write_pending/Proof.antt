@@ -4,14 +4,10 @@ use mathlib.Core.List.{[], _∷_}
 use native.Mathlib.Omega.{arith}
 use lib.ListN.{length-set}
 use borrow.Author.Needs.{needs}
-use Rattle.lists.proofs.Over.{few, written-over}
+use Rattle.lists.proofs.Over.{written-over}
 use Rattle.block_calls.specs.ReaderWords.{pendingWords}
 use Rattle.block_calls.proofs.reader_words.write_pending.Statement.{statement}
 use Rattle.block_calls.proofs.reader_words.write_pending.Tie as tie
-
-returns : tie.Need-returns
-unfolding pendingWords
-returns c = few (c .before .before .args .words .now) _ (c .if1 .taken)
 
 slice-write-words : tie.Need-slice-write-words
 slice-write-words c = omega arith
@@ -43,15 +39,16 @@ slice-write-words-8 c = simp length-set (omega arith)
 same-length : tie.Need-same-length
 same-length c = simp length-set
 
-returns-2 : tie.Need-returns-2
+returns : tie.Need-returns
 unfolding pendingWords
-returns-2 c = written-over (c .before .before .before .args .words .now) (_ ∷ _ ∷ _ ∷ _ ∷ _ ∷ _ ∷ _ ∷ _ ∷ []) (c .before .if1 .left) ∙ rw (c .word .ensures)
+returns c =
+    let at-start = c .before .before in
+    written-over (at-start .args .words .now) (_ ∷ _ ∷ _ ∷ _ ∷ _ ∷ _ ∷ _ ∷ _ ∷ []) (at-start .pre) ∙ rw (c .word .ensures)
 
 pub write-pending-spec : {M : Type 1} → statement M
 write-pending-spec =
     tie.close
     (tie.spec
-    returns
     slice-write-words
     slice-write-words-2
     slice-write-words-3
@@ -62,4 +59,4 @@ write-pending-spec =
     word-requires
     slice-write-words-8
     same-length
-    returns-2)
+    returns)

@@ -4,14 +4,10 @@ use mathlib.Core.List.{[], _∷_}
 use native.Mathlib.Omega.{arith}
 use lib.ListN.{length-set}
 use borrow.Author.Needs.{needs}
-use Rattle.lists.proofs.Over.{few, written-over}
+use Rattle.lists.proofs.Over.{written-over}
 use Rattle.block_calls.specs.ReaderWords.{readerWords}
 use Rattle.block_calls.proofs.reader_words.write_reader.Statement.{statement}
 use Rattle.block_calls.proofs.reader_words.write_reader.Tie as tie
-
-returns : tie.Need-returns
-unfolding readerWords
-returns c = few (c .before .before .args .words .now) _ (c .if1 .taken)
 
 phase-number-requires : tie.Need-phase-number-requires
 phase-number-requires c κs = search needs
@@ -40,15 +36,19 @@ slice-write-words-4 c = simp length-set (omega arith)
 same-length : tie.Need-same-length
 same-length c = simp length-set
 
-returns-2 : tie.Need-returns-2
+returns : tie.Need-returns
 unfolding readerWords
-returns-2 c = written-over (c .before .before .before .before .before .before .args .words .now) (_ ∷ _ ∷ _ ∷ _ ∷ []) (c .before .before .before .before .if1 .left) ∙ rw (c .before .before .before .phase-number .ensures, c .before .before .word .ensures, c .before .word2 .ensures, c .word3 .ensures)
+returns c =
+    let at-word = c .before .before in
+    let at-phase-number = at-word .before in
+    let at-start = at-phase-number .before .before in
+    written-over (at-start .args .words .now) (_ ∷ _ ∷ _ ∷ _ ∷ []) (at-start .pre)
+    ∙ rw (at-phase-number .phase-number .ensures, at-word .word .ensures, c .before .word2 .ensures, c .word3 .ensures)
 
 pub write-reader-spec : {M : Type 1} → statement M
 write-reader-spec =
     tie.close
     (tie.spec
-    returns
     phase-number-requires
     slice-write-words
     word-requires
@@ -58,4 +58,4 @@ write-reader-spec =
     word-requires-3
     slice-write-words-4
     same-length
-    returns-2)
+    returns)

@@ -4,14 +4,10 @@ use mathlib.Core.List.{[], _∷_}
 use native.Mathlib.Omega.{arith}
 use lib.ListN.{length-set}
 use borrow.Author.Needs.{needs}
-use Rattle.lists.proofs.Over.{few, written-over}
+use Rattle.lists.proofs.Over.{written-over}
 use Rattle.block_calls.specs.ReaderWords.{verdictWords}
 use Rattle.block_calls.proofs.reader_words.write_verdict.Statement.{statement}
 use Rattle.block_calls.proofs.reader_words.write_verdict.Tie as tie
-
-returns : tie.Need-returns
-unfolding verdictWords
-returns c = few (c .before .before .args .words .now) _ (c .if1 .taken)
 
 slice-write-words : tie.Need-slice-write-words
 slice-write-words c = omega arith
@@ -73,15 +69,38 @@ slice-write-words-8 c = simp length-set (omega arith)
 same-length : tie.Need-same-length
 same-length c = simp length-set
 
-returns-2 : tie.Need-returns-2
+returns : tie.Need-returns
 unfolding verdictWords
-returns-2 c = written-over (c .before .before .before .before .before .before .before .before .before .before .before .before .before .args .words .now) (_ ∷ _ ∷ _ ∷ _ ∷ _ ∷ _ ∷ _ ∷ _ ∷ []) (c .before .before .before .before .before .before .before .before .before .before .before .if1 .left) ∙ rw (c .before .before .before .before .before .before .before .before .before .before .word .ensures, c .before .before .before .before .before .before .before .before .before .number .ensures, c .before .before .before .before .before .before .before .word2 .ensures, c .before .before .before .before .before .before .before .before .offset .ensures, c .before .before .before .before .before .byte-word .ensures, c .before .before .before .before .before .before .block-type .ensures, c .before .before .before .word3 .ensures, c .before .before .before .before .data-start .ensures, c .before .word4 .ensures, c .before .before .data-length .ensures, c .word5 .ensures)
+returns c =
+    let at-data-length = c .before .before in
+    let at-word3 = at-data-length .before in
+    let at-data-start = at-word3 .before in
+    let at-byte-word = at-data-start .before in
+    let at-block-type = at-byte-word .before in
+    let at-word2 = at-block-type .before in
+    let at-offset = at-word2 .before in
+    let at-number = at-offset .before in
+    let at-word = at-number .before in
+    let at-start = at-word .before .before in
+    written-over (at-start .args .words .now) (_ ∷ _ ∷ _ ∷ _ ∷ _ ∷ _ ∷ _ ∷ _ ∷ []) (at-start .pre)
+    ∙ rw (
+      at-word .word .ensures,
+      at-number .number .ensures,
+      at-word2 .word2 .ensures,
+      at-offset .offset .ensures,
+      at-byte-word .byte-word .ensures,
+      at-block-type .block-type .ensures,
+      at-word3 .word3 .ensures,
+      at-data-start .data-start .ensures,
+      c .before .word4 .ensures,
+      at-data-length .data-length .ensures,
+      c .word5 .ensures,
+    )
 
 pub write-verdict-spec : {M : Type 1} → statement M
 write-verdict-spec =
     tie.close
     (tie.spec
-    returns
     slice-write-words
     word-requires
     slice-write-words-2
@@ -102,4 +121,4 @@ write-verdict-spec =
     word-requires-5
     slice-write-words-8
     same-length
-    returns-2)
+    returns)

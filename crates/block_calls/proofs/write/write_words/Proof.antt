@@ -11,10 +11,15 @@ enum-told : tie.Need-enum-told
 enum-told c = search needs
 
 returns : tie.Need-returns
-returns c = rw (c .enum-told .given .1) (write-refused _ (c .before .before .before .before .before .args .content .now) (c .before .before .before .before .before .args .buffer .now) (c .before .before .before .before .before .args .start) (c .before .before .before .before .before .args .report .now))
+returns c =
+    let a = c .before .before .before .before .before .args in
+    rw (c .enum-told .given .1) (write-refused _ (a .content .now) (a .buffer .now) (a .start) (a .report .now))
 
 returns-2 : tie.Need-returns-2
-returns-2 c = rw (c .before .before .made .given .1) (write-few _ _ (c .before .before .before .before .before .before .before .args .content .now) (c .before .before .before .before .before .before .before .args .buffer .now) (c .before .before .before .before .before .before .before .args .start) (c .before .before .before .before .before .before .before .args .report .now) (c .if1 .taken))
+returns-2 c =
+    let at-made = c .before .before in
+    let a = at-made .before .before .before .before .before .args in
+    rw (at-made .made .given .1) (write-few _ _ (a .content .now) (a .buffer .now) (a .start) (a .report .now) (c .if1 .taken))
 
 type-byte-requires : tie.Need-type-byte-requires
 type-byte-requires c κs = search needs
@@ -33,9 +38,15 @@ same-length-2 c = search needs
 
 returns-3 : tie.Need-returns-3
 returns-3 c =
-    let a = c .before .before .before .before .before .before .before .before .before .before .before .before .before .before .before .before .args in
-    rw (c .before .before .before .before .before .before .before .before .before .before .before .made .given .1) (write-done (c .before .before .before .before .before .before .before .before .before .before .before .made .given .0 .0) (a .t) (a .content .now) (a .buffer .now) (a .start) (a .report .now) (c .before .before .before .before .before .before .frame .last .1 .1 .1 .0) (c .before .before .report-written .last .1 .0) (c .before .before .before .before .before .before .frame .result) (c .before .before .report-written .result)
-    (c .before .before .before .before .before .before .before .before .before .if1 .left) (c .before .before .report-written .ensures) (rw (c .before .before .before .before .before .before .before .before .type-byte .ensures) at (c .before .before .before .before .before .before .frame .ensures)))
+    let at-report-written = c .before .before in
+    let at-frame = at-report-written .before .before .before .before in
+    let at-type-byte = at-frame .before .before in
+    let at-if1 = at-type-byte .before in
+    let at-made = at-if1 .before .before in
+    let a = at-made .before .before .before .before .before .args in
+    rw (at-made .made .given .1)
+    (write-done (at-made .made .given .0 .0) (a .t) (a .content .now) (a .buffer .now) (a .start) (a .report .now) (at-frame .frame .last .1 .1 .1 .0) (at-report-written .report-written .last .1 .0) (at-frame .frame .result) (at-report-written .report-written .result)
+    (at-if1 .if1 .left) (at-report-written .report-written .ensures) (rw (at-type-byte .type-byte .ensures) at (at-frame .frame .ensures)))
 
 pub write-words-spec : {M : Type 1} → statement M
 write-words-spec =

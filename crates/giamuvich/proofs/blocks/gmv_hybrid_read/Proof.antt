@@ -19,7 +19,10 @@ same-length-3 : tie.Need-same-length-3
 same-length-3 c = search needs
 
 returns : tie.Need-returns
-returns c = rw (c .before .before .before .before .before .before .before .before .before .before .hybrid .ensures) at (c .before .before .before .before .before .before .read-words .ensures)
+returns c =
+    let at-read-words = c .before .before .before .before .before .before in
+    let at-hybrid = at-read-words .before .before .before .before in
+    rw (at-hybrid .hybrid .ensures) at (at-read-words .read-words .ensures)
 
 pub gmv-hybrid-read-spec : {M : Type 1} → statement M
 gmv-hybrid-read-spec =

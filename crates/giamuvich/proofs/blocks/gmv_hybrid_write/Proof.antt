@@ -16,7 +16,10 @@ same-length-2 : tie.Need-same-length-2
 same-length-2 c = search needs
 
 returns : tie.Need-returns
-returns c = rw (c .before .before .before .before .before .before .before .hybrid .ensures) at (c .before .before .before .before .write-words .ensures)
+returns c =
+    let at-write-words = c .before .before .before .before in
+    let at-hybrid = at-write-words .before .before .before in
+    rw (at-hybrid .hybrid .ensures) at (at-write-words .write-words .ensures)
 
 pub gmv-hybrid-write-spec : {M : Type 1} → statement M
 gmv-hybrid-write-spec =

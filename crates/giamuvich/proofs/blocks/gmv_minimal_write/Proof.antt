@@ -19,7 +19,10 @@ same-length-2 : tie.Need-same-length-2
 same-length-2 c = search needs
 
 returns : tie.Need-returns
-returns c = rw (c .before .before .before .before .before .before .before .minimal .ensures) at (c .before .before .before .before .write-words .ensures)
+returns c =
+    let at-write-words = c .before .before .before .before in
+    let at-minimal = at-write-words .before .before .before in
+    rw (at-minimal .minimal .ensures) at (at-write-words .write-words .ensures)
 
 pub gmv-minimal-write-spec : {M : Type 1} → statement M
 gmv-minimal-write-spec =

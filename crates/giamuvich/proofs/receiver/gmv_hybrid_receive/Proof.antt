@@ -19,7 +19,10 @@ same-length-3 : tie.Need-same-length-3
 same-length-3 c = search needs
 
 returns : tie.Need-returns
-returns c = rw (c .before .before .before .before .before .before .before .before .before .before .hybrid-link .ensures) at (c .before .before .before .before .before .before .received-words .ensures)
+returns c =
+    let at-received-words = c .before .before .before .before .before .before in
+    let at-hybrid-link = at-received-words .before .before .before .before in
+    rw (at-hybrid-link .hybrid-link .ensures) at (at-received-words .received-words .ensures)
 
 pub gmv-hybrid-receive-spec : {M : Type 1} → statement M
 gmv-hybrid-receive-spec =

@@ -19,7 +19,10 @@ same-length-3 : tie.Need-same-length-3
 same-length-3 c = search needs
 
 returns : tie.Need-returns
-returns c = rw (c .before .before .before .before .before .before .before .before .before .before .minimal-link .ensures) at (c .before .before .before .before .before .before .received-words .ensures)
+returns c =
+    let at-received-words = c .before .before .before .before .before .before in
+    let at-minimal-link = at-received-words .before .before .before .before in
+    rw (at-minimal-link .minimal-link .ensures) at (at-received-words .received-words .ensures)
 
 pub gmv-minimal-receive-spec : {M : Type 1} → statement M
 gmv-minimal-receive-spec =

@@ -51,10 +51,11 @@ wide-less c = search needs
 
 wide-again : tie.Need-wide-again Inv-wide μ-wide Inv-narrow μ-narrow
 wide-again c =
-    let a = c .before .before .before .before .before .before .args in
-    let i = c .before .before .before .before .wide .i in
+    let at-wide = c .before .before .before .before in
+    let a = at-wide .before .before .args in
+    let i = at-wide .wide .i in
     let h : 32 ≤ length (drop i (a .part .now)) = simp length-drop (omega arith) in
-    (search needs, pass-window (a .start-block) (a .end-block) 32 (a .part .now) i (sym (rw (add-sub-cancel-left i 32) at (c .before .has-stop .ensures)) ∙ c .if1 .left) h ∙ c .before .before .before .before .wide .inv .1)
+    (search needs, pass-window (a .start-block) (a .end-block) 32 (a .part .now) i (sym (rw (add-sub-cancel-left i 32) at (c .before .has-stop .ensures)) ∙ c .if1 .left) h ∙ at-wide .wide .inv .1)
 
 narrow-holds : tie.Need-narrow-holds Inv-wide μ-wide Inv-narrow μ-narrow
 narrow-holds c = c .before .wide .inv
@@ -69,16 +70,29 @@ narrow-less : tie.Need-narrow-less Inv-wide μ-wide Inv-narrow μ-narrow
 narrow-less c = search needs
 
 narrow-again : tie.Need-narrow-again Inv-wide μ-wide Inv-narrow μ-narrow
-narrow-again c = (search needs, pass-one (c .before .before .before .before .before .before .before .before .args .start-block) (c .before .before .before .before .before .before .before .before .args .end-block) (c .before .before .before .before .before .before .before .before .args .part .now) (c .before .before .before .before .narrow .i) (search needs) (c .before .if2 .left) (c .if3 .left) ∙ c .before .before .before .before .narrow .inv .1)
+narrow-again c =
+    let at-narrow = c .before .before .before .before in
+    let a = at-narrow .before .before .before .before .args in
+    (search needs, pass-one (a .start-block) (a .end-block) (a .part .now) (at-narrow .narrow .i) (search needs) (c .before .if2 .left) (c .if3 .left) ∙ at-narrow .narrow .inv .1)
 
 returns : tie.Need-returns Inv-wide μ-wide Inv-narrow μ-narrow
-returns c = sym (stop-end (c .before .before .before .before .before .args .start-block) (c .before .before .before .before .before .args .end-block) (c .before .before .before .before .before .args .part .now) (c .before .narrow .i) (search needs)) ∙ c .before .narrow .inv .1
+returns c =
+    let a = c .before .before .before .before .before .args in
+    sym (stop-end (a .start-block) (a .end-block) (a .part .now) (c .before .narrow .i) (search needs)) ∙ c .before .narrow .inv .1
 
 returns-2 : tie.Need-returns-2 Inv-wide μ-wide Inv-narrow μ-narrow
-returns-2 c = sym (stop-first (c .before .before .before .before .before .before .before .args .start-block) (c .before .before .before .before .before .before .before .args .end-block) (c .before .before .before .before .before .before .before .args .part .now) (c .before .before .before .narrow .i) (search needs) (c .if2 .taken)) ∙ c .before .before .before .narrow .inv .1
+returns-2 c =
+    let at-narrow = c .before .before .before in
+    let a = at-narrow .before .before .before .before .args in
+    sym (stop-first (a .start-block) (a .end-block) (a .part .now) (at-narrow .narrow .i) (search needs) (c .if2 .taken)) ∙ at-narrow .narrow .inv .1
 
 returns-3 : tie.Need-returns-3 Inv-wide μ-wide Inv-narrow μ-narrow
-returns-3 c = sym (stop-second (c .before .before .before .before .before .before .before .before .args .start-block) (c .before .before .before .before .before .before .before .before .args .end-block) (c .before .before .before .before .before .before .before .before .args .part .now) (c .before .before .before .before .narrow .i) (search needs) (c .before .if2 .left) (c .if3 .taken)) ∙ c .before .before .before .before .narrow .inv .1
+returns-3 c =
+    let at-narrow = c .before .before .before .before in
+    let a = at-narrow .before .before .before .before .args in
+    sym
+    (stop-second (a .start-block) (a .end-block) (a .part .now) (at-narrow .narrow .i) (search needs) (c .before .if2 .left) (c .if3 .taken))
+    ∙ at-narrow .narrow .inv .1
 
 pub find-stop-spec : {M : Type 1} → statement M
 find-stop-spec =

@@ -17,8 +17,9 @@ digit-count-requires c κs = search needs
 
 write-digits-requires : tie.Need-write-digits-requires
 write-digits-requires c κs =
-    let h = length-most (c .before .before .before .before .args .n) (omega arith) in
-    omega (arith, h, c .before .before .before .before .pre)
+    let at-start = c .before .before .before .before in
+    let h = length-most (at-start .args .n) (omega arith) in
+    omega (arith, h, at-start .pre)
 
 slice-reshare-prefix-are-same : tie.Need-slice-reshare-prefix-are-same
 slice-reshare-prefix-are-same c =

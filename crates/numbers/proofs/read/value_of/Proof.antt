@@ -34,11 +34,12 @@ cast-sum c = omega (arith, digit-most _ (c .before .before .loop .i) (c .before 
 
 add-sum : tie.Need-add-sum Inv-loop μ-loop
 add-sum c =
+    let at-loop = c .before .before in
     omega (
       arith,
-      power-most (c .before .before .loop .sum) (c .before .before .loop .i) (c .before .before .loop .inv .1) (omega arith),
+      power-most (at-loop .loop .sum) (at-loop .loop .i) (at-loop .loop .inv .1) (omega arith),
       digit-most _
-          (c .before .before .loop .i) (c .before .loop-test .taken) (c .before .before .loop .inv .2),
+          (at-loop .loop .i) (c .before .loop-test .taken) (at-loop .loop .inv .2),
     )
 
 add-i : tie.Need-add-i Inv-loop μ-loop

@@ -21,23 +21,27 @@ enum-told c = search needs
 
 slice-write-out : tie.Need-slice-write-out
 slice-write-out c =
-    let two : length (textOf (c .before .before .before .before .before .args .number)) ≡ 2 = rw (c .enum-told .given .1) in
-    omega (arith, two, c .before .before .before .text-length .ensures)
+    let at-text-length = c .before .before .before in
+    let two : length (textOf (at-text-length .before .before .args .number)) ≡ 2 = rw (c .enum-told .given .1) in
+    omega (arith, two, at-text-length .text-length .ensures)
 
 slice-write-out-2 : tie.Need-slice-write-out-2
 slice-write-out-2 c =
-    let two : length (textOf (c .before .before .before .before .before .args .number)) ≡ 2 = rw (c .enum-told .given .1) in
-    simp length-set (omega (arith, two, c .before .before .before .text-length .ensures))
+    let at-text-length = c .before .before .before in
+    let two : length (textOf (at-text-length .before .before .args .number)) ≡ 2 = rw (c .enum-told .given .1) in
+    simp length-set (omega (arith, two, at-text-length .text-length .ensures))
 
 enum-known-number : tie.Need-enum-known-number
 enum-known-number c = search needs
 
 write-digits-requires : tie.Need-write-digits-requires
 write-digits-requires c κs =
-    let number = c .before .before .number .given in
-    let size : length (textOf (c .before .before .before .before .before .before .before .args .number)) ≡ length (decimal (number .0 .0)) = rw
+    let at-number = c .before .before in
+    let at-text-length = at-number .before .before .before in
+    let number = at-number .number .given in
+    let size : length (textOf (at-text-length .before .before .args .number)) ≡ length (decimal (number .0 .0)) = rw
     (number .1) in
-    omega (arith, size, c .before .before .before .before .before .text-length .ensures)
+    omega (arith, size, at-text-length .text-length .ensures)
 
 same-length : tie.Need-same-length
 same-length c = search needs

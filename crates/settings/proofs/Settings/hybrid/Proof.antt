@@ -21,10 +21,14 @@ is-valid-requires : tie.Need-is-valid-requires
 is-valid-requires c κs = search needs
 
 returns-3 : tie.Need-returns-3
-returns-3 c = simp (le-ltb _ _ (c .before .before .before .if1 .left), le-ltb _ _ (c .before .before .if2 .left), (sym (c .before .is-valid .ensures) ∙ c .if3 .taken))
+returns-3 c =
+    let at-if2 = c .before .before in
+    simp (le-ltb _ _ (at-if2 .before .if1 .left), le-ltb _ _ (at-if2 .if2 .left), (sym (c .before .is-valid .ensures) ∙ c .if3 .taken))
 
 returns-4 : tie.Need-returns-4
-returns-4 c = simp (le-ltb _ _ (c .before .before .before .if1 .left), le-ltb _ _ (c .before .before .if2 .left), (sym (c .before .is-valid .ensures) ∙ c .if3 .left))
+returns-4 c =
+    let at-if2 = c .before .before in
+    simp (le-ltb _ _ (at-if2 .before .if1 .left), le-ltb _ _ (at-if2 .if2 .left), (sym (c .before .is-valid .ensures) ∙ c .if3 .left))
 
 pub hybrid-spec : {M : Type 1} → statement M
 hybrid-spec =

@@ -29,9 +29,11 @@ loop-less c = search needs
 
 loop-again : tie.Need-loop-again Inv-loop μ-loop
 loop-again c =
-    let s = c .before .before .before .args .s .now in (
+    let at-loop = c .before .before in
+    let s = at-loop .before .args .s .now in (
       search needs,
-      sym (ap (λ (l : List ℕ). xorFrom (c .before .before .loop .sum) l) (drop-more s (c .before .before .loop .i) (c .before .loop-test .taken))) ∙ c .before .before .loop .inv .1,
+      sym (ap (λ (l : List ℕ). xorFrom (at-loop .loop .sum) l) (drop-more s (at-loop .loop .i) (c .before .loop-test .taken))) ∙
+          at-loop .loop .inv .1,
     )
 
 returns : tie.Need-returns Inv-loop μ-loop

@@ -29,15 +29,17 @@ refuse-station-requires c κs = search needs
 returns-2 : tie.Need-returns-2
 unfolding goodBlockOf
 returns-2 c =
-    let is-open = c .before .before .before .station .given in
-    let b = c .before .before .before .before .before .before .before .args .buffer .now in
+    let at-station = c .before .before .before in
+    let is-open = at-station .station .given in
+    let b = at-station .before .before .before .before .args .buffer .now in
     let v : (leb (is-open .0 .0) 7 && leb (is-open .0 .1 .0) (length b)) ≡ false = not-true _ (c .before .if1 .taken) in
     rw (c .refuse-station .ensures, is-open .1, v)
 
 block-when-open-requires : tie.Need-block-when-open-requires
 block-when-open-requires c κs =
-    let is-open = c .before .before .before .station .given in
-    let b = c .before .before .before .before .before .before .before .args .buffer .now in
+    let at-station = c .before .before .before in
+    let is-open = at-station .station .given in
+    let b = at-station .before .before .before .before .args .buffer .now in
     let v : (leb (is-open .0 .0) 7 && leb (is-open .0 .1 .0) (length b)) ≡ true = not-false _ (c .before .if1 .left) in
     (leb-true (is-open .0 .0) 7 (and-left (leb (is-open .0 .0) 7) _ v), leb-true (is-open .0 .1 .0) (length b) (and-right (leb (is-open .0 .0) 7) _ v))
 

@@ -42,8 +42,9 @@ same-length c = search needs
 
 returns-2 : tie.Need-returns-2
 returns-2 c =
-    let a = c .before .before .before .before .before .before .before .before .args in
-    let copy = c .before .before .before .copy-bytes in
+    let at-copy-bytes = c .before .before .before in
+    let a = at-copy-bytes .before .before .before .before .before .args in
+    let copy = at-copy-bytes .copy-bytes in
     let fits : a .held + length (a .text .now) ≤ length (a .buffer .now) = omega arith in
     rw (c .acknowledge .ensures, copied (a .buffer .now) (a .text .now) (copy .last .0) (a .held) fits (copy .ensures), le-leb (a .held + length (a .text .now)) (length (a .buffer .now)) fits)
 

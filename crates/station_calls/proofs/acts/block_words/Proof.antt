@@ -23,9 +23,10 @@ enum-told c = search needs
 
 returns : tie.Need-returns
 returns c =
-    let a = c .before .before .before .before .before .before .before .args in
+    let at-ending-of = c .before .before in
+    let a = at-ending-of .before .before .before .before .before .args in
     ended-by (a .number) (a .ending) (a .text .now) (a .buffer .now) (a .state .now) (a .report .now) _
-    (sym (c .before .before .ending-of .ensures) ∙ c .enum-told .given .1)
+    (sym (at-ending-of .ending-of .ensures) ∙ c .enum-told .given .1)
 
 enough-words-requires : tie.Need-enough-words-requires
 enough-words-requires c κs = search needs

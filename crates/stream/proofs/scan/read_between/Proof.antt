@@ -24,27 +24,41 @@ pending-requires c κs = search needs
 
 returns : tie.Need-returns
 returns c =
-    let a = c .before .before .before .before .before .args in
-    let e = c .before .before .find-stop .ensures in
+    let at-find-stop = c .before .before in
+    let a = at-find-stop .before .before .before .args in
+    let e = at-find-stop .find-stop .ensures in
     reads _ _ _ _ _ _ _ (c .pending .ensures)
-    (sym (from-skip (a .settings) (a .part .now) (a .buffer .now) (a .held) (a .start) (a .position) ∙ rw (← e) (from-end (a .settings) (a .part .now) (a .buffer .now) (a .held) (a .start) (a .position) _ (c .before .before .find-stop .result) (omega arith)))) refl
+    (sym (from-skip (a .settings) (a .part .now) (a .buffer .now) (a .held) (a .start) (a .position)
+    ∙ rw (← e) (from-end (a .settings) (a .part .now) (a .buffer .now) (a .held) (a .start) (a .position) _ (at-find-stop .find-stop .result) (omega arith))))
+    refl
 
 add-read-inside : tie.Need-add-read-inside
 add-read-inside c = omega (arith, stop-most (c .before))
 
 read-inside-requires : tie.Need-read-inside-requires
-read-inside-requires c κs = record { limit = c .before .before .before .before .before .pre .limit; enough = c .before .before .before .before .before .pre .enough; offsets = c .before .before .before .before .before .pre .offsets; within = omega (arith, stop-most (c .before .before)) }
+read-inside-requires c κs =
+    let at-find-stop = c .before .before in
+    let at-start = at-find-stop .before .before .before in
+    record {
+      limit = at-start .pre .limit;
+      enough = at-start .pre .enough;
+      offsets = at-start .pre .offsets;
+      within = omega (arith, stop-most at-find-stop);
+    }
 
 same-length : tie.Need-same-length
 same-length c = search needs
 
 returns-2 : tie.Need-returns-2
 returns-2 c =
-    let a = c .before .before .before .before .before .before .before .before .args in
-    let e = c .before .before .before .before .before .find-stop .ensures in
-    let h : c .before .before .before .before .before .find-stop .result < length (a .part .now) = omega (arith, stop-most (c .before .before .before .before .before)) in
+    let at-read-inside = c .before .before in
+    let at-find-stop = at-read-inside .before .before .before in
+    let a = at-find-stop .before .before .before .args in
+    let e = at-find-stop .find-stop .ensures in
+    let h : at-find-stop .find-stop .result < length (a .part .now) = omega (arith, stop-most at-find-stop) in
     reads-also (sym (from-skip (a .settings) (a .part .now) (a .buffer .now) (a .held) (a .start) (a .position)
-    ∙ rw (← e) (from-opens (a .settings) (a .part .now) (a .buffer .now) (a .held) (a .start) (a .position) (c .before .before .before .before .before .find-stop .result) h (first-byte _ (a .part .now) _ e h)))) (c .before .before .read-inside .ensures)
+    ∙ rw (← e)
+    (from-opens (a .settings) (a .part .now) (a .buffer .now) (a .held) (a .start) (a .position) (at-find-stop .find-stop .result) h (first-byte _ (a .part .now) _ e h)))) (at-read-inside .read-inside .ensures)
 
 pub read-between-spec : {M : Type 1} → statement M
 read-between-spec =

@@ -19,7 +19,8 @@ pending-requires c κs = search needs
 returns : tie.Need-returns
 returns c =
     let a = c .before .before .before .before .args in
-    reads _ _ _ _ _ _ _ (c .pending .ensures) (sym (from-end (a .settings) (a .part .now) (a .buffer .now) (a .held) (a .start) (a .position) _ (a .at) (omega arith))) refl
+    reads _ _ _ _ _ _ _ (c .pending .ensures)
+    (sym (from-end (a .settings) (a .part .now) (a .buffer .now) (a .held) (a .start) (a .position) _ (a .at) (omega arith))) refl
 
 shared-slice-read-x : tie.Need-shared-slice-read-x
 shared-slice-read-x c = search needs
@@ -41,10 +42,12 @@ same-length c = search needs
 
 returns-2 : tie.Need-returns-2
 returns-2 c =
-    let a = c .before .before .before .before .before .before .before .before .before .args in
+    let at-verdict-on = c .before .before .before in
+    let a = at-verdict-on .before .before .before .before .before .before .args in
     let h : a .at < length (a .part .now) = omega arith in
-    reads _ _ _ _ _ _ _ (rw (c .before .before .before .verdict-on .ensures) at (c .found-inside .ensures))
-    (sym (from-reopens (a .settings) (a .part .now) (a .buffer .now) (a .held) (a .start) (a .position) (a .at) h (c .before .if2 .taken))) (add-assoc _ _ _)
+    reads _ _ _ _ _ _ _ (rw (at-verdict-on .verdict-on .ensures) at (c .found-inside .ensures))
+    (sym (from-reopens (a .settings) (a .part .now) (a .buffer .now) (a .held) (a .start) (a .position) (a .at) h (c .before .if2 .taken)))
+    (add-assoc _ _ _)
 
 add-found-between : tie.Need-add-found-between
 add-found-between c = search needs
@@ -60,10 +63,12 @@ same-length-2 c = search needs
 
 returns-3 : tie.Need-returns-3
 returns-3 c =
-    let a = c .before .before .before .before .before .before .before .before .before .args in
+    let at-verdict-on = c .before .before .before in
+    let a = at-verdict-on .before .before .before .before .before .before .args in
     let h : a .at < length (a .part .now) = omega arith in
-    reads _ _ _ _ _ _ _ (rw (c .before .before .before .verdict-on .ensures) at (c .found-between .ensures))
-    (sym (from-closes (a .settings) (a .part .now) (a .buffer .now) (a .held) (a .start) (a .position) (a .at) h (c .before .if2 .left))) (add-assoc _ _ _)
+    reads _ _ _ _ _ _ _ (rw (at-verdict-on .verdict-on .ensures) at (c .found-between .ensures))
+    (sym (from-closes (a .settings) (a .part .now) (a .buffer .now) (a .held) (a .start) (a .position) (a .at) h (c .before .if2 .left)))
+    (add-assoc _ _ _)
 
 pub read-ended-spec : {M : Type 1} → statement M
 read-ended-spec =

@@ -14,18 +14,26 @@ use Rattle.stream.proofs.scan.read_inside.Tie as tie
 
 -- where the search stopped
 stop-at : (c : tie.After-find-stop)
-    → Stopped (c .before .before .before .before .args .settings .«start_block») (c .before .before .before .before .args .settings .«end_block»)
-    (c .before .before .before .before .args .part .now) (c .before .before .before .before .args .at) (c .find-stop .result)
-stop-at c = stopped _ _ (c .before .before .before .before .args .part .now) (c .before .before .before .before .args .at) _ (c .before .before .before .before .pre .within) (c .find-stop .ensures)
+    → let a = c .before .before .before .before .args in
+    Stopped (a .settings .«start_block») (a .settings .«end_block») (a .part .now) (a .at) (c .find-stop .result)
+stop-at c =
+    let at-start = c .before .before .before .before in
+    stopped _ _ (at-start .args .part .now) (at-start .args .at) _ (at-start .pre .within) (c .find-stop .ensures)
 
 -- the stretch before it is stored
 stored-at : (c : tie.After-store)
-    → from (c .before .before .before .before .before .before .before .before .args .settings) Inside (c .before .before .before .before .before .before .before .before .args .held) (c .before .before .before .before .before .before .before .before .args .start) (c .before .before .before .before .before .before .before .before .args .position) (c .before .before .before .before .before .before .before .before .args .buffer .now) (c .before .before .before .before .before .before .before .before .args .at) (c .before .before .before .before .before .before .before .before .args .part .now)
-    ≡ from (c .before .before .before .before .before .before .before .before .args .settings) Inside (c .store .result) (c .before .before .before .before .before .before .before .before .args .start) (c .before .before .before .before .before .before .before .before .args .position) (c .store .last .1 .1 .1 .0) (c .before .before .before .before .before .before .before .before .args .at + c .before .before .before .before .find-stop .result) (c .before .before .before .before .before .before .before .before .args .part .now)
+    → let at-find-stop = c .before .before .before .before in
+    let a = at-find-stop .before .before .before .before .args in
+    from (a .settings) Inside (a .held) (a .start) (a .position) (a .buffer .now) (a .at) (a .part .now)
+    ≡ from (a .settings) Inside (c .store .result) (a .start) (a .position) (c .store .last .1 .1 .1 .0) (a .at + at-find-stop .find-stop .result) (a .part .now)
 stored-at c =
-    let a = c .before .before .before .before .before .before .before .before .args in
-    after-store (a .settings) (a .part .now) (a .buffer .now) (c .store .last .1 .1 .1 .0) (a .held) (a .start) (a .position) (a .at) (c .before .before .before .before .find-stop .result) (c .before .before .before .capacity .result) (c .store .result)
-    (stop-at (c .before .before .before .before)) (c .before .before .before .capacity .ensures) (c .before .before .before .before .before .before .before .before .pre .enough) (c .store .ensures .0) (c .store .ensures .1)
+    let at-capacity = c .before .before .before in
+    let at-find-stop = at-capacity .before in
+    let at-start = at-find-stop .before .before .before .before in
+    let a = at-start .args in
+    after-store (a .settings) (a .part .now) (a .buffer .now) (c .store .last .1 .1 .1 .0) (a .held) (a .start) (a .position) (a .at)
+    (at-find-stop .find-stop .result) (at-capacity .capacity .result) (c .store .result)
+    (stop-at at-find-stop) (at-capacity .capacity .ensures) (at-start .pre .enough) (c .store .ensures .0) (c .store .ensures .1)
 
 sub-find-stop : tie.Need-sub-find-stop
 sub-find-stop c = search needs
@@ -56,8 +64,10 @@ part-store-end c = omega (arith, stop-at (c .before) .most)
 
 store-requires : tie.Need-store-requires
 store-requires c κs =
-    let e = c .before .before .capacity .ensures in
-    (omega arith, omega (arith, capacity-most (c .before .before .before .before .before .before .before .args .settings) (c .before .before .before .before .before .before .before .pre .limit)))
+    let at-capacity = c .before .before in
+    let at-start = at-capacity .before .before .before .before .before in
+    let e = at-capacity .capacity .ensures in
+    (omega arith, omega (arith, capacity-most (at-start .args .settings) (at-start .pre .limit)))
 
 add-here : tie.Need-add-here
 add-here c = omega (arith, stop-at (c .before .before .before .before .before .before) .most)
@@ -70,9 +80,12 @@ same-length c = search needs
 
 returns : tie.Need-returns
 returns c =
-    let a = c .before .before .before .before .before .before .before .before .before .before .before .before .args in
+    let at-store = c .before .before .before .before in
+    let at-find-stop = at-store .before .before .before .before in
+    let a = at-find-stop .before .before .before .before .args in
     reads _ _ _ _ _ _ _ (c .pending .ensures)
-    (sym (stored-at (c .before .before .before .before) ∙ from-end (a .settings) (a .part .now) (c .before .before .before .before .store .last .1 .1 .1 .0) (c .before .before .before .before .store .result) (a .start) (a .position) _ (a .at + c .before .before .before .before .before .before .before .before .find-stop .result) (omega arith))) refl
+    (sym (stored-at at-store ∙ from-end (a .settings) (a .part .now) (at-store .store .last .1 .1 .1 .0) (at-store .store .result) (a .start) (a .position) _ (a .at + at-find-stop .find-stop .result) (omega arith)))
+    refl
 
 shared-slice-read-x : tie.Need-shared-slice-read-x
 shared-slice-read-x c = omega (arith, stop-at (c .before .before .before .before .before .before .before .before) .most)
@@ -91,28 +104,44 @@ same-length-2 c = search needs
 
 returns-2 : tie.Need-returns-2
 returns-2 c =
-    let a = c .before .before .before .before .before .before .before .before .before .before .before .before .before .before .before .args in
-    let h : a .at + c .before .before .before .before .before .before .before .before .before .before .before .find-stop .result < length (a .part .now) = omega (arith, stop-at (c .before .before .before .before .before .before .before .before .before .before .before) .most) in
+    let at-store = c .before .before .before .before .before .before .before in
+    let at-find-stop = at-store .before .before .before .before in
+    let a = at-find-stop .before .before .before .before .args in
+    let h : a .at + at-find-stop .find-stop .result < length (a .part .now) = omega (arith, stop-at at-find-stop .most) in
     reads _ _ _ _ _ _ _ (c .found-inside .ensures)
-    (sym (stored-at (c .before .before .before .before .before .before .before) ∙ from-interrupted (a .settings) (a .part .now) (c .before .before .before .before .before .before .before .store .last .1 .1 .1 .0) (c .before .before .before .before .before .before .before .store .result) (a .start) (a .position) (a .at + c .before .before .before .before .before .before .before .before .before .before .before .find-stop .result) h (c .before .if2 .taken))) (add-assoc _ _ _)
+    (sym (stored-at at-store ∙ from-interrupted (a .settings) (a .part .now) (at-store .store .last .1 .1 .1 .0) (at-store .store .result) (a .start) (a .position) (a .at + at-find-stop .find-stop .result) h (c .before .if2 .taken)))
+    (add-assoc _ _ _)
 
 add-read-ended : tie.Need-add-read-ended
 add-read-ended c = omega (arith, stop-at (c .before .before .before .before .before .before .before .before .before .before) .most)
 
 read-ended-requires : tie.Need-read-ended-requires
 read-ended-requires c κs =
-    let k : length (c .before .before .before .before .before .before .before .store .last .1 .1 .1 .0) ≡ length (c .before .before .before .before .before .before .before .before .before .before .before .before .before .before .before .args .buffer .now) = c .before .before .before .before .before .before .before .store .kept .1 .1 .1 .0 in
-    record { limit = c .before .before .before .before .before .before .before .before .before .before .before .before .before .before .before .pre .limit; enough = omega (arith, c .before .before .before .before .before .before .before .before .before .before .before .before .before .before .before .pre .enough); offsets = c .before .before .before .before .before .before .before .before .before .before .before .before .before .before .before .pre .offsets; within = omega (arith, stop-at (c .before .before .before .before .before .before .before .before .before .before .before) .most) }
+    let at-store = c .before .before .before .before .before .before .before in
+    let at-find-stop = at-store .before .before .before .before in
+    let at-start = at-find-stop .before .before .before .before in
+    let k : length (at-store .store .last .1 .1 .1 .0) ≡ length (at-start .args .buffer .now) = at-store .store .kept .1 .1 .1 .0 in
+    record {
+      limit = at-start .pre .limit;
+      enough = omega (arith, at-start .pre .enough);
+      offsets = at-start .pre .offsets;
+      within = omega (arith, stop-at at-find-stop .most);
+    }
 
 same-length-3 : tie.Need-same-length-3
 same-length-3 c = search needs
 
 returns-3 : tie.Need-returns-3
 returns-3 c =
-    let a = c .before .before .before .before .before .before .before .before .before .before .before .before .before .before .before .before .before .before .args in
-    let h : a .at + c .before .before .before .before .before .before .before .before .before .before .before .before .before .before .find-stop .result < length (a .part .now) = omega (arith, stop-at (c .before .before .before .before .before .before .before .before .before .before .before .before .before .before) .most) in
-    reads-also (sym (stored-at (c .before .before .before .before .before .before .before .before .before .before) ∙ from-ends (a .settings) (a .part .now) (c .before .before .before .before .before .before .before .before .before .before .store .last .1 .1 .1 .0) (c .before .before .before .before .before .before .before .before .before .before .store .result) (a .start) (a .position) (a .at + c .before .before .before .before .before .before .before .before .before .before .before .before .before .before .find-stop .result) h (c .before .before .before .before .if2 .left)
-    (stop-byte _ _ (a .part .now) (a .at) (c .before .before .before .before .before .before .before .before .before .before .before .before .before .before .find-stop .result) (stop-at (c .before .before .before .before .before .before .before .before .before .before .before .before .before .before)) h (c .before .before .before .before .if2 .left)))) (c .before .before .read-ended .ensures)
+    let at-read-ended = c .before .before in
+    let at-if2 = at-read-ended .before .before in
+    let at-store = at-if2 .before .before .before .before .before .before in
+    let at-find-stop = at-store .before .before .before .before in
+    let a = at-find-stop .before .before .before .before .args in
+    let h : a .at + at-find-stop .find-stop .result < length (a .part .now) = omega (arith, stop-at at-find-stop .most) in
+    reads-also
+    (sym (stored-at at-store ∙ from-ends (a .settings) (a .part .now) (at-store .store .last .1 .1 .1 .0) (at-store .store .result) (a .start) (a .position) (a .at + at-find-stop .find-stop .result) h (at-if2 .if2 .left)
+    (stop-byte _ _ (a .part .now) (a .at) (at-find-stop .find-stop .result) (stop-at at-find-stop) h (at-if2 .if2 .left)))) (at-read-ended .read-ended .ensures)
 
 pub read-inside-spec : {M : Type 1} → statement M
 read-inside-spec =

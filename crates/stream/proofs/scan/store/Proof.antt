@@ -8,7 +8,9 @@ use Rattle.stream.proofs.scan.store.Statement.{statement}
 use Rattle.stream.proofs.scan.store.Tie as tie
 
 returns : tie.Need-returns
-returns c = store-none (c .before .before .before .args .limit) (c .before .before .before .args .held) (c .before .before .before .args .piece .now) (c .before .before .before .args .buffer .now) (c .if1 .taken)
+returns c =
+    let a = c .before .before .before .args in
+    store-none (a .limit) (a .held) (a .piece .now) (a .buffer .now) (c .if1 .taken)
 
 sub-copy-bytes : tie.Need-sub-copy-bytes
 sub-copy-bytes c = search needs
@@ -30,8 +32,13 @@ same-length c = search needs
 
 returns-2 : tie.Need-returns-2
 returns-2 c =
-    let a = c .before .before .before .before .before .before .before .before .args in
-    store-fits (a .limit) (a .held) (a .piece .now) (a .buffer .now) (c .before .before .copy-bytes .last .0) (c .before .before .before .before .before .if1 .left) (c .before .before .before .before .if2 .taken) (c .before .before .before .before .before .before .before .before .pre .0) (c .before .before .copy-bytes .ensures)
+    let at-copy-bytes = c .before .before in
+    let at-if2 = at-copy-bytes .before .before in
+    let at-if1 = at-if2 .before in
+    let at-start = at-if1 .before .before .before in
+    let a = at-start .args in
+    store-fits (a .limit) (a .held) (a .piece .now) (a .buffer .now) (at-copy-bytes .copy-bytes .last .0) (at-if1 .if1 .left)
+    (at-if2 .if2 .taken) (at-start .pre .0) (at-copy-bytes .copy-bytes .ensures)
 
 sub-copy-bytes-2 : tie.Need-sub-copy-bytes-2
 sub-copy-bytes-2 c = search needs
@@ -56,8 +63,13 @@ same-length-2 c = search needs
 
 returns-3 : tie.Need-returns-3
 returns-3 c =
-    let a = c .before .before .before .before .before .before .before .before .before .args in
-    store-part (a .limit) (a .held) (a .piece .now) (a .buffer .now) (c .before .before .copy-bytes2 .last .0) (c .before .before .before .before .before .before .if1 .left) (c .before .before .before .before .before .if2 .left) (c .before .before .before .before .before .before .before .before .before .pre .0) (c .before .before .copy-bytes2 .ensures)
+    let at-copy-bytes2 = c .before .before in
+    let at-if2 = at-copy-bytes2 .before .before .before in
+    let at-if1 = at-if2 .before in
+    let at-start = at-if1 .before .before .before in
+    let a = at-start .args in
+    store-part (a .limit) (a .held) (a .piece .now) (a .buffer .now) (at-copy-bytes2 .copy-bytes2 .last .0) (at-if1 .if1 .left)
+    (at-if2 .if2 .left) (at-start .pre .0) (at-copy-bytes2 .copy-bytes2 .ensures)
 
 pub store-spec : {M : Type 1} → statement M
 store-spec =

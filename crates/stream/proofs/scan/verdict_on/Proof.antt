@@ -37,9 +37,11 @@ judge-block-requires c κs = search needs
 returns-3 : tie.Need-returns-3
 unfolding storedVerdict
 returns-3 c =
-    let a = c .before .before .before .before .before .before .args in
-    let e = c .before .before .before .before .capacity .ensures in
-    rw (le-ltb (capacityOf (a .settings)) (a .held) (omega arith), eq-eqb _ _ (c .before .before .if2 .left)) (c .judge-block .ensures)
+    let at-if2 = c .before .before in
+    let at-capacity = at-if2 .before .before in
+    let a = at-capacity .before .before .args in
+    let e = at-capacity .capacity .ensures in
+    rw (le-ltb (capacityOf (a .settings)) (a .held) (omega arith), eq-eqb _ _ (at-if2 .if2 .left)) (c .judge-block .ensures)
 
 pub verdict-on-spec : {M : Type 1} → statement M
 verdict-on-spec =

@@ -69,18 +69,23 @@ same-length c = search needs
 
 returns : tie.Need-returns
 returns c =
-    let a = c .before .before .before .before .before .before .before .before .before .before .before .before .before .before .before .args in
+    let at-write-trailer = c .before .before in
+    let at-write-content = at-write-trailer .before .before .before .before in
+    let at-write-header = at-write-content .before .before .before .before in
+    let at-block-checksum = at-write-header .before .before in
+    let at-start = at-block-checksum .before .before .before in
+    let a = at-start .args in
     let d = a .content .now in
     let s = a .settings in
-    let header = c .before .before .before .before .before .before .before .before .before .before .write-header in
-    let content = c .before .before .before .before .before .before .write-content in
-    let trailer = c .before .before .write-trailer in
+    let header = at-write-header .write-header in
+    let content = at-write-content .write-content in
+    let trailer = at-write-trailer .write-trailer in
     let sum = checksumOf (s .«start_block») (a .t) d in (
       length-hybrid s (a .t) d,
       three-parts (a .buffer .now) (hybridHeader (s .«start_block») (a .t)) d (hybridTrailer (5 + length d) sum (s .«end_block»))
           (header .last .0) (content .last .0) (trailer .last .0) _ _ (a .start) 5 10 (length-header (s .«start_block») (a .t))
-          (length-trailer (5 + length d) sum (s .«end_block»)) (c .before .before .before .before .before .before .before .before .before .before .before .before .before .before .before .pre) (header .ensures) refl (content .ensures) refl
-          (rw (c .before .before .before .before .before .before .before .before .before .before .before .before .block-checksum .ensures) at (trailer .ensures))
+          (length-trailer (5 + length d) sum (s .«end_block»)) (at-start .pre) (header .ensures) refl (content .ensures) refl
+          (rw (at-block-checksum .block-checksum .ensures) at (trailer .ensures))
           ∙ ap (λ (z : List ℕ). put (a .buffer .now) (a .start) z) (hybrid-is s (a .t) d),
     )
 

@@ -57,15 +57,19 @@ same-length c = search needs
 
 returns : tie.Need-returns
 returns c =
-    let a = c .before .before .before .before .before .before .before .before .before .before .before .before .before .before .args in
+    let at-write-trailer = c .before .before in
+    let at-write-content = at-write-trailer .before .before .before .before in
+    let at-write-header = at-write-content .before .before .before .before in
+    let at-start = at-write-header .before .before .before .before in
+    let a = at-start .args in
     let d = a .content .now in
     let s = a .settings in
-    let header = c .before .before .before .before .before .before .before .before .before .before .write-header in
-    let content = c .before .before .before .before .before .before .write-content in
-    let trailer = c .before .before .write-trailer in (
+    let header = at-write-header .write-header in
+    let content = at-write-content .write-content in
+    let trailer = at-write-trailer .write-trailer in (
       length-minimal s d,
       three-parts (a .buffer .now) (s .«start_block» ∷ []) d (s .«end_block» ∷ 13 ∷ []) (header .last .0) (content .last .0) (trailer .last .0)
-          _ _ (a .start) 1 2 refl refl (c .before .before .before .before .before .before .before .before .before .before .before .before .before .before .pre) (header .ensures) refl (content .ensures) refl (trailer .ensures)
+          _ _ (a .start) 1 2 refl refl (at-start .pre) (header .ensures) refl (content .ensures) refl (trailer .ensures)
           ∙ ap (λ (z : List ℕ). put (a .buffer .now) (a .start) z) (minimal-is s d),
     )
 
