@@ -73,8 +73,10 @@ pub fn block_read(resends: u64, sender: Sender, verdict: Verdict, content: &[u8]
             if t == b'N' {
                 return resend(resends, sender);
             }
-            read_data(resends, sender, content)
+            return read_data(resends, sender, content);
         }
-        Verdict::Refused(number, _) => resend_for(number, resends, sender),
+        Verdict::Refused(number, _) => {
+            return resend_for(number, resends, sender);
+        }
     }
 }

@@ -42,7 +42,7 @@ pub fn circuit_ended(sender: Sender) -> Acted
     if !is_on_circuit(sender) {
         return refuse_state(sender);
     }
-    end_circuit(sender.persisted, Event::NoEvent)
+    end_circuit(sender.persisted, 0, Event::NoEvent)
 }
 
 // An operator resets a frozen sender.
@@ -57,7 +57,7 @@ pub fn operator_reset(sender: Sender) -> Acted
         return refuse(refusal::STATE, 0, sender);
     }
     persisted.frozen = false;
-    end_circuit(persisted, Event::NoEvent)
+    end_circuit(persisted, 0, Event::NoEvent)
 }
 
 // The message that waits is sent again, or given up.
@@ -71,9 +71,7 @@ pub(crate) fn resend(resends: u64, sender: Sender) -> Acted
         return act(sender, NumberedMessage::Nothing, Event::NoEvent);
     };
     if resends + 1 <= sender.sends {
-        let mut acted = end_circuit(sender.persisted, Event::Abandoned);
-        acted.sends = sender.sends;
-        return acted;
+        return end_circuit(sender.persisted, sender.sends, Event::Abandoned);
     }
     let mut next = sender;
     next.sends += 1;

@@ -11,7 +11,8 @@ ghost use mathlib.Core.Path.{_≡_};
 ghost use mathlib.Core.Bool.{not, _&&_};
 ghost use Prim.Native.Nat.{_≤_};
 ghost use Rattle.numbers.specs.Numbers.{greatestExpected};
-ghost use Rattle.sender.specs.Sender.{validPersisted, validWaiting, validSender, closed, senderOf, acted, refused, noState, waitsOf, firstSends, beginsToWait, isOpen, onCircuit};
+ghost use Rattle.sender.specs.Sender.{validPersisted, validWaiting, validSender, senderOf, acted, refused, noState, waitsOf, firstSends, beginsToWait, isOpen, onCircuit};
+ghost use Rattle.sender.specs.Internal.{endsWith};
 
 fn is_persisted(p: Persisted) -> bool
     ensures { λ r. ⌜ r ≡ validPersisted p ⌝ }
@@ -147,9 +148,9 @@ pub(crate) fn begin(p: Persisted, waiting: Waiting, event: Event) -> Acted
     act(next, message, event)
 }
 
-// The circuit ends.
-pub(crate) fn end_circuit(p: Persisted, event: Event) -> Acted
-    ensures { λ r. ⌜ r ≡ acted (closed p) NumberedMessage.Nothing event ⌝ }
+// The circuit ends. The sends are those of a message that is given up.
+pub(crate) fn end_circuit(p: Persisted, sends: u64, event: Event) -> Acted
+    ensures { λ r. ⌜ r ≡ endsWith p sends event ⌝ }
 {
     Acted {
         number: 0,
@@ -159,7 +160,7 @@ pub(crate) fn end_circuit(p: Persisted, event: Event) -> Acted
             sends: 0,
         },
         send: NumberedMessage::Nothing,
-        sends: 0,
+        sends,
         event,
         block: 0,
         offset: 0,

@@ -89,13 +89,13 @@ answer-spec =
     freeze-requires-2
     returns-2
     act-requires
+    returns-3
     enum-told-2
     answer-resynchronizing-requires
+    returns-4
     enum-told-3
     answer-query-requires
+    returns-5
     enum-told-4
     answer-transaction-requires
-    returns-3
-    returns-4
-    returns-5
     returns-6)

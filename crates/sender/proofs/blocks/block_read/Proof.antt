@@ -105,7 +105,7 @@ block-read-spec =
     resend-requires
     returns-3
     read-data-requires
+    returns-4
     enum-known-verdict-2
     resend-for-requires
-    returns-4
     returns-5)
