@@ -24,9 +24,9 @@ fn proceed(p: Persisted, event: Event) -> Acted
     ensures { λ r. ⌜ r ≡ proceeds p event ⌝ }
 {
     if p.delivered < p.last {
-        return begin(p, Waiting::Sending, event);
+        return begin(p, Waiting::Sending, 1, event);
     }
-    begin(p, Waiting::Idle, event)
+    begin(p, Waiting::Idle, 0, event)
 }
 
 // One more transaction is delivered.

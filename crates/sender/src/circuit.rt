@@ -8,8 +8,8 @@ use crate::state::act;
 use crate::state::begin;
 use crate::state::end_circuit;
 use crate::state::is_on_circuit;
+use crate::state::is_open;
 use crate::state::is_state;
-use crate::state::may_open;
 use crate::state::refuse;
 use crate::state::refuse_state;
 use crate::state::waiting_message;
@@ -25,14 +25,15 @@ pub fn circuit_opened(sender: Sender) -> Acted
     if !is_state(sender) {
         return refuse_state(sender);
     }
-    if !may_open(sender) {
+    let waiting = sender.waiting;
+    let persisted = sender.persisted;
+    if is_open(waiting) | persisted.frozen {
         return refuse(refusal::STATE, 0, sender);
     }
-    let persisted = sender.persisted;
     if persisted.resynchronized {
-        return begin(persisted, Waiting::Querying, Event::NoEvent);
+        return begin(persisted, Waiting::Querying, 1, Event::NoEvent);
     }
-    begin(persisted, Waiting::Resynchronizing, Event::NoEvent)
+    begin(persisted, Waiting::Resynchronizing, 1, Event::NoEvent)
 }
 
 // The circuit ended.

@@ -8,10 +8,9 @@ use crate::SenderMade;
 use crate::Waiting;
 use numbers::SequenceNumber;
 ghost use mathlib.Core.Path.{_≡_};
-ghost use mathlib.Core.Bool.{not, _&&_};
 ghost use Prim.Native.Nat.{_≤_};
 ghost use Rattle.numbers.specs.Numbers.{greatestExpected};
-ghost use Rattle.sender.specs.Sender.{validPersisted, validWaiting, validSender, senderOf, acted, refused, noState, waitsOf, firstSends, beginsToWait, isOpen, onCircuit};
+ghost use Rattle.sender.specs.Sender.{validPersisted, validWaiting, validSender, senderOf, acted, refused, noState, waitsOf, waitingMessage, firstSends, beginsToWait, isOpen, onCircuit};
 ghost use Rattle.sender.specs.Internal.{endsWith};
 
 fn is_persisted(p: Persisted) -> bool
@@ -87,16 +86,7 @@ pub(crate) fn waiting_message(sender: Sender) -> NumberedMessage
     }
 }
 
-fn first_sends(message: NumberedMessage) -> u64
-    ensures { λ r. ⌜ r ≡ firstSends message ⌝ }
-{
-    match message {
-        NumberedMessage::Nothing => 0,
-        NumberedMessage::Numbered(_) => 1,
-    }
-}
-
-fn is_open(waiting: Waiting) -> bool
+pub(crate) fn is_open(waiting: Waiting) -> bool
     ensures { λ r. ⌜ r ≡ isOpen waiting ⌝ }
 {
     let Waiting::Closed = waiting else {
@@ -110,13 +100,6 @@ pub(crate) fn is_on_circuit(sender: Sender) -> bool
 {
     let waiting = sender.waiting;
     is_state(sender) & is_open(waiting)
-}
-
-pub(crate) fn may_open(sender: Sender) -> bool
-    ensures { λ r. ⌜ r ≡ (not (isOpen (sender .waiting)) && not (sender .persisted .frozen)) ⌝ }
-{
-    let waiting = sender.waiting;
-    !is_open(waiting) & !sender.persisted.frozen
 }
 
 pub(crate) fn act(sender: Sender, send: NumberedMessage, event: Event) -> Acted
@@ -133,18 +116,18 @@ pub(crate) fn act(sender: Sender, send: NumberedMessage, event: Event) -> Acted
     }
 }
 
-// Something begins to wait, and is sent.
-pub(crate) fn begin(p: Persisted, waiting: Waiting, event: Event) -> Acted
+// Something begins to wait, and is sent once; with nothing to send, no send is made.
+pub(crate) fn begin(p: Persisted, waiting: Waiting, sends: u64, event: Event) -> Acted
     requires { ⌜ p .delivered ≤ greatestExpected ⌝ }
+    requires { ⌜ sends ≡ firstSends (waitingMessage p waiting) ⌝ }
     ensures { λ r. ⌜ r ≡ beginsToWait p waiting event ⌝ }
 {
-    let mut next = Sender {
+    let next = Sender {
         persisted: p,
         waiting,
-        sends: 0,
+        sends,
     };
     let message = waiting_message(next);
-    next.sends = first_sends(message);
     act(next, message, event)
 }
 

@@ -57,12 +57,24 @@ fn perform(act: Act, decoded: Decoded, bytes: &[u8]) -> Acted
         return refuse_words();
     };
     match act {
-        Act::Open => sender::circuit_opened(sender),
-        Act::End => sender::circuit_ended(sender),
-        Act::Reset => sender::operator_reset(sender),
-        Act::Timer(resends) => sender::timer_ran_out(resends, sender),
-        Act::Block(resends, verdict) => sender::block_read(resends, sender, verdict, bytes),
-        Act::Submit(data_limit) => sender::submit_transaction(data_limit, sender, bytes),
+        Act::Open => {
+            return sender::circuit_opened(sender);
+        }
+        Act::End => {
+            return sender::circuit_ended(sender);
+        }
+        Act::Reset => {
+            return sender::operator_reset(sender);
+        }
+        Act::Timer(resends) => {
+            return sender::timer_ran_out(resends, sender);
+        }
+        Act::Block(resends, verdict) => {
+            return sender::block_read(resends, sender, verdict, bytes);
+        }
+        Act::Submit(data_limit) => {
+            return sender::submit_transaction(data_limit, sender, bytes);
+        }
     }
 }
 

@@ -1,5 +1,4 @@
 -- `sender::blocks::block_read` meets its contract.
-use borrow.Author.Needs.{needs}
 use borrow.Author.Tests.{lt-leb, le-leb, eq-eqb, ne-eqb}
 use mathlib.Core.Path.{_∙_}
 use Rattle.lists.proofs.Calls.{met, unmet}
@@ -10,17 +9,17 @@ use Rattle.sender.proofs.blocks.block_read.Statement.{statement}
 use Rattle.sender.proofs.blocks.block_read.Tie as tie
 
 refuse-requires : tie.Need-refuse-requires
-refuse-requires c κs = search needs
+refuse-requires c κs = tt
 
 returns : tie.Need-returns
 unfolding blockReadOf
 returns c = c .refuse .ensures ∙ unmet _ _ _ (lt-leb _ _ (c .before .if1 .taken))
 
 is-on-circuit-requires : tie.Need-is-on-circuit-requires
-is-on-circuit-requires c κs = search needs
+is-on-circuit-requires c κs = tt
 
 refuse-state-requires : tie.Need-refuse-state-requires
-refuse-state-requires c κs = search needs
+refuse-state-requires c κs = tt
 
 returns-2 : tie.Need-returns-2
 unfolding blockReadOf
@@ -30,7 +29,7 @@ returns-2 c =
     c .refuse-state .ensures ∙ unmet _ _ _ (failed (at-is-on-circuit .is-on-circuit .ensures) (c .before .if2 .taken)) ∙ met _ _ _ (le-leb _ _ (at-if1 .if1 .left))
 
 enum-known-verdict : tie.Need-enum-known-verdict
-enum-known-verdict c = search needs
+enum-known-verdict c = c .match .keys1
 
 resend-requires : tie.Need-resend-requires
 resend-requires c κs =
@@ -61,7 +60,7 @@ read-data-requires c κs =
     (at-if1 .if1 .left, bounded (at-args .args .sender) (and-left _ _ circuit))
 
 enum-known-verdict-2 : tie.Need-enum-known-verdict-2
-enum-known-verdict-2 c = search needs
+enum-known-verdict-2 c = c .match .keys2
 
 resend-for-requires : tie.Need-resend-for-requires
 resend-for-requires c κs =

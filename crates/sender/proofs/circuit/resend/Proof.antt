@@ -10,13 +10,13 @@ waiting-message-requires : tie.Need-waiting-message-requires
 waiting-message-requires c κs = search needs
 
 enum-told : tie.Need-enum-told
-enum-told c = search needs
+enum-told c = c .match .keys1
 
 enum-told-2 : tie.Need-enum-told-2
-enum-told-2 c = search needs
+enum-told-2 c = c .match .keys2
 
 act-requires : tie.Need-act-requires
-act-requires c κs = search needs
+act-requires c κs = tt
 
 returns : tie.Need-returns
 returns c = c .act .ensures ∙ sym (rw (sym (c .before .before .before .waiting-message .ensures) ∙ c .before .enum-told2 .given .1))
@@ -25,7 +25,7 @@ add-if1 : tie.Need-add-if1
 add-if1 c = search needs
 
 end-circuit-requires : tie.Need-end-circuit-requires
-end-circuit-requires c κs = search needs
+end-circuit-requires c κs = tt
 
 returns-2 : tie.Need-returns-2
 returns-2 c =
@@ -37,7 +37,7 @@ add-next : tie.Need-add-next
 add-next c = search needs
 
 act-requires-2 : tie.Need-act-requires-2
-act-requires-2 c κs = search needs
+act-requires-2 c κs = tt
 
 returns-3 : tie.Need-returns-3
 returns-3 c =

@@ -1,5 +1,4 @@
 -- `sender::circuit::timer_ran_out` meets its contract.
-use borrow.Author.Needs.{needs}
 use borrow.Author.Tests.{lt-leb, le-leb}
 use mathlib.Core.Path.{_∙_}
 use Rattle.lists.proofs.Calls.{met, unmet}
@@ -10,17 +9,17 @@ use Rattle.sender.proofs.circuit.timer_ran_out.Statement.{statement}
 use Rattle.sender.proofs.circuit.timer_ran_out.Tie as tie
 
 refuse-requires : tie.Need-refuse-requires
-refuse-requires c κs = search needs
+refuse-requires c κs = tt
 
 returns : tie.Need-returns
 unfolding timerOf
 returns c = c .refuse .ensures ∙ unmet _ _ _ (lt-leb _ _ (c .before .if1 .taken))
 
 is-on-circuit-requires : tie.Need-is-on-circuit-requires
-is-on-circuit-requires c κs = search needs
+is-on-circuit-requires c κs = tt
 
 refuse-state-requires : tie.Need-refuse-state-requires
-refuse-state-requires c κs = search needs
+refuse-state-requires c κs = tt
 
 returns-2 : tie.Need-returns-2
 unfolding timerOf

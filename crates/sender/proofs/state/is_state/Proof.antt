@@ -1,14 +1,13 @@
 -- `sender::state::is_state` meets its contract.
-use borrow.Author.Needs.{needs}
 use Rattle.sender.specs.Sender.{validSender}
 use Rattle.sender.proofs.state.is_state.Statement.{statement}
 use Rattle.sender.proofs.state.is_state.Tie as tie
 
 is-persisted-requires : tie.Need-is-persisted-requires
-is-persisted-requires c κs = search needs
+is-persisted-requires c κs = tt
 
 is-waiting-requires : tie.Need-is-waiting-requires
-is-waiting-requires c κs = search needs
+is-waiting-requires c κs = tt
 
 returns : tie.Need-returns
 unfolding validSender

@@ -5,13 +5,13 @@ use Rattle.sender.proofs.state.waiting_message.Statement.{statement}
 use Rattle.sender.proofs.state.waiting_message.Tie as tie
 
 enum-told : tie.Need-enum-told
-enum-told c = search needs
+enum-told c = c .match .keys2
 
 enum-told-2 : tie.Need-enum-told-2
-enum-told-2 c = search needs
+enum-told-2 c = c .match .keys3
 
 enum-told-3 : tie.Need-enum-told-3
-enum-told-3 c = search needs
+enum-told-3 c = c .match .keys4
 
 add-t7 : tie.Need-add-t7
 add-t7 c = search needs

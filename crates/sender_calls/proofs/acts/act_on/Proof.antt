@@ -27,7 +27,7 @@ read-sender-requires c κs =
     state-words 7 8 st p (not-false enough (c .before .if1 .left))
 
 perform-requires : tie.Need-perform-requires
-perform-requires c κs = search needs
+perform-requires c κs = tt
 
 write-report-requires : tie.Need-write-report-requires
 write-report-requires c κs =

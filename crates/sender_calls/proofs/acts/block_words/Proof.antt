@@ -12,13 +12,13 @@ unfolding blockCall
 returns c = unmet _ _ _ (lt-leb _ _ (c .if1 .taken))
 
 verdict-from-requires : tie.Need-verdict-from-requires
-verdict-from-requires c κs = search needs
+verdict-from-requires c κs = tt
 
 enum-known-verdict : tie.Need-enum-known-verdict
-enum-known-verdict c = search needs
+enum-known-verdict c = c .match .keys1
 
 enum-told : tie.Need-enum-told
-enum-told c = search needs
+enum-told c = c .match .keys2
 
 returns-2 : tie.Need-returns-2
 unfolding blockCall
@@ -28,7 +28,7 @@ returns-2 c =
     rw (sym (at-verdict-from .verdict-from .ensures) ∙ c .enum-told .given .1) (met _ _ _ (le-leb _ _ (at-if1 .if1 .left)))
 
 act-on-requires : tie.Need-act-on-requires
-act-on-requires c κs = search needs
+act-on-requires c κs = tt
 
 same-length : tie.Need-same-length
 same-length c = search needs

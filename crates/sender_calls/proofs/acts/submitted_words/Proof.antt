@@ -7,14 +7,14 @@ use Rattle.sender_calls.proofs.acts.submitted_words.Statement.{statemen
 use Rattle.sender_calls.proofs.acts.submitted_words.Tie as tie
 
 is-link-limit-requires : tie.Need-is-link-limit-requires
-is-link-limit-requires c κs = search needs
+is-link-limit-requires c κs = tt
 
 returns : tie.Need-returns
 unfolding submitCall
 returns c = unmet _ _ _ (failed (c .before .is-link-limit .ensures) (c .if1 .taken))
 
 act-on-requires : tie.Need-act-on-requires
-act-on-requires c κs = search needs
+act-on-requires c κs = tt
 
 same-length : tie.Need-same-length
 same-length c = search needs

@@ -14,7 +14,7 @@ slice-aggregate-act-on : tie.Need-slice-aggregate-act-on
 slice-aggregate-act-on c = search needs
 
 act-on-requires : tie.Need-act-on-requires
-act-on-requires c κs = search needs
+act-on-requires c κs = tt
 
 same-length : tie.Need-same-length
 same-length c = search needs

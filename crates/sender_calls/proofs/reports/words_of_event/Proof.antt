@@ -1,28 +1,27 @@
 -- `sender_calls::reports::words_of_event` meets its contract.
-use borrow.Author.Needs.{needs}
 use Rattle.sender_calls.proofs.reports.words_of_event.Statement.{statement}
 use Rattle.sender_calls.proofs.reports.words_of_event.Tie as tie
 
 enum-told : tie.Need-enum-told
-enum-told c = search needs
+enum-told c = c .match .keys1
 
 enum-known-event : tie.Need-enum-known-event
-enum-known-event c = search needs
+enum-known-event c = c .match .keys2
 
 code-number-requires : tie.Need-code-number-requires
-code-number-requires c κs = search needs
+code-number-requires c κs = tt
 
 enum-known-event-2 : tie.Need-enum-known-event-2
-enum-known-event-2 c = search needs
+enum-known-event-2 c = c .match .keys3
 
 enum-told-2 : tie.Need-enum-told-2
-enum-told-2 c = search needs
+enum-told-2 c = c .match .keys4
 
 enum-told-3 : tie.Need-enum-told-3
-enum-told-3 c = search needs
+enum-told-3 c = c .match .keys5
 
 enum-told-4 : tie.Need-enum-told-4
-enum-told-4 c = search needs
+enum-told-4 c = c .match .keys6
 
 returns : tie.Need-returns
 returns c = rw (c .enum-told .given .1)

@@ -1,23 +1,22 @@
 -- `sender_calls::reports::words_of_send` meets its contract.
-use borrow.Author.Needs.{needs}
 use borrow.Author.Tests.{ne-eqb}
 use Rattle.sender_calls.proofs.reports.words_of_send.Statement.{statement}
 use Rattle.sender_calls.proofs.reports.words_of_send.Tie as tie
 
 enum-known-send : tie.Need-enum-known-send
-enum-known-send c = search needs
+enum-known-send c = c .match .keys1
 
 enum-told : tie.Need-enum-told
-enum-told c = search needs
+enum-told c = c .match .keys2
 
 returns : tie.Need-returns
 returns c = rw (c .enum-told .given .1)
 
 enum-known-number : tie.Need-enum-known-number
-enum-known-number c = search needs
+enum-known-number c = c .match2 .keys1
 
 enum-told-2 : tie.Need-enum-told-2
-enum-told-2 c = search needs
+enum-told-2 c = c .match2 .keys2
 
 returns-2 : tie.Need-returns-2
 returns-2 c = rw (c .before .before .before .send .given .1, c .enum-told2 .given .1)

@@ -11,10 +11,10 @@ use Rattle.sender_calls.proofs.reports.write_report.Statement.{statemen
 use Rattle.sender_calls.proofs.reports.write_report.Tie as tie
 
 words-of-send-requires : tie.Need-words-of-send-requires
-words-of-send-requires c κs = search needs
+words-of-send-requires c κs = tt
 
 words-of-event-requires : tie.Need-words-of-event-requires
-words-of-event-requires c κs = search needs
+words-of-event-requires c κs = tt
 
 slice-write-words : tie.Need-slice-write-words
 slice-write-words c = search needs

@@ -9,13 +9,13 @@ use Rattle.sender_calls.proofs.states.write_sender.Statement.{statement
 use Rattle.sender_calls.proofs.states.write_sender.Tie as tie
 
 flag-word-requires : tie.Need-flag-word-requires
-flag-word-requires c κs = search needs
+flag-word-requires c κs = tt
 
 flag-word-requires-2 : tie.Need-flag-word-requires-2
-flag-word-requires-2 c κs = search needs
+flag-word-requires-2 c κs = tt
 
 waiting-word-requires : tie.Need-waiting-word-requires
-waiting-word-requires c κs = search needs
+waiting-word-requires c κs = tt
 
 slice-write-words : tie.Need-slice-write-words
 slice-write-words c = search needs
