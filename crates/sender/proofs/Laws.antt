@@ -18,7 +18,7 @@ use Rattle.header.specs.declared.Code.{Code}
 use Rattle.header.specs.declared.Code.the-variants.{AA, AE, AR}
 use Rattle.header.proofs.Code.{the-type as the-code}
 use Rattle.header.specs.declared.CodeField.the-variants.{Known}
-use Rattle.sender.specs.Sender.{validFirst, validPersisted, validSends, validWaiting, validSender, acted, waitingNumber, waitingMessage, isOpen, isNumber, keepsWaiting, takenIn, proceeds, freezes, deliveredOf, answerResynchronizing, answerQuery, answerTransaction, answered, answerOf}
+use Rattle.sender.specs.Sender.{validFirst, validPersisted, validSends, validWaiting, validSender, acted, waitingNumber, waitingMessage, isOpen, onCircuit, isNumber, keepsWaiting, takenIn, proceeds, freezes, deliveredOf, answerResynchronizing, answerQuery, answerTransaction, answered, answerOf}
 use Rattle.sender.specs.Internal.{Bounded}
 use Rattle.sender.specs.declared.Persisted.{Persisted}
 use Rattle.sender.specs.declared.Waiting.{Waiting}
@@ -79,6 +79,9 @@ bounded s h =
       last = l;
       sends = sends-few p (s .waiting) (s .sends) sent;
     }
+
+pub bounded-open : (s : Sender) {r : Bool} → r ≡ onCircuit s → not r ≡ false → Bounded s
+bounded-open s e h = bounded s (and-left (validSender s) (isOpen (s .waiting)) (passed e h))
 
 -- ---- what a `let .. else` leaves: one of the other variants, by their places
 abbrev Either : ℕ → ℕ → ℕ → Type 0

@@ -14,7 +14,6 @@ use crate::state::refuse;
 use crate::state::refuse_state;
 use crate::state::waiting_message;
 ghost use mathlib.Core.Path.{_≡_};
-ghost use Prim.Native.Nat.{_≤_};
 ghost use Rattle.sender.specs.Sender.{waitsOf, openOf, endedOf, resetOf, resendOf, timerOf};
 ghost use Rattle.sender.specs.Internal.{Bounded};
 
@@ -63,7 +62,6 @@ pub fn operator_reset(sender: Sender) -> Acted
 
 // The message that waits is sent again, or given up.
 pub(crate) fn resend(resends: u64, sender: Sender) -> Acted
-    requires { ⌜ resends ≤ 99 ⌝ }
     requires { ⌜ Bounded sender ⌝ }
     ensures { λ r. ⌜ r ≡ resendOf resends sender (waitsOf sender) ⌝ }
 {
@@ -71,7 +69,7 @@ pub(crate) fn resend(resends: u64, sender: Sender) -> Acted
     let NumberedMessage::Numbered(_) = message else {
         return act(sender, NumberedMessage::Nothing, Event::NoEvent);
     };
-    if resends + 1 <= sender.sends {
+    if resends < sender.sends {
         return end_circuit(sender.persisted, sender.sends, Event::Abandoned);
     }
     let mut next = sender;

@@ -2,8 +2,7 @@
 use borrow.Author.Tests.{lt-leb, le-leb, eq-eqb, ne-eqb}
 use mathlib.Core.Path.{_∙_}
 use Rattle.lists.proofs.Calls.{met, unmet}
-use Rattle.lists.proofs.Tests.{and-left}
-use Rattle.sender.proofs.Laws.{passed, failed, bounded}
+use Rattle.sender.proofs.Laws.{passed, failed, bounded-open}
 use Rattle.sender.specs.Sender.{blockReadOf}
 use Rattle.sender.proofs.blocks.block_read.Statement.{statement}
 use Rattle.sender.proofs.blocks.block_read.Tie as tie
@@ -35,10 +34,8 @@ resend-requires : tie.Need-resend-requires
 resend-requires c κs =
     let at-if2 = c .before .before .before .before in
     let at-is-on-circuit = at-if2 .before in
-    let at-if1 = at-is-on-circuit .before in
-    let at-args = at-if1 .before .before in
-    let circuit = passed (at-is-on-circuit .is-on-circuit .ensures) (at-if2 .if2 .left) in
-    (at-if1 .if1 .left, bounded (at-args .args .sender) (and-left _ _ circuit))
+    let at-args = at-is-on-circuit .before .before .before in
+    bounded-open (at-args .args .sender) (at-is-on-circuit .is-on-circuit .ensures) (at-if2 .if2 .left)
 
 returns-3 : tie.Need-returns-3
 unfolding blockReadOf
@@ -54,10 +51,8 @@ read-data-requires : tie.Need-read-data-requires
 read-data-requires c κs =
     let at-if2 = c .before .before .before .before in
     let at-is-on-circuit = at-if2 .before in
-    let at-if1 = at-is-on-circuit .before in
-    let at-args = at-if1 .before .before in
-    let circuit = passed (at-is-on-circuit .is-on-circuit .ensures) (at-if2 .if2 .left) in
-    (at-if1 .if1 .left, bounded (at-args .args .sender) (and-left _ _ circuit))
+    let at-args = at-is-on-circuit .before .before .before in
+    bounded-open (at-args .args .sender) (at-is-on-circuit .is-on-circuit .ensures) (at-if2 .if2 .left)
 
 enum-known-verdict-2 : tie.Need-enum-known-verdict-2
 enum-known-verdict-2 c = c .match .keys2
@@ -66,10 +61,8 @@ resend-for-requires : tie.Need-resend-for-requires
 resend-for-requires c κs =
     let at-if2 = c .before .before .before in
     let at-is-on-circuit = at-if2 .before in
-    let at-if1 = at-is-on-circuit .before in
-    let at-args = at-if1 .before .before in
-    let circuit = passed (at-is-on-circuit .is-on-circuit .ensures) (at-if2 .if2 .left) in
-    (at-if1 .if1 .left, bounded (at-args .args .sender) (and-left _ _ circuit))
+    let at-args = at-is-on-circuit .before .before .before in
+    bounded-open (at-args .args .sender) (at-is-on-circuit .is-on-circuit .ensures) (at-if2 .if2 .left)
 
 returns-4 : tie.Need-returns-4
 unfolding blockReadOf

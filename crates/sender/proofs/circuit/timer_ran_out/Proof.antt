@@ -2,8 +2,7 @@
 use borrow.Author.Tests.{lt-leb, le-leb}
 use mathlib.Core.Path.{_∙_}
 use Rattle.lists.proofs.Calls.{met, unmet}
-use Rattle.lists.proofs.Tests.{and-left}
-use Rattle.sender.proofs.Laws.{passed, failed, bounded}
+use Rattle.sender.proofs.Laws.{passed, failed, bounded-open}
 use Rattle.sender.specs.Sender.{timerOf}
 use Rattle.sender.proofs.circuit.timer_ran_out.Statement.{statement}
 use Rattle.sender.proofs.circuit.timer_ran_out.Tie as tie
@@ -30,10 +29,8 @@ returns-2 c =
 
 resend-requires : tie.Need-resend-requires
 resend-requires c κs =
-    let at-if1 = c .before .before in
-    let at-args = at-if1 .before in
-    let circuit = passed (c .before .is-on-circuit .ensures) (c .if2 .left) in
-    (at-if1 .if1 .left, bounded (at-args .args .sender) (and-left _ _ circuit))
+    let at-args = c .before .before .before in
+    bounded-open (at-args .args .sender) (c .before .is-on-circuit .ensures) (c .if2 .left)
 
 returns-3 : tie.Need-returns-3
 unfolding timerOf
