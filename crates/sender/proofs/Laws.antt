@@ -1,5 +1,5 @@
 -- The ways in which the sender's functions return, held against the definitions.
-use mathlib.Core.Path.{_≡_, refl, sym, _∙_}
+use mathlib.Core.Path.{_≡_, refl, sym, ap, _∙_}
 use mathlib.Core.Bool.{Bool, true, false, cond, not, _&&_, _||_}
 use mathlib.Core.Logic.{_⊎_, ⊎-elim}
 use Prim.Native.Nat.{ℕ, _-_, _≤_}
@@ -18,7 +18,7 @@ use Rattle.header.specs.declared.Code.{Code}
 use Rattle.header.specs.declared.Code.the-variants.{AA, AE, AR}
 use Rattle.header.proofs.Code.{the-type as the-code}
 use Rattle.header.specs.declared.CodeField.the-variants.{Known}
-use Rattle.sender.specs.Sender.{validFirst, validPersisted, validSends, validWaiting, validSender, acted, waitingNumber, waitingMessage, isOpen, isNumber, keepsWaiting, takenIn, proceeds, freezes, deliveredOf, answerResynchronizing, answerQuery, answerTransaction, answered, answerOf}
+use Rattle.sender.specs.Sender.{validFirst, validPersisted, validSends, validWaiting, validSender, acted, waitingNumber, waitingMessage, isOpen, onCircuit, isNumber, keepsWaiting, takenIn, proceeds, freezes, deliveredOf, answerResynchronizing, answerQuery, answerTransaction, answered, answerOf}
 use Rattle.sender.specs.Internal.{Bounded}
 use Rattle.sender.specs.declared.Persisted.{Persisted}
 use Rattle.sender.specs.declared.Waiting.{Waiting}
@@ -34,6 +34,14 @@ passed {r} e h = sym e ∙ not-false r h
 
 pub failed : {r t : Bool} → r ≡ t → not r ≡ true → t ≡ false
 failed {r} e h = sym e ∙ not-true r h
+
+-- and what one of two tests says of both
+neither-is : (a b : Bool) → (not a && not b) ≡ not (a || b)
+neither-is true b = refl
+neither-is false b = refl
+
+pub neither-of : {r t v : Bool} (b : Bool) → r ≡ t → (r || b) ≡ v → (not t && not b) ≡ not v
+neither-of {r} b e h = ap (λ (z : Bool). not z && not b) (sym e) ∙ neither-is r b ∙ ap not h
 
 -- ---- nothing can overflow in a state
 few : (n : ℕ) → validSends n ≡ true → n ≤ 100
@@ -71,6 +79,9 @@ bounded s h =
       last = l;
       sends = sends-few p (s .waiting) (s .sends) sent;
     }
+
+pub bounded-open : (s : Sender) {r : Bool} → r ≡ onCircuit s → not r ≡ false → Bounded s
+bounded-open s e h = bounded s (and-left (validSender s) (isOpen (s .waiting)) (passed e h))
 
 -- ---- what a `let .. else` leaves: one of the other variants, by their places
 abbrev Either : ℕ → ℕ → ℕ → Type 0

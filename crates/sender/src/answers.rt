@@ -24,9 +24,9 @@ fn proceed(p: Persisted, event: Event) -> Acted
     ensures { λ r. ⌜ r ≡ proceeds p event ⌝ }
 {
     if p.delivered < p.last {
-        return begin(p, Waiting::Sending, event);
+        return begin(p, Waiting::Sending, 1, event);
     }
-    begin(p, Waiting::Idle, event)
+    begin(p, Waiting::Idle, 0, event)
 }
 
 // One more transaction is delivered.
@@ -44,7 +44,7 @@ fn freeze(p: Persisted) -> Acted
 {
     let mut frozen = p;
     frozen.frozen = true;
-    end_circuit(frozen, Event::Froze)
+    end_circuit(frozen, 0, Event::Froze)
 }
 
 fn answer_resynchronizing(p: Persisted, code: Code, number: SequenceNumber) -> Acted
@@ -120,9 +120,17 @@ pub(crate) fn answer(sender: Sender, code: CodeField, number: NumberField) -> Ac
     };
     let waiting = sender.waiting;
     match waiting {
-        Waiting::Closed | Waiting::Idle => act(sender, NumberedMessage::Nothing, Event::NoEvent),
-        Waiting::Resynchronizing => answer_resynchronizing(p, known, present),
-        Waiting::Querying => answer_query(p, known, present),
-        Waiting::Sending => answer_transaction(p, known, present),
+        Waiting::Closed | Waiting::Idle => {
+            return act(sender, NumberedMessage::Nothing, Event::NoEvent);
+        }
+        Waiting::Resynchronizing => {
+            return answer_resynchronizing(p, known, present);
+        }
+        Waiting::Querying => {
+            return answer_query(p, known, present);
+        }
+        Waiting::Sending => {
+            return answer_transaction(p, known, present);
+        }
     }
 }

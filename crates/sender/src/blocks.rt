@@ -16,14 +16,12 @@ use numbers::SequenceNumber;
 use numbers::read_number;
 use refusal::Verdict;
 ghost use mathlib.Core.Path.{_≡_};
-ghost use Prim.Native.Nat.{_≤_};
 ghost use Rattle.header.specs.Header.{acknowledgmentOf};
 ghost use Rattle.sender.specs.Sender.{waitsOf, resendOf, withBlock, dataBlock, blockReadOf};
 ghost use Rattle.sender.specs.Internal.{Bounded};
 
 // A refused block: its number is reported.
 fn resend_for(number: u64, resends: u64, sender: Sender) -> Acted
-    requires { ⌜ resends ≤ 99 ⌝ }
     requires { ⌜ Bounded sender ⌝ }
     ensures { λ r. ⌜ r ≡ withBlock number (resendOf resends sender (waitsOf sender)) ⌝ }
 {
@@ -34,7 +32,6 @@ fn resend_for(number: u64, resends: u64, sender: Sender) -> Acted
 
 // The data of an accepted data block. An answer to anything but what waits is dropped.
 fn read_data(resends: u64, sender: Sender, content: &[u8]) -> Acted
-    requires { ⌜ resends ≤ 99 ⌝ }
     requires { ⌜ Bounded sender ⌝ }
     ensures { λ r. ⌜ r ≡ dataBlock resends sender (now (content .entry)) (acknowledgmentOf (now (content .entry))) ⌝ }
 {
@@ -73,8 +70,10 @@ pub fn block_read(resends: u64, sender: Sender, verdict: Verdict, content: &[u8]
             if t == b'N' {
                 return resend(resends, sender);
             }
-            read_data(resends, sender, content)
+            return read_data(resends, sender, content);
         }
-        Verdict::Refused(number, _) => resend_for(number, resends, sender),
+        Verdict::Refused(number, _) => {
+            return resend_for(number, resends, sender);
+        }
     }
 }

@@ -8,13 +8,12 @@ use crate::state::act;
 use crate::state::begin;
 use crate::state::end_circuit;
 use crate::state::is_on_circuit;
+use crate::state::is_open;
 use crate::state::is_state;
-use crate::state::may_open;
 use crate::state::refuse;
 use crate::state::refuse_state;
 use crate::state::waiting_message;
 ghost use mathlib.Core.Path.{_≡_};
-ghost use Prim.Native.Nat.{_≤_};
 ghost use Rattle.sender.specs.Sender.{waitsOf, openOf, endedOf, resetOf, resendOf, timerOf};
 ghost use Rattle.sender.specs.Internal.{Bounded};
 
@@ -25,14 +24,15 @@ pub fn circuit_opened(sender: Sender) -> Acted
     if !is_state(sender) {
         return refuse_state(sender);
     }
-    if !may_open(sender) {
+    let waiting = sender.waiting;
+    let persisted = sender.persisted;
+    if is_open(waiting) | persisted.frozen {
         return refuse(refusal::STATE, 0, sender);
     }
-    let persisted = sender.persisted;
     if persisted.resynchronized {
-        return begin(persisted, Waiting::Querying, Event::NoEvent);
+        return begin(persisted, Waiting::Querying, 1, Event::NoEvent);
     }
-    begin(persisted, Waiting::Resynchronizing, Event::NoEvent)
+    begin(persisted, Waiting::Resynchronizing, 1, Event::NoEvent)
 }
 
 // The circuit ended.
@@ -42,7 +42,7 @@ pub fn circuit_ended(sender: Sender) -> Acted
     if !is_on_circuit(sender) {
         return refuse_state(sender);
     }
-    end_circuit(sender.persisted, Event::NoEvent)
+    end_circuit(sender.persisted, 0, Event::NoEvent)
 }
 
 // An operator resets a frozen sender.
@@ -57,12 +57,11 @@ pub fn operator_reset(sender: Sender) -> Acted
         return refuse(refusal::STATE, 0, sender);
     }
     persisted.frozen = false;
-    end_circuit(persisted, Event::NoEvent)
+    end_circuit(persisted, 0, Event::NoEvent)
 }
 
 // The message that waits is sent again, or given up.
 pub(crate) fn resend(resends: u64, sender: Sender) -> Acted
-    requires { ⌜ resends ≤ 99 ⌝ }
     requires { ⌜ Bounded sender ⌝ }
     ensures { λ r. ⌜ r ≡ resendOf resends sender (waitsOf sender) ⌝ }
 {
@@ -70,10 +69,8 @@ pub(crate) fn resend(resends: u64, sender: Sender) -> Acted
     let NumberedMessage::Numbered(_) = message else {
         return act(sender, NumberedMessage::Nothing, Event::NoEvent);
     };
-    if resends + 1 <= sender.sends {
-        let mut acted = end_circuit(sender.persisted, Event::Abandoned);
-        acted.sends = sender.sends;
-        return acted;
+    if resends < sender.sends {
+        return end_circuit(sender.persisted, sender.sends, Event::Abandoned);
     }
     let mut next = sender;
     next.sends += 1;

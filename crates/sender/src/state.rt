@@ -8,22 +8,10 @@ use crate::SenderMade;
 use crate::Waiting;
 use numbers::SequenceNumber;
 ghost use mathlib.Core.Path.{_≡_};
-ghost use mathlib.Core.Bool.{not, _&&_};
 ghost use Prim.Native.Nat.{_≤_};
 ghost use Rattle.numbers.specs.Numbers.{greatestExpected};
-ghost use Rattle.sender.specs.Sender.{validPersisted, validWaiting, validSender, closed, senderOf, acted, refused, noState, waitsOf, firstSends, beginsToWait, isOpen, onCircuit};
-
-fn is_persisted(p: Persisted) -> bool
-    ensures { λ r. ⌜ r ≡ validPersisted p ⌝ }
-{
-    if p.first < 1 {
-        return false;
-    }
-    let before = p.first - 1;
-    let first_ok = p.first <= SequenceNumber::GREATEST_SENT;
-    let last_ok = (p.delivered <= p.last) & (p.last <= SequenceNumber::GREATEST_SENT);
-    first_ok & (before <= p.delivered) & last_ok & (p.resynchronized | (p.delivered == before))
-}
+ghost use Rattle.sender.specs.Sender.{validWaiting, validSender, senderOf, acted, refused, noState, waitsOf, waitingMessage, firstSends, beginsToWait, isOpen, onCircuit};
+ghost use Rattle.sender.specs.Internal.{endsWith};
 
 fn is_waiting(p: Persisted, waiting: Waiting, n: u64) -> bool
     ensures { λ r. ⌜ r ≡ validWaiting p waiting n ⌝ }
@@ -43,9 +31,17 @@ fn is_waiting(p: Persisted, waiting: Waiting, n: u64) -> bool
 pub(crate) fn is_state(sender: Sender) -> bool
     ensures { λ r. ⌜ r ≡ validSender sender ⌝ }
 {
-    let persisted = sender.persisted;
+    let p = sender.persisted;
+    if p.first < 1 {
+        return false;
+    }
+    let before = p.first - 1;
+    let first_ok = p.first <= SequenceNumber::GREATEST_SENT;
+    let last_ok = (p.delivered <= p.last) & (p.last <= SequenceNumber::GREATEST_SENT);
+    let numbers_ok = first_ok & (before <= p.delivered) & last_ok;
     let waiting = sender.waiting;
-    is_persisted(persisted) & is_waiting(persisted, waiting, sender.sends)
+    let waiting_ok = is_waiting(p, waiting, sender.sends);
+    numbers_ok & (p.resynchronized | (p.delivered == before)) & waiting_ok
 }
 
 // A sender with nothing submitted, or a refusal (1).
@@ -76,26 +72,26 @@ pub(crate) fn waiting_message(sender: Sender) -> NumberedMessage
     requires { ⌜ sender .persisted .delivered ≤ greatestExpected ⌝ }
     ensures { λ r. ⌜ r ≡ waitsOf sender ⌝ }
 {
-    let p = sender.persisted;
     let waiting = sender.waiting;
     match waiting {
-        Waiting::Closed | Waiting::Idle => NumberedMessage::Nothing,
-        Waiting::Resynchronizing => NumberedMessage::Numbered(SequenceNumber::MinusOne),
-        Waiting::Querying => NumberedMessage::Numbered(SequenceNumber::Number(0)),
-        Waiting::Sending => NumberedMessage::Numbered(SequenceNumber::Number(p.delivered + 1)),
+        Waiting::Closed | Waiting::Idle => {
+            return NumberedMessage::Nothing;
+        }
+        Waiting::Resynchronizing => {
+            return NumberedMessage::Numbered(SequenceNumber::MinusOne);
+        }
+        Waiting::Querying => {
+            return NumberedMessage::Numbered(SequenceNumber::Number(0));
+        }
+        Waiting::Sending => {
+            return NumberedMessage::Numbered(SequenceNumber::Number(
+                sender.persisted.delivered + 1,
+            ));
+        }
     }
 }
 
-fn first_sends(message: NumberedMessage) -> u64
-    ensures { λ r. ⌜ r ≡ firstSends message ⌝ }
-{
-    match message {
-        NumberedMessage::Nothing => 0,
-        NumberedMessage::Numbered(_) => 1,
-    }
-}
-
-fn is_open(waiting: Waiting) -> bool
+pub(crate) fn is_open(waiting: Waiting) -> bool
     ensures { λ r. ⌜ r ≡ isOpen waiting ⌝ }
 {
     let Waiting::Closed = waiting else {
@@ -109,13 +105,6 @@ pub(crate) fn is_on_circuit(sender: Sender) -> bool
 {
     let waiting = sender.waiting;
     is_state(sender) & is_open(waiting)
-}
-
-pub(crate) fn may_open(sender: Sender) -> bool
-    ensures { λ r. ⌜ r ≡ (not (isOpen (sender .waiting)) && not (sender .persisted .frozen)) ⌝ }
-{
-    let waiting = sender.waiting;
-    !is_open(waiting) & !sender.persisted.frozen
 }
 
 pub(crate) fn act(sender: Sender, send: NumberedMessage, event: Event) -> Acted
@@ -132,24 +121,24 @@ pub(crate) fn act(sender: Sender, send: NumberedMessage, event: Event) -> Acted
     }
 }
 
-// Something begins to wait, and is sent.
-pub(crate) fn begin(p: Persisted, waiting: Waiting, event: Event) -> Acted
+// Something begins to wait, and is sent once; with nothing to send, no send is made.
+pub(crate) fn begin(p: Persisted, waiting: Waiting, sends: u64, event: Event) -> Acted
     requires { ⌜ p .delivered ≤ greatestExpected ⌝ }
+    requires { ⌜ sends ≡ firstSends (waitingMessage p waiting) ⌝ }
     ensures { λ r. ⌜ r ≡ beginsToWait p waiting event ⌝ }
 {
-    let mut next = Sender {
+    let next = Sender {
         persisted: p,
         waiting,
-        sends: 0,
+        sends,
     };
     let message = waiting_message(next);
-    next.sends = first_sends(message);
     act(next, message, event)
 }
 
-// The circuit ends.
-pub(crate) fn end_circuit(p: Persisted, event: Event) -> Acted
-    ensures { λ r. ⌜ r ≡ acted (closed p) NumberedMessage.Nothing event ⌝ }
+// The circuit ends. The sends are those of a message that is given up.
+pub(crate) fn end_circuit(p: Persisted, sends: u64, event: Event) -> Acted
+    ensures { λ r. ⌜ r ≡ endsWith p sends event ⌝ }
 {
     Acted {
         number: 0,
@@ -159,7 +148,7 @@ pub(crate) fn end_circuit(p: Persisted, event: Event) -> Acted
             sends: 0,
         },
         send: NumberedMessage::Nothing,
-        sends: 0,
+        sends,
         event,
         block: 0,
         offset: 0,

@@ -45,7 +45,7 @@ fn take(sender: Sender) -> Acted
         next.persisted = persisted;
         return act(next, NumberedMessage::Nothing, Event::NoEvent);
     };
-    begin(persisted, Waiting::Sending, Event::NoEvent)
+    begin(persisted, Waiting::Sending, 1, Event::NoEvent)
 }
 
 fn submit_header(sender: Sender, message: &[u8]) -> Acted

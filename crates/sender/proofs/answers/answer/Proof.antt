@@ -6,22 +6,22 @@ use Rattle.sender.proofs.answers.answer.Statement.{statement}
 use Rattle.sender.proofs.answers.answer.Tie as tie
 
 enum-known-code : tie.Need-enum-known-code
-enum-known-code c = search needs
+enum-known-code c = c .match .keys1
 
 enum-told : tie.Need-enum-told
-enum-told c = search needs
+enum-told c = c .match .keys2
 
 freeze-requires : tie.Need-freeze-requires
-freeze-requires c κs = search needs
+freeze-requires c κs = tt
 
 returns : tie.Need-returns
 returns c = c .freeze .ensures ∙ sym (rw (c .before .enum-told .given .1))
 
 enum-known-number : tie.Need-enum-known-number
-enum-known-number c = search needs
+enum-known-number c = c .match2 .keys1
 
 freeze-requires-2 : tie.Need-freeze-requires-2
-freeze-requires-2 c κs = search needs
+freeze-requires-2 c κs = tt
 
 returns-2 : tie.Need-returns-2
 returns-2 c =
@@ -31,22 +31,22 @@ returns-2 c =
     c .freeze2 .ensures ∙ rw (at-code .code .given .1) (no-answer (a .sender) _ (a .number) (c .before .match2 .keys2))
 
 act-requires : tie.Need-act-requires
-act-requires c κs = search needs
+act-requires c κs = tt
 
 enum-told-2 : tie.Need-enum-told-2
-enum-told-2 c = search needs
+enum-told-2 c = c .match3 .keys2
 
 answer-resynchronizing-requires : tie.Need-answer-resynchronizing-requires
 answer-resynchronizing-requires c κs = search needs
 
 enum-told-3 : tie.Need-enum-told-3
-enum-told-3 c = search needs
+enum-told-3 c = c .match3 .keys3
 
 answer-query-requires : tie.Need-answer-query-requires
 answer-query-requires c κs = search needs
 
 enum-told-4 : tie.Need-enum-told-4
-enum-told-4 c = search needs
+enum-told-4 c = c .match3 .keys4
 
 answer-transaction-requires : tie.Need-answer-transaction-requires
 answer-transaction-requires c κs = search needs
@@ -89,13 +89,13 @@ answer-spec =
     freeze-requires-2
     returns-2
     act-requires
+    returns-3
     enum-told-2
     answer-resynchronizing-requires
+    returns-4
     enum-told-3
     answer-query-requires
+    returns-5
     enum-told-4
     answer-transaction-requires
-    returns-3
-    returns-4
-    returns-5
     returns-6)

@@ -8,10 +8,10 @@ use Rattle.sender.proofs.answers.answer_query.Statement.{statement}
 use Rattle.sender.proofs.answers.answer_query.Tie as tie
 
 enum-told : tie.Need-enum-told
-enum-told c = search needs
+enum-told c = c .match .keys1
 
 freeze-requires : tie.Need-freeze-requires
-freeze-requires c κs = search needs
+freeze-requires c κs = tt
 
 returns : tie.Need-returns
 returns c =
@@ -19,10 +19,10 @@ returns c =
     c .freeze .ensures ∙ no-expected (a .p) (a .code) (a .number) (c .before .match .keys2)
 
 enum-known-number : tie.Need-enum-known-number
-enum-known-number c = search needs
+enum-known-number c = c .match2 .keys1
 
 enum-told-2 : tie.Need-enum-told-2
-enum-told-2 c = search needs
+enum-told-2 c = c .match2 .keys2
 
 sub-if1 : tie.Need-sub-if1
 sub-if1 c = search needs
@@ -37,7 +37,7 @@ returns-2 c =
     c .proceed .ensures ∙ rw (at-enum-told .enum-told .given .1, at-enum-told2 .enum-told2 .given .1) (met _ _ _ (eq-eqb _ _ (c .before .if1 .taken)))
 
 freeze-requires-2 : tie.Need-freeze-requires-2
-freeze-requires-2 c κs = search needs
+freeze-requires-2 c κs = tt
 
 returns-3 : tie.Need-returns-3
 returns-3 c =
@@ -71,7 +71,7 @@ returns-5 c =
     c .deliver .ensures ∙ rw (at-enum-told .enum-told .given .1, at-number .number .given .1) (met _ _ _ (c .before .if3 .taken) ∙ unmet _ _ _ (ne-eqb _ _ (at-if2 .if2 .left)))
 
 freeze-requires-3 : tie.Need-freeze-requires-3
-freeze-requires-3 c κs = search needs
+freeze-requires-3 c κs = tt
 
 returns-6 : tie.Need-returns-6
 returns-6 c =

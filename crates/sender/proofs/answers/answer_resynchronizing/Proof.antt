@@ -6,10 +6,10 @@ use Rattle.sender.proofs.answers.answer_resynchronizing.Statement.{stat
 use Rattle.sender.proofs.answers.answer_resynchronizing.Tie as tie
 
 enum-told : tie.Need-enum-told
-enum-told c = search needs
+enum-told c = c .match .keys1
 
 freeze-requires : tie.Need-freeze-requires
-freeze-requires c κs = search needs
+freeze-requires c κs = tt
 
 returns : tie.Need-returns
 returns c =
@@ -17,13 +17,13 @@ returns c =
     c .freeze .ensures ∙ no-resynchronization (a .p) (a .code) (a .number) (c .before .match .keys2)
 
 enum-told-2 : tie.Need-enum-told-2
-enum-told-2 c = search needs
+enum-told-2 c = c .match2 .keys1
 
 enum-told-3 : tie.Need-enum-told-3
-enum-told-3 c = search needs
+enum-told-3 c = c .match2 .keys2
 
 freeze-requires-2 : tie.Need-freeze-requires-2
-freeze-requires-2 c κs = search needs
+freeze-requires-2 c κs = tt
 
 returns-2 : tie.Need-returns-2
 returns-2 c = c .freeze2 .ensures ∙ sym (rw (c .before .before .before .enum-told .given .1, c .before .enum-told3 .given .1))

@@ -8,13 +8,13 @@ use Rattle.sender.proofs.answers.answer_transaction.Statement.{statemen
 use Rattle.sender.proofs.answers.answer_transaction.Tie as tie
 
 enum-known-number : tie.Need-enum-known-number
-enum-known-number c = search needs
+enum-known-number c = c .match .keys1
 
 enum-told : tie.Need-enum-told
-enum-told c = search needs
+enum-told c = c .match .keys2
 
 freeze-requires : tie.Need-freeze-requires
-freeze-requires c κs = search needs
+freeze-requires c κs = tt
 
 returns : tie.Need-returns
 returns c =
@@ -25,7 +25,7 @@ add-waiting : tie.Need-add-waiting
 add-waiting c = search needs
 
 enum-told-2 : tie.Need-enum-told-2
-enum-told-2 c = search needs
+enum-told-2 c = c .match2 .keys1
 
 deliver-requires : tie.Need-deliver-requires
 deliver-requires c κs = search needs
@@ -39,7 +39,7 @@ returns-2 c =
     c .deliver .ensures ∙ rw (at-number .number .given .1) (met _ _ _ (eq-eqb _ _ (c .before .if1 .taken)) ∙ delivery (a .p) (a .code) _ (at-match2 .match2 .keys2))
 
 freeze-requires-2 : tie.Need-freeze-requires-2
-freeze-requires-2 c κs = search needs
+freeze-requires-2 c κs = tt
 
 returns-3 : tie.Need-returns-3
 returns-3 c =
@@ -62,7 +62,7 @@ returns-4 c =
     c .deliver2 .ensures ∙ rw (at-enum-told2 .enum-told2 .given .1, at-number .number .given .1) (met _ _ _ (eq-eqb _ _ (c .before .if2 .taken)))
 
 freeze-requires-3 : tie.Need-freeze-requires-3
-freeze-requires-3 c κs = search needs
+freeze-requires-3 c κs = tt
 
 returns-5 : tie.Need-returns-5
 returns-5 c =

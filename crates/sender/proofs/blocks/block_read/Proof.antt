@@ -1,26 +1,24 @@
 -- `sender::blocks::block_read` meets its contract.
-use borrow.Author.Needs.{needs}
 use borrow.Author.Tests.{lt-leb, le-leb, eq-eqb, ne-eqb}
 use mathlib.Core.Path.{_∙_}
 use Rattle.lists.proofs.Calls.{met, unmet}
-use Rattle.lists.proofs.Tests.{and-left}
-use Rattle.sender.proofs.Laws.{passed, failed, bounded}
+use Rattle.sender.proofs.Laws.{passed, failed, bounded-open}
 use Rattle.sender.specs.Sender.{blockReadOf}
 use Rattle.sender.proofs.blocks.block_read.Statement.{statement}
 use Rattle.sender.proofs.blocks.block_read.Tie as tie
 
 refuse-requires : tie.Need-refuse-requires
-refuse-requires c κs = search needs
+refuse-requires c κs = tt
 
 returns : tie.Need-returns
 unfolding blockReadOf
 returns c = c .refuse .ensures ∙ unmet _ _ _ (lt-leb _ _ (c .before .if1 .taken))
 
 is-on-circuit-requires : tie.Need-is-on-circuit-requires
-is-on-circuit-requires c κs = search needs
+is-on-circuit-requires c κs = tt
 
 refuse-state-requires : tie.Need-refuse-state-requires
-refuse-state-requires c κs = search needs
+refuse-state-requires c κs = tt
 
 returns-2 : tie.Need-returns-2
 unfolding blockReadOf
@@ -30,16 +28,14 @@ returns-2 c =
     c .refuse-state .ensures ∙ unmet _ _ _ (failed (at-is-on-circuit .is-on-circuit .ensures) (c .before .if2 .taken)) ∙ met _ _ _ (le-leb _ _ (at-if1 .if1 .left))
 
 enum-known-verdict : tie.Need-enum-known-verdict
-enum-known-verdict c = search needs
+enum-known-verdict c = c .match .keys1
 
 resend-requires : tie.Need-resend-requires
 resend-requires c κs =
     let at-if2 = c .before .before .before .before in
     let at-is-on-circuit = at-if2 .before in
-    let at-if1 = at-is-on-circuit .before in
-    let at-args = at-if1 .before .before in
-    let circuit = passed (at-is-on-circuit .is-on-circuit .ensures) (at-if2 .if2 .left) in
-    (at-if1 .if1 .left, bounded (at-args .args .sender) (and-left _ _ circuit))
+    let at-args = at-is-on-circuit .before .before .before in
+    bounded-open (at-args .args .sender) (at-is-on-circuit .is-on-circuit .ensures) (at-if2 .if2 .left)
 
 returns-3 : tie.Need-returns-3
 unfolding blockReadOf
@@ -55,22 +51,18 @@ read-data-requires : tie.Need-read-data-requires
 read-data-requires c κs =
     let at-if2 = c .before .before .before .before in
     let at-is-on-circuit = at-if2 .before in
-    let at-if1 = at-is-on-circuit .before in
-    let at-args = at-if1 .before .before in
-    let circuit = passed (at-is-on-circuit .is-on-circuit .ensures) (at-if2 .if2 .left) in
-    (at-if1 .if1 .left, bounded (at-args .args .sender) (and-left _ _ circuit))
+    let at-args = at-is-on-circuit .before .before .before in
+    bounded-open (at-args .args .sender) (at-is-on-circuit .is-on-circuit .ensures) (at-if2 .if2 .left)
 
 enum-known-verdict-2 : tie.Need-enum-known-verdict-2
-enum-known-verdict-2 c = search needs
+enum-known-verdict-2 c = c .match .keys2
 
 resend-for-requires : tie.Need-resend-for-requires
 resend-for-requires c κs =
     let at-if2 = c .before .before .before in
     let at-is-on-circuit = at-if2 .before in
-    let at-if1 = at-is-on-circuit .before in
-    let at-args = at-if1 .before .before in
-    let circuit = passed (at-is-on-circuit .is-on-circuit .ensures) (at-if2 .if2 .left) in
-    (at-if1 .if1 .left, bounded (at-args .args .sender) (and-left _ _ circuit))
+    let at-args = at-is-on-circuit .before .before .before in
+    bounded-open (at-args .args .sender) (at-is-on-circuit .is-on-circuit .ensures) (at-if2 .if2 .left)
 
 returns-4 : tie.Need-returns-4
 unfolding blockReadOf
@@ -105,7 +97,7 @@ block-read-spec =
     resend-requires
     returns-3
     read-data-requires
+    returns-4
     enum-known-verdict-2
     resend-for-requires
-    returns-4
     returns-5)

@@ -7,13 +7,13 @@ use Rattle.sender.proofs.blocks.read_data.Statement.{statement}
 use Rattle.sender.proofs.blocks.read_data.Tie as tie
 
 read-acknowledgment-requires : tie.Need-read-acknowledgment-requires
-read-acknowledgment-requires c κs = search needs
+read-acknowledgment-requires c κs = tt
 
 enum-known-code : tie.Need-enum-known-code
-enum-known-code c = search needs
+enum-known-code c = c .match .keys1
 
 enum-told : tie.Need-enum-told
-enum-told c = search needs
+enum-told c = c .match .keys2
 
 resend-for-requires : tie.Need-resend-for-requires
 resend-for-requires c κs = search needs
@@ -25,13 +25,13 @@ waiting-message-requires : tie.Need-waiting-message-requires
 waiting-message-requires c κs = search needs
 
 enum-known-number : tie.Need-enum-known-number
-enum-known-number c = search needs
+enum-known-number c = c .match2 .keys1
 
 enum-told-2 : tie.Need-enum-told-2
-enum-told-2 c = search needs
+enum-told-2 c = c .match2 .keys2
 
 act-requires : tie.Need-act-requires
-act-requires c κs = search needs
+act-requires c κs = tt
 
 returns-2 : tie.Need-returns-2
 returns-2 c =
@@ -42,13 +42,13 @@ returns-2 c =
     ∙ sym (rw (sym (at-read-acknowledgment .read-acknowledgment .ensures) ∙ at-code .code .given .1, sym (at-waiting-message .waiting-message .ensures) ∙ c .before .enum-told2 .given .1))
 
 field-content-requires : tie.Need-field-content-requires
-field-content-requires c κs = search needs
+field-content-requires c κs = tt
 
 is-text-requires : tie.Need-is-text-requires
-is-text-requires c κs = search needs
+is-text-requires c κs = tt
 
 act-requires-2 : tie.Need-act-requires-2
-act-requires-2 c κs = search needs
+act-requires-2 c κs = tt
 
 returns-3 : tie.Need-returns-3
 returns-3 c =
@@ -64,16 +64,16 @@ returns-3 c =
     c .act2 .ensures ∙ rw (parsed, waits) (unmet _ _ _ other)
 
 field-content-requires-2 : tie.Need-field-content-requires-2
-field-content-requires-2 c κs = search needs
+field-content-requires-2 c κs = tt
 
 read-code-requires : tie.Need-read-code-requires
-read-code-requires c κs = search needs
+read-code-requires c κs = tt
 
 field-content-requires-3 : tie.Need-field-content-requires-3
-field-content-requires-3 c κs = search needs
+field-content-requires-3 c κs = tt
 
 read-number-requires : tie.Need-read-number-requires
-read-number-requires c κs = search needs
+read-number-requires c κs = tt
 
 answer-requires : tie.Need-answer-requires
 answer-requires c κs = search needs

@@ -1,5 +1,4 @@
 -- `sender::circuit::circuit_ended` meets its contract.
-use borrow.Author.Needs.{needs}
 use mathlib.Core.Path.{_∙_}
 use Rattle.lists.proofs.Calls.{met, unmet}
 use Rattle.sender.proofs.Laws.{passed, failed}
@@ -8,17 +7,17 @@ use Rattle.sender.proofs.circuit.circuit_ended.Statement.{statement}
 use Rattle.sender.proofs.circuit.circuit_ended.Tie as tie
 
 is-on-circuit-requires : tie.Need-is-on-circuit-requires
-is-on-circuit-requires c κs = search needs
+is-on-circuit-requires c κs = tt
 
 refuse-state-requires : tie.Need-refuse-state-requires
-refuse-state-requires c κs = search needs
+refuse-state-requires c κs = tt
 
 returns : tie.Need-returns
 unfolding endedOf
 returns c = c .refuse-state .ensures ∙ unmet _ _ _ (failed (c .before .before .is-on-circuit .ensures) (c .before .if1 .taken))
 
 end-circuit-requires : tie.Need-end-circuit-requires
-end-circuit-requires c κs = search needs
+end-circuit-requires c κs = tt
 
 returns-2 : tie.Need-returns-2
 unfolding endedOf

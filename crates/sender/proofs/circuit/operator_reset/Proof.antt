@@ -1,5 +1,4 @@
 -- `sender::circuit::operator_reset` meets its contract.
-use borrow.Author.Needs.{needs}
 use borrow.Author.Tests.{not-true, not-false}
 use mathlib.Core.Path.{_∙_}
 use Rattle.lists.proofs.Calls.{met, unmet}
@@ -9,17 +8,17 @@ use Rattle.sender.proofs.circuit.operator_reset.Statement.{statement}
 use Rattle.sender.proofs.circuit.operator_reset.Tie as tie
 
 is-state-requires : tie.Need-is-state-requires
-is-state-requires c κs = search needs
+is-state-requires c κs = tt
 
 refuse-state-requires : tie.Need-refuse-state-requires
-refuse-state-requires c κs = search needs
+refuse-state-requires c κs = tt
 
 returns : tie.Need-returns
 unfolding resetOf
 returns c = c .refuse-state .ensures ∙ unmet _ _ _ (failed (c .before .before .is-state .ensures) (c .before .if1 .taken))
 
 refuse-requires : tie.Need-refuse-requires
-refuse-requires c κs = search needs
+refuse-requires c κs = tt
 
 returns-2 : tie.Need-returns-2
 unfolding resetOf
@@ -30,7 +29,7 @@ returns-2 c =
     c .refuse .ensures ∙ unmet _ _ _ (not-true (at-args .args .sender .persisted .frozen) (c .before .if2 .taken)) ∙ met _ _ _ (passed (at-is-state .is-state .ensures) (at-if1 .if1 .left))
 
 end-circuit-requires : tie.Need-end-circuit-requires
-end-circuit-requires c κs = search needs
+end-circuit-requires c κs = tt
 
 returns-3 : tie.Need-returns-3
 unfolding resetOf

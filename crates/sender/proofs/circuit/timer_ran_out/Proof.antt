@@ -1,26 +1,24 @@
 -- `sender::circuit::timer_ran_out` meets its contract.
-use borrow.Author.Needs.{needs}
 use borrow.Author.Tests.{lt-leb, le-leb}
 use mathlib.Core.Path.{_∙_}
 use Rattle.lists.proofs.Calls.{met, unmet}
-use Rattle.lists.proofs.Tests.{and-left}
-use Rattle.sender.proofs.Laws.{passed, failed, bounded}
+use Rattle.sender.proofs.Laws.{passed, failed, bounded-open}
 use Rattle.sender.specs.Sender.{timerOf}
 use Rattle.sender.proofs.circuit.timer_ran_out.Statement.{statement}
 use Rattle.sender.proofs.circuit.timer_ran_out.Tie as tie
 
 refuse-requires : tie.Need-refuse-requires
-refuse-requires c κs = search needs
+refuse-requires c κs = tt
 
 returns : tie.Need-returns
 unfolding timerOf
 returns c = c .refuse .ensures ∙ unmet _ _ _ (lt-leb _ _ (c .before .if1 .taken))
 
 is-on-circuit-requires : tie.Need-is-on-circuit-requires
-is-on-circuit-requires c κs = search needs
+is-on-circuit-requires c κs = tt
 
 refuse-state-requires : tie.Need-refuse-state-requires
-refuse-state-requires c κs = search needs
+refuse-state-requires c κs = tt
 
 returns-2 : tie.Need-returns-2
 unfolding timerOf
@@ -31,10 +29,8 @@ returns-2 c =
 
 resend-requires : tie.Need-resend-requires
 resend-requires c κs =
-    let at-if1 = c .before .before in
-    let at-args = at-if1 .before in
-    let circuit = passed (c .before .is-on-circuit .ensures) (c .if2 .left) in
-    (at-if1 .if1 .left, bounded (at-args .args .sender) (and-left _ _ circuit))
+    let at-args = c .before .before .before in
+    bounded-open (at-args .args .sender) (c .before .is-on-circuit .ensures) (c .if2 .left)
 
 returns-3 : tie.Need-returns-3
 unfolding timerOf

@@ -7,14 +7,11 @@ use Rattle.sender.proofs.state.begin.Tie as tie
 waiting-message-requires : tie.Need-waiting-message-requires
 waiting-message-requires c κs = search needs
 
-first-sends-requires : tie.Need-first-sends-requires
-first-sends-requires c κs = search needs
-
 act-requires : tie.Need-act-requires
-act-requires c κs = search needs
+act-requires c κs = tt
 
 returns : tie.Need-returns
-returns c = c .act .ensures ∙ rw (c .before .first-sends .ensures, c .before .before .waiting-message .ensures)
+returns c = c .act .ensures ∙ rw (c .before .before .pre .1, c .before .waiting-message .ensures)
 
 pub begin-spec : {M : Type 1} → statement M
-begin-spec = tie.close (tie.spec waiting-message-requires first-sends-requires act-requires returns)
+begin-spec = tie.close (tie.spec waiting-message-requires act-requires returns)

@@ -5,7 +5,7 @@ use Rattle.sender.proofs.state.is_open.Statement.{statement}
 use Rattle.sender.proofs.state.is_open.Tie as tie
 
 enum-told : tie.Need-enum-told
-enum-told c = search needs
+enum-told c = c .match .keys1
 
 returns : tie.Need-returns
 returns c = not-closed (c .before .args .waiting) (c .match .keys2)

@@ -5,20 +5,20 @@ use Rattle.sender.proofs.state.waiting_message.Statement.{statement}
 use Rattle.sender.proofs.state.waiting_message.Tie as tie
 
 enum-told : tie.Need-enum-told
-enum-told c = search needs
+enum-told c = c .match .keys2
 
 enum-told-2 : tie.Need-enum-told-2
-enum-told-2 c = search needs
+enum-told-2 c = c .match .keys3
 
 enum-told-3 : tie.Need-enum-told-3
-enum-told-3 c = search needs
+enum-told-3 c = c .match .keys4
 
-add-t7 : tie.Need-add-t7
-add-t7 c = search needs
+add-t5 : tie.Need-add-t5
+add-t5 c = search needs
 
 returns : tie.Need-returns
 returns c =
-    let s = c .before .before .args .sender in
+    let s = c .before .args .sender in
     no-message (s .persisted) (s .waiting) (c .match .keys1)
 
 returns-2 : tie.Need-returns-2
@@ -34,11 +34,11 @@ pub waiting-message-spec : {M : Type 1} → statement M
 waiting-message-spec =
     tie.close
     (tie.spec
-    enum-told
-    enum-told-2
-    enum-told-3
-    add-t7
     returns
+    enum-told
     returns-2
+    enum-told-2
     returns-3
+    enum-told-3
+    add-t5
     returns-4)

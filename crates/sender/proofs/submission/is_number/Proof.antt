@@ -5,7 +5,7 @@ use Rattle.sender.proofs.submission.is_number.Statement.{statement}
 use Rattle.sender.proofs.submission.is_number.Tie as tie
 
 enum-known-field : tie.Need-enum-known-field
-enum-known-field c = search needs
+enum-known-field c = c .match .keys1
 
 returns : tie.Need-returns
 returns c =
@@ -13,10 +13,10 @@ returns c =
     no-number (a .n) (a .field) (c .match .keys2)
 
 enum-known-number : tie.Need-enum-known-number
-enum-known-number c = search needs
+enum-known-number c = c .match2 .keys1
 
 enum-told : tie.Need-enum-told
-enum-told c = search needs
+enum-told c = c .match2 .keys2
 
 returns-2 : tie.Need-returns-2
 returns-2 c = search needs

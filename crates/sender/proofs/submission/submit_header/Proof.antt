@@ -8,16 +8,16 @@ use Rattle.sender.proofs.submission.submit_header.Statement.{statement}
 use Rattle.sender.proofs.submission.submit_header.Tie as tie
 
 read-header-requires : tie.Need-read-header-requires
-read-header-requires c κs = search needs
+read-header-requires c κs = tt
 
 enum-known-control-id : tie.Need-enum-known-control-id
-enum-known-control-id c = search needs
+enum-known-control-id c = c .match .keys1
 
 enum-told : tie.Need-enum-told
-enum-told c = search needs
+enum-told c = c .match .keys2
 
 refuse-requires : tie.Need-refuse-requires
-refuse-requires c κs = search needs
+refuse-requires c κs = tt
 
 returns : tie.Need-returns
 returns c = c .refuse .ensures ∙ sym (rw (sym (c .before .before .before .read-header .ensures) ∙ c .before .enum-told .given .1))
@@ -26,22 +26,22 @@ add-next : tie.Need-add-next
 add-next c = search needs
 
 field-content-requires : tie.Need-field-content-requires
-field-content-requires c κs = search needs
+field-content-requires c κs = tt
 
 read-number-requires : tie.Need-read-number-requires
-read-number-requires c κs = search needs
+read-number-requires c κs = tt
 
 field-content-requires-2 : tie.Need-field-content-requires-2
-field-content-requires-2 c κs = search needs
+field-content-requires-2 c κs = tt
 
 is-text-requires : tie.Need-is-text-requires
-is-text-requires c κs = search needs
+is-text-requires c κs = tt
 
 is-number-requires : tie.Need-is-number-requires
-is-number-requires c κs = search needs
+is-number-requires c κs = tt
 
 refuse-requires-2 : tie.Need-refuse-requires-2
-refuse-requires-2 c κs = search needs
+refuse-requires-2 c κs = tt
 
 returns-2 : tie.Need-returns-2
 returns-2 c =

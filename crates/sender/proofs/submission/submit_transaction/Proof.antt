@@ -1,5 +1,4 @@
 -- `sender::submission::submit_transaction` meets its contract.
-use borrow.Author.Needs.{needs}
 use borrow.Author.Tests.{lt-leb, le-leb}
 use mathlib.Core.Bool.{not}
 use mathlib.Core.Path.{ap, _∙_}
@@ -10,20 +9,20 @@ use Rattle.sender.proofs.submission.submit_transaction.Statement.{state
 use Rattle.sender.proofs.submission.submit_transaction.Tie as tie
 
 is-link-limit-requires : tie.Need-is-link-limit-requires
-is-link-limit-requires c κs = search needs
+is-link-limit-requires c κs = tt
 
 refuse-requires : tie.Need-refuse-requires
-refuse-requires c κs = search needs
+refuse-requires c κs = tt
 
 returns : tie.Need-returns
 unfolding submitOf
 returns c = c .refuse .ensures ∙ unmet _ _ _ (failed (c .before .before .is-link-limit .ensures) (c .before .if1 .taken))
 
 is-state-requires : tie.Need-is-state-requires
-is-state-requires c κs = search needs
+is-state-requires c κs = tt
 
 refuse-state-requires : tie.Need-refuse-state-requires
-refuse-state-requires c κs = search needs
+refuse-state-requires c κs = tt
 
 returns-2 : tie.Need-returns-2
 unfolding submitOf
@@ -35,7 +34,7 @@ returns-2 c =
     c .refuse-state .ensures ∙ unmet _ _ _ (failed (at-is-state .is-state .ensures) (c .before .if2 .taken)) ∙ met _ _ _ limit
 
 refuse-requires-2 : tie.Need-refuse-requires-2
-refuse-requires-2 c κs = search needs
+refuse-requires-2 c κs = tt
 
 returns-3 : tie.Need-returns-3
 unfolding submitOf
@@ -49,7 +48,7 @@ returns-3 c =
     c .refuse2 .ensures ∙ unmet _ _ _ (ap not (c .before .if3 .taken)) ∙ met _ _ _ state ∙ met _ _ _ limit
 
 refuse-requires-3 : tie.Need-refuse-requires-3
-refuse-requires-3 c κs = search needs
+refuse-requires-3 c κs = tt
 
 returns-4 : tie.Need-returns-4
 unfolding submitOf
@@ -64,13 +63,13 @@ returns-4 c =
     c .refuse3 .ensures ∙ unmet _ _ _ (lt-leb _ _ (c .before .if4 .taken)) ∙ met _ _ _ (ap not (at-if3 .if3 .left)) ∙ met _ _ _ state ∙ met _ _ _ limit
 
 are-allowed-requires : tie.Need-are-allowed-requires
-are-allowed-requires c κs = search needs
+are-allowed-requires c κs = tt
 
 first-forbidden-requires : tie.Need-first-forbidden-requires
-first-forbidden-requires c κs = search needs
+first-forbidden-requires c κs = tt
 
 refuse-requires-4 : tie.Need-refuse-requires-4
-refuse-requires-4 c κs = search needs
+refuse-requires-4 c κs = tt
 
 returns-5 : tie.Need-returns-5
 unfolding submitOf
