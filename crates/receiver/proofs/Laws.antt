@@ -5,10 +5,9 @@ use mathlib.Core.Bool.{true, false}
 use Prim.Native.Nat.{ℕ, _+_, _-_, _≤_, _<_}
 use Prim.Native.Char.{code}
 use native.Mathlib.Omega.{arith}
-use native.Mathlib.Decide.{decLe}
 use lib.Dec.{leb, eqb}
 use borrow.Author.Tests.{le-leb, lt-leb, leb-true}
-use Rattle.lists.proofs.Tests.{and-right, cond-ind}
+use Rattle.lists.proofs.Tests.{and-right, cond-ind, leb-same}
 use Rattle.settings.specs.declared.Kind.{Kind}
 use Rattle.settings.specs.declared.Kind.the-variants.{Hybrid, Minimal}
 use Rattle.settings.specs.declared.Settings.{Settings}
@@ -38,11 +37,7 @@ use Rattle.receiver.specs.declared.Decision.{Decision}
 use Rattle.receiver.specs.declared.Decision.the-variants.{Answers}
 
 pub space : (d n have start : ℕ) → start ≤ have → leb (d + n) (have - start) ≡ leb (start + (d + n)) have
-space d n have start h = go (decLe (start + (d + n)) have)
-  where
-    go : Dec (start + (d + n) ≤ have) → leb (d + n) (have - start) ≡ leb (start + (d + n)) have
-    go (yes e) = le-leb (d + n) (have - start) (omega arith) ∙ sym (le-leb (start + (d + n)) have e)
-    go (no e) = lt-leb (d + n) (have - start) (omega arith) ∙ sym (lt-leb (start + (d + n)) have (omega arith))
+space d n have start h = leb-same (d + n) (have - start) (start + (d + n)) have (λ e. omega arith) (λ e. omega arith)
 
 pub space-short : (g : Settings) (have start : ℕ) → have < start → false ≡ leb (start + replySpace g) have
 space-short g have start h = sym (lt-leb (start + replySpace g) have (omega arith))

@@ -6,6 +6,7 @@ use Prim.Native.Nat.{ℕ, _≤_, _<_}
 use lib.ListN.{length, getD, set}
 use lib.Dec.{leb, eqb}
 use borrow.Author.Tests.{le-leb, lt-leb, leb-true}
+use Rattle.lists.proofs.Calls.{withBuffer}
 use Rattle.lists.specs.Bytes.{over}
 use Rattle.lists.specs.Outcome.{Outcome, outcome, Called, called}
 use Rattle.lists.proofs.Over.{written-over}
@@ -32,13 +33,6 @@ pub fresh-done : (st : List ℕ) → 1 ≤ length st → called 0 (set st 0 0) [
 unfolding freshCall
 fresh-done st h = rw (written-over st (0 ∷ []) h, le-leb 1 (length st) h)
 
-module _ (st p : List ℕ) (h : (leb 1 (length st) && leb 3 (length p)) ≡ true) where
-  pub state-enough : 1 ≤ length st
-  state-enough = leb-true 1 (length st) (and-left (leb 1 (length st)) (leb 3 (length p)) h)
-
-  pub report-enough : 3 ≤ length p
-  report-enough = leb-true 3 (length p) (and-right (leb 1 (length st)) (leb 3 (length p)) h)
-
 -- a finished act: refused, or written
 module _ (st p : List ℕ) (r : Received) where
   pub finish-refused : eqb (r .refusal) 0 ≡ false → called (r .refusal) st [] p ≡ finished st p (outcome r [])
@@ -51,14 +45,11 @@ module _ (st p : List ℕ) (r : Received) where
       rw (written-over st (expectedWord (r .persisted .expected) ∷ []) l, written-over p (receivedWords r) m, h)
 
 -- the buffer is the act's
-abbrev withBuffer : List ℕ → Called → Called
-withBuffer b t = called (t .number) (t .state) b (t .report)
-
 pub done : (st p : List ℕ) (r : Received) (b : List ℕ) (n : ℕ) (s q : List ℕ) (o : Outcome Received) → called n s [] q ≡ finished st p (outcome r [])
     → outcome r b ≡ o → called n s b q ≡ finished st p o
-done st p r b n s q o e f = ap (withBuffer b) e ∙ go (eqb (r .refusal) 0) refl ∙ ap (λ (z : Outcome Received). finished st p z) f
+done st p r b n s q o e f = ap (λ (t : Called). withBuffer t b) e ∙ go (eqb (r .refusal) 0) refl ∙ ap (λ (z : Outcome Received). finished st p z) f
   where
-    go : (t : Bool) → eqb (r .refusal) 0 ≡ t → withBuffer b (finished st p (outcome r [])) ≡ finished st p (outcome r b)
+    go : (t : Bool) → eqb (r .refusal) 0 ≡ t → withBuffer (finished st p (outcome r [])) b ≡ finished st p (outcome r b)
     go true h = rw h
     go false h = rw h
 

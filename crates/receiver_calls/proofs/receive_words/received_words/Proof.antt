@@ -1,12 +1,13 @@
 -- `receiver_calls::receive_words::received_words` meets its contract.
 use borrow.Author.Needs.{needs}
+use Rattle.lists.proofs.Calls.{state-words, report-words}
 use Rattle.receiver_calls.proofs.receive_words.received_words.Statement.{statement}
 use Rattle.receiver_calls.proofs.receive_words.received_words.Tie as tie
 use mathlib.Core.Path.{refl, sym, ap, _∙_}
 use borrow.Author.Tests.{not-true, not-false}
 use Rattle.receiver.specs.Receiver.{receiveOf}
 use Rattle.receiver.specs.declared.Expected.{Expected}
-use Rattle.receiver_calls.proofs.Laws.{state-enough, report-enough, done, call-as, call-short, call-done}
+use Rattle.receiver_calls.proofs.Laws.{done, call-as, call-short, call-done}
 
 enum-known-made : tie.Need-enum-known-made
 enum-known-made c = search needs
@@ -74,7 +75,7 @@ returns-4 c =
 slice-read-expected-from : tie.Need-slice-read-expected-from
 slice-read-expected-from c =
     let a = c .before .before .before .before .before .before .before .before .before .before .before .before .before .before .before .before .before .args in
-    let l = state-enough (a .state .now) (a .report .now) (not-false _ (c .before .if1 .left)) in search needs
+    let l = state-words 1 3 (a .state .now) (a .report .now) (not-false _ (c .before .if1 .left)) in search needs
 
 expected-from-requires : tie.Need-expected-from-requires
 expected-from-requires c κs = search needs
@@ -87,7 +88,7 @@ finish-requires c κs =
     let tested = c .before .before .before .before .before .before .before .before in
     let a = tested .before .before .before .before .before .before .before .before .before .before .before .before .before .before .before .before .args in
     let enough = not-false _ (tested .if1 .left) in
-    (state-enough (a .state .now) (a .report .now) enough, report-enough (a .state .now) (a .report .now) enough)
+    (state-words 1 3 (a .state .now) (a .report .now) enough, report-words 1 3 (a .state .now) (a .report .now) enough)
 
 same-length : tie.Need-same-length
 same-length c = search needs
