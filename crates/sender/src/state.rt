@@ -10,8 +10,20 @@ use numbers::SequenceNumber;
 ghost use mathlib.Core.Path.{_≡_};
 ghost use Prim.Native.Nat.{_≤_};
 ghost use Rattle.numbers.specs.Numbers.{greatestExpected};
-ghost use Rattle.sender.specs.Sender.{validWaiting, validSender, senderOf, acted, refused, noState, waitsOf, waitingMessage, firstSends, beginsToWait, isOpen, onCircuit};
+ghost use Rattle.sender.specs.Sender.{validPersisted, validWaiting, validSender, senderOf, acted, refused, noState, waitsOf, waitingMessage, firstSends, beginsToWait, isOpen, onCircuit};
 ghost use Rattle.sender.specs.Internal.{endsWith};
+
+fn is_persisted(p: Persisted) -> bool
+    ensures { λ r. ⌜ r ≡ validPersisted p ⌝ }
+{
+    if p.first < 1 {
+        return false;
+    }
+    let before = p.first - 1;
+    let first_ok = p.first <= SequenceNumber::GREATEST_SENT;
+    let last_ok = (p.delivered <= p.last) & (p.last <= SequenceNumber::GREATEST_SENT);
+    first_ok & (before <= p.delivered) & last_ok & (p.resynchronized | (p.delivered == before))
+}
 
 fn is_waiting(p: Persisted, waiting: Waiting, n: u64) -> bool
     ensures { λ r. ⌜ r ≡ validWaiting p waiting n ⌝ }
@@ -31,17 +43,9 @@ fn is_waiting(p: Persisted, waiting: Waiting, n: u64) -> bool
 pub(crate) fn is_state(sender: Sender) -> bool
     ensures { λ r. ⌜ r ≡ validSender sender ⌝ }
 {
-    let p = sender.persisted;
-    if p.first < 1 {
-        return false;
-    }
-    let before = p.first - 1;
-    let first_ok = p.first <= SequenceNumber::GREATEST_SENT;
-    let last_ok = (p.delivered <= p.last) & (p.last <= SequenceNumber::GREATEST_SENT);
-    let numbers_ok = first_ok & (before <= p.delivered) & last_ok;
+    let persisted = sender.persisted;
     let waiting = sender.waiting;
-    let waiting_ok = is_waiting(p, waiting, sender.sends);
-    numbers_ok & (p.resynchronized | (p.delivered == before)) & waiting_ok
+    is_persisted(persisted) & is_waiting(persisted, waiting, sender.sends)
 }
 
 // A sender with nothing submitted, or a refusal (1).
@@ -72,22 +76,13 @@ pub(crate) fn waiting_message(sender: Sender) -> NumberedMessage
     requires { ⌜ sender .persisted .delivered ≤ greatestExpected ⌝ }
     ensures { λ r. ⌜ r ≡ waitsOf sender ⌝ }
 {
+    let p = sender.persisted;
     let waiting = sender.waiting;
     match waiting {
-        Waiting::Closed | Waiting::Idle => {
-            return NumberedMessage::Nothing;
-        }
-        Waiting::Resynchronizing => {
-            return NumberedMessage::Numbered(SequenceNumber::MinusOne);
-        }
-        Waiting::Querying => {
-            return NumberedMessage::Numbered(SequenceNumber::Number(0));
-        }
-        Waiting::Sending => {
-            return NumberedMessage::Numbered(SequenceNumber::Number(
-                sender.persisted.delivered + 1,
-            ));
-        }
+        Waiting::Closed | Waiting::Idle => NumberedMessage::Nothing,
+        Waiting::Resynchronizing => NumberedMessage::Numbered(SequenceNumber::MinusOne),
+        Waiting::Querying => NumberedMessage::Numbered(SequenceNumber::Number(0)),
+        Waiting::Sending => NumberedMessage::Numbered(SequenceNumber::Number(p.delivered + 1)),
     }
 }
 

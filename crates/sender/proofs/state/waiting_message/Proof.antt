@@ -13,12 +13,12 @@ enum-told-2 c = c .match .keys3
 enum-told-3 : tie.Need-enum-told-3
 enum-told-3 c = c .match .keys4
 
-add-t5 : tie.Need-add-t5
-add-t5 c = search needs
+add-t7 : tie.Need-add-t7
+add-t7 c = search needs
 
 returns : tie.Need-returns
 returns c =
-    let s = c .before .args .sender in
+    let s = c .before .before .args .sender in
     no-message (s .persisted) (s .waiting) (c .match .keys1)
 
 returns-2 : tie.Need-returns-2
@@ -34,11 +34,11 @@ pub waiting-message-spec : {M : Type 1} → statement M
 waiting-message-spec =
     tie.close
     (tie.spec
-    returns
     enum-told
-    returns-2
     enum-told-2
-    returns-3
     enum-told-3
-    add-t5
+    add-t7
+    returns
+    returns-2
+    returns-3
     returns-4)
