@@ -40,17 +40,14 @@ loop-again c = (
   simp length-set (c .before .before .loop .inv .1),
   omega
       (arith, length-more (c .before .before .loop .rest) (omega arith)),
-  put-digit (c .before .before .loop .out) (c .before .before .loop .i)
-      (c .before .before .loop .rest) _ (c .before .before .loop .inv .2) (c .before .before .loop .inv .0) (c .digit-of .ensures)
+  put-digit (c .before .before .loop .out) 0 (c .before .before .loop .i)
+      (c .before .before .loop .rest) _ (omega arith) (c .before .before .loop .inv .0) (c .digit-of .ensures)
       (c .before .loop-test .taken)
       ∙ c .before .before .loop .inv .3,
 )
 
 digit-of-requires-2 : tie.Need-digit-of-requires-2 Inv-loop μ-loop
 digit-of-requires-2 c κs = search needs
-
-sub-out : tie.Need-sub-out Inv-loop μ-loop
-sub-out c = omega (arith, length-least (c .before .before .loop .rest))
 
 slice-write-out-2 : tie.Need-slice-write-out-2 Inv-loop μ-loop
 slice-write-out-2 c = omega (arith, length-least (c .before .before .loop .rest))
@@ -60,7 +57,7 @@ same-length c = simp length-set (c .before .before .loop .inv .1)
 
 returns : tie.Need-returns Inv-loop μ-loop
 returns c =
-    put-last (c .before .before .loop .out) (c .before .before .loop .i) (c .before .before .loop .rest) _ (c .before .before .loop .inv .2)
+    put-last (c .before .before .loop .out) 0 (c .before .before .loop .i) (c .before .before .loop .rest) _ (omega arith)
     (c .before .before .loop .inv .0) (c .digit-of2 .ensures) (omega arith)
     ∙ c .before .before .loop .inv .3
 
@@ -78,7 +75,6 @@ write-digits-spec =
     loop-less
     loop-again
     digit-of-requires-2
-    sub-out
     slice-write-out-2
     same-length
     returns)
