@@ -1,1 +1,2 @@
 pub mod ControlBlock
+pub mod Internal

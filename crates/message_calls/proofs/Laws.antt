@@ -1,9 +1,10 @@
 -- The ways in which the C functions for messages return.
 use mathlib.Core.Path.{_≡_, refl, sym, ap, _∙_}
 use mathlib.Core.List.{List, [], _∷_}
-use mathlib.Core.Bool.{true, false}
-use Prim.Native.Nat.{ℕ, _≤_, _<_}
+use mathlib.Core.Bool.{true, false, _&&_}
+use Prim.Native.Nat.{ℕ, _+_, _≤_, _<_}
 use lib.ListN.{length}
+use lib.Dec.{leb}
 use borrow.Author.Tests.{lt-leb, le-leb}
 use Rattle.lists.specs.Bytes.{over}
 use Rattle.fields.specs.Fields.{bytesOf}
@@ -16,9 +17,15 @@ use Rattle.header.specs.declared.Header.the-variants.{Unreadable, Readable}
 use Rattle.header.specs.declared.Acknowledgment.{Acknowledgment}
 use Rattle.header.specs.declared.Acknowledgment.the-variants.{Unreadable as NoAnswer, Readable as AnAnswer}
 use Rattle.header.specs.declared.Code.{Code}
-use Rattle.messages.specs.Messages.{messageType}
+use Rattle.messages.specs.Messages.{messageType, controlMessage, validType}
+use Rattle.messages.specs.Write.{writeControlOf}
+use Rattle.control_block.specs.ControlBlock.{controlBlockOf}
+use Rattle.message_calls.specs.Internal.{changesNothing}
 use Rattle.lists.specs.Outcome.{Outcome, outcome, called}
+use Rattle.lists.proofs.Tests.{cond-ind}
 use Rattle.refusal.specs.declared.Written.{Written}
+use Rattle.settings.specs.Settings.{byKind, validLink}
+use Rattle.settings.specs.declared.Settings.{Settings}
 use Rattle.words.specs.Words.{writeFinished, withReport}
 use Rattle.words.proofs.Laws.{write-finished}
 use Rattle.messages.specs.declared.Control.{Control}
@@ -50,6 +57,31 @@ answer-as m ws v h e = rw (le-leb 9 (length ws) h) (ap (λ (z : Acknowledgment).
 -- writing: the buffer is the writer's
 pub done : (b p c q : List ℕ) (w : Written) (n : ℕ) (o : Outcome Written) → 2 ≤ length p → called n [] [] q ≡ writeFinished [] p w → outcome w c ≡ o → called n [] c q ≡ withReport b p o
 done b p c q w n o h e f = rw (le-leb 2 (length p) h) (write-finished p c q w n o e f)
+
+-- a control message is refused by 1 and 2 alone
+record ChangesNothing (o : Outcome Written) : Type 0 where
+  is : changesNothing (o .answer) ≡ true
+
+module _ (t : MessageType) (c : Control) (start : ℕ) (b : List ℕ) (w : Written) (l : List ℕ) where
+  message-nothing : ChangesNothing (writeControlOf t c start b)
+  unfolding writeControlOf
+  message-nothing =
+      cond-ind ChangesNothing (validType t) _ _
+      (λ e. cond-ind ChangesNothing (leb (start + length (controlMessage t c)) (length b)) _ _ (λ f. record { is = refl }) (λ f. record { is = refl }))
+      (λ e. record { is = refl })
+
+  pub message-refused : outcome w l ≡ writeControlOf t c start b → changesNothing w ≡ true
+  message-refused e = ap (λ (z : Outcome Written). changesNothing (z .answer)) e ∙ message-nothing .is
+
+  block-nothing : (g : Settings) → ChangesNothing (controlBlockOf g t c start b)
+  unfolding controlBlockOf
+  block-nothing g =
+      cond-ind ChangesNothing (validLink g && validType t) _ _
+      (λ e. cond-ind ChangesNothing (leb (start + (length (controlMessage t c) + byKind (g .kind) 15 3)) (length b)) _ _ (λ f. record { is = refl }) (λ f. record { is = refl }))
+      (λ e. record { is = refl })
+
+  pub block-refused : (g : Settings) → outcome w l ≡ controlBlockOf g t c start b → changesNothing w ≡ true
+  block-refused g e = ap (λ (z : Outcome Written). changesNothing (z .answer)) e ∙ block-nothing g .is
 
 pub few : (b p : List ℕ) (o : Outcome Written) → length p < 2 → called 2 [] b p ≡ withReport b p o
 few b p o h = rw (lt-leb 2 (length p) h)

@@ -1,3 +1,4 @@
 pub mod MessageCalls
 pub mod FieldCalls
 pub mod ControlCalls
+pub mod Internal

@@ -1,10 +1,10 @@
 // What the C functions for control blocks do, on slices and settings that are made.
 use crate::ControlMade;
 use crate::write::control_from;
+use crate::write::report_control;
 use messages::MessageType;
 use messages::TypeMade;
 use settings::Made;
-use words::report_written;
 ghost use mathlib.Core.Path.{_≡_};
 ghost use mathlib.Core.List.{[]};
 ghost use Rattle.lists.specs.Outcome.{called};
@@ -34,5 +34,5 @@ pub fn control_block_words(
         return refusal::TOO_SHORT;
     }
     let written = control_block::write_control_block(settings, name, control, buffer, start);
-    report_written(written, report)
+    report_control(written, report)
 }

@@ -6,10 +6,14 @@ use messages::Control;
 use messages::MessageType;
 use messages::TypeMade;
 use numbers::SequenceNumber;
+use refusal::Written;
 use words::report_written;
 ghost use mathlib.Core.Path.{_≡_};
+ghost use mathlib.Core.Bool.{true};
 ghost use mathlib.Core.List.{[]};
 ghost use Rattle.lists.specs.Outcome.{called};
+ghost use Rattle.words.specs.Words.{writeFinished};
+ghost use Rattle.message_calls.specs.Internal.{changesNothing};
 ghost use Rattle.message_calls.specs.MessageCalls.{codeFrom, numberFrom, controlFrom, answerWriteCall, controlWriteCall};
 
 fn code_from(code: u64) -> CodeMade
@@ -46,6 +50,20 @@ pub(crate) fn control_from(number: u64) -> ControlMade
         return ControlMade::Known(Control::Resynchronize);
     }
     ControlMade::Unknown
+}
+
+// What report_written does, for a control message: that is refused by 1 and 2 alone.
+pub(crate) fn report_control(written: Written, report: &mut [u64]) -> u64
+    requires { ⌜ changesNothing written ≡ true ⌝ }
+    ensures { λ r. ⌜ called r [] [] (now (report .exit)) ≡ writeFinished [] (now (report .entry)) written ⌝ }
+{
+    match written {
+        Written::Done(length) => {
+            words::write_report(report, length, 0);
+            0
+        }
+        Written::Refused(number, _offset) => number,
+    }
 }
 
 // The answer to a request.
@@ -89,5 +107,5 @@ pub fn write_control_words(
         return refusal::TOO_SHORT;
     }
     let written = messages::write_control(name, control, buffer, start);
-    report_written(written, report)
+    report_control(written, report)
 }

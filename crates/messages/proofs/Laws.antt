@@ -1,21 +1,24 @@
--- Pieces written one after the other, and the ways in which the writers return.
+-- Pieces written one after the other, and which control IDs and letters are taken.
 use mathlib.Core.Path.{_≡_, refl, sym, ap, _∙_}
 use mathlib.Core.List.{List, [], _∷_, _++_}
-use mathlib.Core.Bool.{Bool, true, false, not, _||_}
+use mathlib.Core.Bool.{Bool, true, false, not, _&&_, _||_, true≢false}
 use Prim.Native.Nat.{ℕ, suc, _+_, _-_, _≤_, _<_, _/_, compare·suc-suc}
 use native.Mathlib.Omega.{arith}
-use native.Mathlib.Nat.{zero-add, add-assoc}
+use native.Mathlib.Nat.{add-assoc}
+use native.Mathlib.Numerals.{add-one}
 use native.Mathlib.Decide.{decLe}
-use lib.ListN.{length, drop, getD, length-append, length-drop}
-use lib.Seq.{length-take-le}
-use lib.Dec.{leb, eqb}
-use borrow.Author.Tests.{le-leb, lt-leb, eq-eqb, ne-eqb}
-use borrow.Rule.Slice.PartMut.{midOf, putMid}
-use Rattle.lists.specs.Bytes.{put, over, overwritten, clear, hasAny, all}
-use Rattle.lists.proofs.Put.{copied, back, put-none, put-put, length-put}
-use Rattle.fields.specs.Fields.{bar, fieldLength}
+use lib.ListN.{length, take, set, getD, length-append}
+use lib.Seq.{length-take-le, take-length, take-suc}
+use lib.Dec.{leb, ltb, eqb}
+use borrow.Author.Tests.{le-leb, lt-leb, lt-ltb, le-ltb, eq-eqb, ne-eqb, eqb-true, not-true, not-false}
+use Rattle.lists.specs.Bytes.{put, hasAny, all}
+use Rattle.lists.proofs.Put.{put-none, put-put, set-put, length-put}
+use Rattle.refusal.specs.declared.Written.the-variants.{Refused}
+use Rattle.settings.specs.Settings.{allowed}
+use Rattle.settings.specs.DataBytes.{allAllowed, firstForbidden}
+use Rattle.fields.specs.Fields.{bar}
 use Rattle.messages.specs.Messages.{isCapital, validControlId, validType, messageType}
-use Rattle.messages.specs.Internal.{Puts}
+use Rattle.messages.specs.Internal.{Puts, idByte, idRefusal}
 use Rattle.messages.specs.declared.MessageType.{MessageType}
 use Rattle.messages.specs.declared.TypeMade.the-variants.{Unknown, Known}
 
@@ -37,42 +40,75 @@ then {l} {m} {n} {a} {at} {r} vs ws p h q =
 pub same-long : {l m : List ℕ} {a r : ℕ} (vs : List ℕ) → Puts l a vs r m → a + length vs ≤ length l → length m ≡ length l
 same-long {l} {m} {a} {r} vs p h = ap length (p .content) ∙ length-put l vs a h
 
--- a piece copied into the part from a on
-pub piece-copied : (l vs last : List ℕ) (a : ℕ) → a + length vs ≤ length l → last ≡ overwritten (midOf a (length l - a) l) vs
-    → Puts l a vs (a + length vs) (putMid a (length l - a) l last)
-piece-copied l vs last a h e = record { next = refl; content = copied l vs last a h e }
+-- one byte more of a piece
+pub piece-more : (l vs : List ℕ) (a i : ℕ) → a + length vs ≤ length l → i < length vs
+    → set (put l a (take i vs)) (a + i) (getD vs i 0) ≡ put l a (take (i + 1) vs)
+piece-more l vs a i h m =
+    let n : length (take i vs) ≡ i = length-take-le i vs (omega arith) in
+    let k : length (put l a (take i vs)) ≡ length l = length-put l (take i vs) a (omega (arith, n)) in
+    set-put (put l a (take i vs)) (a + i) (getD vs i 0) (omega (arith, k))
+    ∙ ap (λ (z : ℕ). put (put l a (take i vs)) (a + z) (getD vs i 0 ∷ [])) (sym n)
+    ∙ put-put l (take i vs) (getD vs i 0 ∷ []) a (omega (arith, n))
+    ∙ ap (λ (z : List ℕ). put l a z) (sym (ap (λ (j : ℕ). take j vs) (add-one i) ∙ take-suc vs i 0 m))
 
--- a number written over the beginning of the part from a on
-pub numbered : (l vs last : List ℕ) (a n : ℕ) → a + length vs ≤ length l → n ≡ length vs → last ≡ over (midOf a (length l - a) l) vs
-    → Puts l a vs (a + n) (putMid a (length l - a) l last)
-unfolding over
-numbered l vs last a n h e q =
-    let m : length (midOf a (length l - a) l) ≡ length l - a = length-take-le (length l - a) (drop a l) (simp length-drop (omega arith)) in
-    record { next = rw e; content = back l vs last a (omega arith) (q ∙ rw (le-leb (length vs) (length (midOf a (length l - a) l)) (omega arith))) }
+pub piece-done : (l vs m : List ℕ) (a i : ℕ) → i ≡ length vs → m ≡ put l a (take i vs) → Puts l a vs (a + length vs) m
+piece-done l vs m a i e p = record { next = refl; content = p ∙ rw (e, take-length) }
+
+-- which bytes a control ID may have
+byte-is : (s b c u v : Bool) → (c ≡ true → s ≡ false) → ((s && not b) && (u && not v)) ≡ (((s || c) && u) && not ((b || c) || v))
+byte-is true b true u v h = absurd (true≢false (h refl))
+byte-is false b true false v h = refl
+byte-is false true true true v h = refl
+byte-is false false true true v h = refl
+byte-is false b false u v h = refl
+byte-is true true false true v h = refl
+byte-is true true false false v h = refl
+byte-is true false false u v h = refl
+
+bytes-are : (s : List ℕ) → all idByte s ≡ (allAllowed s && not (hasAny bar 0x0D s))
+bytes-are [] = refl
+bytes-are (x ∷ xs) =
+    rw (bytes-are xs)
+    (byte-is (leb 0x20 x && leb x 0x7E) (eqb x bar) (eqb x 0x0D) (allAllowed xs) (hasAny bar 0x0D xs)
+    (λ (z : eqb x 0x0D ≡ true). ap (λ (t : Bool). t && leb x 0x7E) (lt-leb 0x20 x (omega (arith, eqb-true x 0x0D z)))))
+
+none-after : (p : Bool) → false ≡ (p && false)
+none-after true = refl
+none-after false = refl
 
 -- which control IDs can stand in a field
-clear-all : (a b : ℕ) (s : List ℕ) → eqb (clear a b s) (length s) ≡ not (hasAny a b s)
-clear-all a b [] = refl
-clear-all a b (x ∷ xs) = go (eqb x a || eqb x b) refl (clear-all a b xs)
+pub id-short : (id : List ℕ) → length id < 1 → false ≡ (allAllowed id && validControlId id)
+unfolding validControlId
+id-short id h = rw (lt-leb 1 (length id) h) (none-after (allAllowed id))
+
+pub id-long : (id : List ℕ) → 1 ≤ length id → 20 < length id → false ≡ (allAllowed id && validControlId id)
+unfolding validControlId
+id-long id h l = rw (le-leb 1 (length id) h, lt-leb (length id) 20 l) (none-after (allAllowed id))
+
+pub id-free : (id : List ℕ) → 1 ≤ length id → length id ≤ 20 → all idByte id ≡ (allAllowed id && validControlId id)
+unfolding validControlId
+id-free id h l = rw (le-leb 1 (length id) h, le-leb (length id) 20 l) (bytes-are id)
+
+-- why others are refused
+forbidden-some : (s : List ℕ) → ltb (firstForbidden s) (length s) ≡ not (allAllowed s)
+forbidden-some [] = refl
+forbidden-some (x ∷ xs) = go (allowed x) refl (forbidden-some xs)
   where
-    go : (t : Bool) → (eqb x a || eqb x b) ≡ t → eqb (clear a b xs) (length xs) ≡ not (hasAny a b xs)
-        → eqb (clear a b (x ∷ xs)) (length (x ∷ xs)) ≡ not (hasAny a b (x ∷ xs))
-    go true e h = rw e (ne-eqb 0 (suc (length xs)) (λ (z : _≡_ {A = ℕ} 0 (suc (length xs))). absurd (omega (arith, z))))
-    go false e h = rw (e, compare·suc-suc) h
+    go : (t : Bool) → allowed x ≡ t → ltb (firstForbidden xs) (length xs) ≡ not (allAllowed xs)
+        → ltb (firstForbidden (x ∷ xs)) (length (x ∷ xs)) ≡ not (allAllowed (x ∷ xs))
+    go true e h = rw (e, compare·suc-suc) h
+    go false e h = rw e (lt-ltb 0 (suc (length xs)) (omega arith))
 
-pub id-short : (id : List ℕ) → length id < 1 → false ≡ validControlId id
-unfolding validControlId
-id-short id h = sym (rw (lt-leb 1 (length id) h))
+module _ (id : List ℕ) (f : ℕ) (q : f ≡ firstForbidden id) where
+  pub refused-byte : f < length id → Refused 3 f ≡ idRefusal id
+  refused-byte h =
+      let e : allAllowed id ≡ false = not-true (allAllowed id) (sym (forbidden-some id) ∙ lt-ltb (firstForbidden id) (length id) (omega (arith, q))) in
+      rw (e, q)
 
-pub id-long : (id : List ℕ) → 1 ≤ length id → 20 < length id → false ≡ validControlId id
-unfolding validControlId
-id-long id h l = sym (rw (le-leb 1 (length id) h, lt-leb (length id) 20 l))
-
-pub id-free : (id : List ℕ) (e : ℕ) → e ≡ 0 + fieldLength bar (drop 0 id) → 1 ≤ length id → length id ≤ 20 → eqb e (length id) ≡ validControlId id
-unfolding validControlId
-id-free id e q h l =
-    let z : e ≡ fieldLength bar id = q ∙ zero-add (fieldLength bar id) in
-    rw (z, le-leb 1 (length id) h, le-leb (length id) 20 l) (clear-all bar 0x0D id)
+  pub refused-header : length id ≤ f → Refused 9 0 ≡ idRefusal id
+  refused-header h =
+      let e : allAllowed id ≡ true = not-false (allAllowed id) (sym (forbidden-some id) ∙ le-ltb (firstForbidden id) (length id) (omega (arith, q))) in
+      rw e
 
 -- how long the buffer must be
 pub answer-fits : (have start id d : ℕ) → start ≤ have → 38 ≤ have - start → d ≤ have - start - 38

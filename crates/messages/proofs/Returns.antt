@@ -1,22 +1,23 @@
 -- The ways in which the writers of messages return.
-use mathlib.Core.Path.{_≡_, ap, _∙_}
+use mathlib.Core.Path.{_≡_, refl, ap, _∙_}
 use mathlib.Core.List.{List}
-use mathlib.Core.Bool.{true, false}
+use mathlib.Core.Bool.{Bool, true, false, _&&_}
 use Prim.Native.Nat.{ℕ, _+_, _-_, _≤_}
 use native.Mathlib.Omega.{arith}
 use lib.ListN.{length}
 use lib.Dec.{leb}
 use borrow.Author.Tests.{leb-true}
-use Rattle.lists.specs.Bytes.{bytes, put}
+use Rattle.lists.specs.Bytes.{put}
 use Rattle.lists.specs.Outcome.{outcome}
 use Rattle.refusal.specs.declared.Written.the-variants.{Done, Refused}
-use Rattle.settings.specs.DataBytes.{allAllowed, firstForbidden}
+use Rattle.lists.proofs.Tests.{and-left, and-right}
+use Rattle.settings.specs.DataBytes.{allAllowed}
 use Rattle.header.specs.declared.Code.{Code}
 use Rattle.numbers.specs.Numbers.{textOf}
 use Rattle.numbers.specs.declared.SequenceNumber.{SequenceNumber}
 use Rattle.messages.specs.Messages.{validControlId, answerable, validType, answerMessage, controlMessage}
 use Rattle.messages.specs.Write.{writeAnswerOf, writeControlOf}
-use Rattle.messages.specs.Internal.{Puts, headerPieces, answerPieces}
+use Rattle.messages.specs.Internal.{Puts, headerPieces, answerPieces, idRefusal}
 use Rattle.messages.specs.declared.Control.{Control}
 use Rattle.messages.specs.declared.MessageType.{MessageType}
 use Rattle.messages.proofs.Laws.{then}
@@ -48,28 +49,34 @@ module _ (id : List ℕ) (code : Code) (n : SequenceNumber) (start : ℕ) (b : L
     pub answer-space : start + (38 + (length (textOf n) + (length id + length id))) ≤ length b
     answer-space = rw (← q) (leb-true (start + (38 + (d + (length id + length id)))) (length b) h)
 
-    pub answer-byte : allAllowed id ≡ false → outcome (Refused 3 (firstForbidden id)) b ≡ writeAnswerOf id code n start b
+    pub answer-refused : (allAllowed id && validControlId id) ≡ false → outcome (idRefusal id) b ≡ writeAnswerOf id code n start b
     unfolding writeAnswerOf
-    answer-byte a = rw (size-is, h, a)
+    answer-refused e = go (allAllowed id) refl
+      where
+        go : (t : Bool) → allAllowed id ≡ t → outcome (idRefusal id) b ≡ writeAnswerOf id code n start b
+        go true a = rw (size-is, h, a, (rw a at e))
+        go false a = rw (size-is, h, a)
 
-    pub answer-header : allAllowed id ≡ true → validControlId id ≡ false → outcome (Refused 9 0) b ≡ writeAnswerOf id code n start b
-    unfolding writeAnswerOf
-    answer-header a v = rw (size-is, h, a, v)
+    module _ (e : (allAllowed id && validControlId id) ≡ true) where
+      fine : allAllowed id ≡ true
+      fine = and-left (allAllowed id) (validControlId id) e
 
-    pub answer-number : allAllowed id ≡ true → validControlId id ≡ true → answerable n ≡ false → outcome (Refused 10 0) b ≡ writeAnswerOf id code n start b
-    unfolding writeAnswerOf
-    answer-number a v e = rw (size-is, h, a, v, e)
+      stands : validControlId id ≡ true
+      stands = and-right (allAllowed id) (validControlId id) e
 
-    pub answer-done : {m : List ℕ} {at : ℕ} (r : ℕ) (last : List ℕ) → allAllowed id ≡ true → validControlId id ≡ true → answerable n ≡ true
-        → Puts b start (headerPieces (bytes "ACK") id) at m → Puts m at (answerPieces id code n) r last
-        → outcome (Done (r - start)) last ≡ writeAnswerOf id code n start b
-    unfolding writeAnswerOf
-    answer-done r last a v e p s =
-        let k = length-header (bytes "ACK") id in
-        let g = answer-space in
-        let w = then (headerPieces (bytes "ACK") id) (answerPieces id code n) p (omega (arith, k, g)) s in
-        let x : r ≡ start + length (answerMessage id code n) = w .next ∙ ap (λ (z : List ℕ). start + length z) (answer-is id code n) in
-        let y : r - start ≡ length (answerMessage id code n) = omega (arith, x) in
-        rw (size-is, h, a, v, e)
-        (ap (λ (z : ℕ). outcome (Done z) last) y
-        ∙ ap (λ (z : List ℕ). outcome (Done (length (answerMessage id code n))) z) (w .content ∙ ap (λ (z : List ℕ). put b start z) (answer-is id code n)))
+      pub answer-number : answerable n ≡ false → outcome (Refused 10 0) b ≡ writeAnswerOf id code n start b
+      unfolding writeAnswerOf
+      answer-number x = rw (size-is, h, fine, stands, x)
+
+      pub answer-done : {m : List ℕ} {at : ℕ} (r : ℕ) (last : List ℕ) → answerable n ≡ true → Puts b start (headerPieces id code) at m
+          → Puts m at (answerPieces id n) r last → outcome (Done (r - start)) last ≡ writeAnswerOf id code n start b
+      unfolding writeAnswerOf
+      answer-done r last x p s =
+          let k = length-header id code in
+          let g = answer-space in
+          let w = then (headerPieces id code) (answerPieces id n) p (omega (arith, k, g)) s in
+          let y : r ≡ start + length (answerMessage id code n) = w .next ∙ ap (λ (z : List ℕ). start + length z) (answer-is id code n) in
+          let d : r - start ≡ length (answerMessage id code n) = omega (arith, y) in
+          rw (size-is, h, fine, stands, x)
+          (ap (λ (z : ℕ). outcome (Done z) last) d
+          ∙ ap (λ (z : List ℕ). outcome (Done (length (answerMessage id code n))) z) (w .content ∙ ap (λ (z : List ℕ). put b start z) (answer-is id code n)))

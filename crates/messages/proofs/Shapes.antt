@@ -1,5 +1,5 @@
 -- The messages, as the pieces in which they are written.
-use mathlib.Core.Path.{_≡_, refl, ap}
+use mathlib.Core.Path.{_≡_, refl}
 use mathlib.Core.List.{List, _++_, append-assoc}
 use Prim.Native.Nat.{ℕ, _+_}
 use native.Mathlib.Omega.{arith}
@@ -15,26 +15,21 @@ use Rattle.messages.specs.declared.Control.{Control}
 use Rattle.messages.specs.declared.Control.the-variants.{Resynchronize, Query}
 use Rattle.messages.specs.declared.MessageType.{MessageType}
 
-tail : (i c t : List ℕ)
-    → (i ++ bytes "|P|2.3.1") ++ (bytes "\rMSA|" ++ (c ++ bytes "|" ++ i ++ bytes "||" ++ t ++ bytes "\r"))
-    ≡ i ++ bytes "|P|2.3.1\rMSA|" ++ c ++ bytes "|" ++ i ++ bytes "||" ++ t ++ bytes "\r"
-tail i c t = simp append-assoc
+regroup : (a i p c b d t e : List ℕ) → a ++ i ++ (p ++ c ++ b) ++ (i ++ d ++ t ++ e) ≡ a ++ i ++ p ++ c ++ b ++ i ++ d ++ t ++ e
+regroup a i p c b d t e = simp append-assoc
 
-pub answer-is : (id : List ℕ) (code : Code) (n : SequenceNumber)
-    → headerPieces (bytes "ACK") id ++ answerPieces id code n ≡ answerMessage id code n
+pub answer-is : (id : List ℕ) (code : Code) (n : SequenceNumber) → headerPieces id code ++ answerPieces id n ≡ answerMessage id code n
 unfolding answerMessage
-answer-is id code n = ap (λ (z : List ℕ). bytes "MSH|^~\\&|||||||ACK|" ++ z) (tail id (codeText code) (textOf n))
+answer-is id code n =
+    regroup (bytes "MSH|^~\\&|||||||ACK|") id (bytes "|P|2.3.1\rMSA|") (codeText code) (bytes "|") (bytes "||") (textOf n) (bytes "\r")
 
 pub length-code : (code : Code) → length (codeText code) ≡ 2
 length-code AA = refl
 length-code AE = refl
 length-code AR = refl
 
-pub length-header : (type id : List ℕ) → length (headerPieces type id) ≡ 24 + (length type + length id)
-length-header type id = simp length-append (omega arith)
-
-pub length-acknowledgment : (id : List ℕ) (code : Code) (n : SequenceNumber) → length (answerPieces id code n) ≡ 11 + (length (textOf n) + length id)
-length-acknowledgment id code n = simp (length-append, length-code) (omega arith)
+pub length-header : (id : List ℕ) (code : Code) → length (headerPieces id code) ≡ 35 + length id
+length-header id code = simp (length-append, length-code) (omega arith)
 
 pub length-answer : (id : List ℕ) (code : Code) (n : SequenceNumber)
     → length (answerMessage id code n) ≡ 38 + (length (textOf n) + (length id + length id))
@@ -48,3 +43,12 @@ length-resynchronize t = refl
 pub length-query : (t : MessageType) → length (controlMessage t Query) ≡ 31
 unfolding controlMessage decimal
 length-query t = refl
+
+-- the control messages with their numbers written out
+pub query-is : (t : MessageType) → bytes "MSH|^~\\&|||||||" ++ typeText t ++ bytes "|0|P|2.3.1|0\r" ≡ controlMessage t Query
+unfolding controlMessage decimal
+query-is t = refl
+
+pub resynchronize-is : (t : MessageType) → bytes "MSH|^~\\&|||||||" ++ typeText t ++ bytes "|-1|P|2.3.1|-1\r" ≡ controlMessage t Resynchronize
+unfolding controlMessage
+resynchronize-is t = refl

@@ -156,16 +156,14 @@ put-behind l vs a x h =
     rw (t, d, n) (regroup (take a l) vs (drop (a + length (vs ++ x ∷ [])) l) x)
 
 -- the last digit of what is left of a number is written, and its others are still to come
-module _ (l : List ℕ) (i n x : ℕ) (h : i ≡ length (decimal n)) (fit : i ≤ length l) (e : x ≡ digit n) where
-  pub put-digit : 10 ≤ n → put (set l (i - 1) x) 0 (decimal (n / 10)) ≡ put l 0 (decimal n)
+module _ (l : List ℕ) (a i n x : ℕ) (h : i ≡ a + length (decimal n)) (fit : i ≤ length l) (e : x ≡ digit n) where
+  pub put-digit : 10 ≤ n → put (set l (i - 1) x) a (decimal (n / 10)) ≡ put l a (decimal n)
   put-digit m =
-      let g : i - 1 ≡ 0 + length (decimal (n / 10)) = omega (arith, h, length-more n m) in
-      rw (g, e, decimal-more n m) (put-behind l (decimal (n / 10)) 0 (digit n) (omega (arith, h, length-more n m)))
+      let g : i - 1 ≡ a + length (decimal (n / 10)) = omega (arith, h, length-more n m) in
+      rw (g, e, decimal-more n m) (put-behind l (decimal (n / 10)) a (digit n) (omega (arith, h, length-more n m)))
 
-  pub put-last : n < 10 → set l (i - 1) x ≡ put l 0 (decimal n)
-  put-last m =
-      let g : i - 1 ≡ 0 = omega (arith, h, length-one n m) in
-      rw (g, e, decimal-one n m) (set-put l 0 (digit n) (omega (arith, h, length-one n m)))
+  pub put-last : n < 10 → set l a x ≡ put l a (decimal n)
+  put-last m = rw (e, decimal-one n m) (set-put l a (digit n) (omega (arith, h, length-one n m)))
 
 -- what fits is written
 pub fits : (b vs : List ℕ) → length vs ≤ length b → put b 0 vs ≡ over b vs

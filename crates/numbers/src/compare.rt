@@ -1,10 +1,7 @@
 // Comparing a field with a number as it is written.
 use crate::SequenceNumber;
-use crate::write::digit_count;
-use crate::write::write_digits;
+use settings::digit_of;
 ghost use mathlib.Core.Path.{_≡_};
-ghost use Prim.Native.Nat.{_≤_};
-ghost use lib.ListN.{length};
 ghost use Rattle.lists.specs.Bytes.{same};
 ghost use Rattle.numbers.specs.Numbers.{decimal, textOf};
 
@@ -26,14 +23,24 @@ pub(crate) fn are_same(a: &[u8], b: &[u8]) -> bool
     true
 }
 
-// Writes the digits of n apart, into `text`.
-fn is_decimal(field: &[u8], n: u64, text: &mut [u8]) -> bool
-    requires { ⌜ 20 ≤ length (now text) ⌝ }
+// Whether the field is n in plain decimal, looked at from the last digit on.
+fn is_decimal(field: &[u8], n: u64) -> bool
     ensures { λ r. ⌜ r ≡ same (now (field .entry)) (decimal n) ⌝ }
 {
-    let size = digit_count(n);
-    write_digits(text, n);
-    are_same(field, &text[..size])
+    let mut i = field.len();
+    let mut rest = n;
+    while (9 < rest) & (1 < i) {
+        i -= 1;
+        let x = field[i];
+        if x != digit_of(rest as usize) {
+            return false;
+        }
+        rest = rest / 10;
+    }
+    if (9 < rest) | (i != 1) {
+        return false;
+    }
+    field[0] == digit_of(rest as usize)
 }
 
 // Whether the field is the number as it is written: -1, or plain decimal.
@@ -42,9 +49,6 @@ pub fn is_text(field: &[u8], number: SequenceNumber) -> bool
 {
     match number {
         SequenceNumber::MinusOne => are_same(field, b"-1"),
-        SequenceNumber::Number(n) => {
-            let mut text = [0u8; 20];
-            is_decimal(field, n, &mut text)
-        }
+        SequenceNumber::Number(n) => is_decimal(field, n),
     }
 }

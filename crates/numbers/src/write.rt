@@ -8,7 +8,7 @@ ghost use Rattle.lists.specs.Bytes.{put, over};
 ghost use Rattle.numbers.specs.Numbers.{decimal, textOf};
 
 // How many digits n has.
-pub(crate) fn digit_count(n: u64) -> usize
+fn digit_count(n: u64) -> usize
     ensures { λ r. ⌜ r ≡ length (decimal n) ⌝ }
 {
     let mut count = 1;
@@ -21,7 +21,7 @@ pub(crate) fn digit_count(n: u64) -> usize
 }
 
 // Writes the digits of n, the last one first.
-pub(crate) fn write_digits(out: &mut [u8], n: u64)
+fn write_digits(out: &mut [u8], n: u64)
     requires { ⌜ length (decimal n) ≤ length (now out) ⌝ }
     ensures { λ r. ⌜ now (out .exit) ≡ put (now (out .entry)) 0 (decimal n) ⌝ }
 {
@@ -32,7 +32,7 @@ pub(crate) fn write_digits(out: &mut [u8], n: u64)
         out[i] = digit_of(rest as usize);
         rest = rest / 10;
     }
-    out[i - 1] = digit_of(rest as usize);
+    out[0] = digit_of(rest as usize);
 }
 
 // How many bytes a number takes in a field.

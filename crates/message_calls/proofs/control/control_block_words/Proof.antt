@@ -1,7 +1,7 @@
 -- `message_calls::control::control_block_words` meets its contract.
 use borrow.Author.Needs.{needs}
 use mathlib.Core.Path.{refl, sym, _∙_}
-use Rattle.message_calls.proofs.Laws.{done, few}
+use Rattle.message_calls.proofs.Laws.{done, block-refused, few}
 use Rattle.message_calls.proofs.ControlLaws.{call-is}
 use Rattle.message_calls.proofs.control.control_block_words.Statement.{statement}
 use Rattle.message_calls.proofs.control.control_block_words.Tie as tie
@@ -57,8 +57,8 @@ returns-4 c =
 write-control-block-requires : tie.Need-write-control-block-requires
 write-control-block-requires c κs = search needs
 
-report-written-requires : tie.Need-report-written-requires
-report-written-requires c κs = search needs
+report-control-requires : tie.Need-report-control-requires
+report-control-requires c κs = block-refused _ _ _ _ _ _ _ (c .before .before .before .write-control-block .ensures)
 
 same-length : tie.Need-same-length
 same-length c = search needs
@@ -71,7 +71,7 @@ returns-5 c =
     let test = c .before .before .before .before .before .before .before .before in
     let a = test .before .before .before .before .before .before .before .before .before .before .before .before .before .before .before .args in
     let written = c .before .before .before .before .before .before .write-control-block in
-    let report = c .before .before .report-written in
+    let report = c .before .before .report-control in
     done (a .buffer .now) (a .report .now) _ _ (written .result) (report .result) _ (test .if1 .left) (report .ensures) (written .ensures)
     ∙ call-is (a .letters .now) (a .number) (a .buffer .now) (a .start) (a .report .now) (a .made) _ _ _ (test .before .before .before .before .before .before .before .before .before .before .made .given .1)
     (sym (test .before .before .before .before .before .before .before .before .from-letters .ensures) ∙ test .before .before .before .before .before .before .name .given .1) (sym (test .before .before .before .before .control-from .ensures) ∙ test .before .before .control .given .1)
@@ -93,7 +93,7 @@ control-block-words-spec =
     returns-3
     returns-4
     write-control-block-requires
-    report-written-requires
+    report-control-requires
     same-length
     same-length-2
     returns-5)

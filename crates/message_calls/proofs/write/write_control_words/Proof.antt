@@ -1,7 +1,7 @@
 -- `message_calls::write::write_control_words` meets its contract.
 use borrow.Author.Needs.{needs}
 use mathlib.Core.Path.{sym, _∙_}
-use Rattle.message_calls.proofs.Laws.{done, few, control-refused, control-other, control-call}
+use Rattle.message_calls.proofs.Laws.{done, message-refused, few, control-refused, control-other, control-call}
 use Rattle.message_calls.proofs.write.write_control_words.Statement.{statement}
 use Rattle.message_calls.proofs.write.write_control_words.Tie as tie
 
@@ -47,8 +47,8 @@ returns-3 c =
 write-control-requires : tie.Need-write-control-requires
 write-control-requires c κs = search needs
 
-report-written-requires : tie.Need-report-written-requires
-report-written-requires c κs = search needs
+report-control-requires : tie.Need-report-control-requires
+report-control-requires c κs = message-refused _ _ _ _ _ _ (c .before .before .before .write-control .ensures)
 
 same-length : tie.Need-same-length
 same-length c = search needs
@@ -63,7 +63,7 @@ returns-4 c =
     let name = test .before .before .before .before .before .before .name in
     let control = test .before .before .control in
     let written = c .before .before .before .before .before .before .write-control in
-    let report = c .before .before .report-written in
+    let report = c .before .before .report-control in
     done (a .buffer .now) (a .report .now) _ _ (written .result) (report .result) _ (test .if1 .left) (report .ensures) (written .ensures)
     ∙ control-call (a .letters .now) (a .number) (a .buffer .now) (a .start) (a .report .now) (name .given .0 .0)
     (sym (test .before .before .before .before .before .before .before .before .from-letters .ensures) ∙ name .given .1) (control .given .0 .0) (sym (test .before .before .before .before .control-from .ensures) ∙ control .given .1)
@@ -82,7 +82,7 @@ write-control-words-spec =
     returns-2
     returns-3
     write-control-requires
-    report-written-requires
+    report-control-requires
     same-length
     same-length-2
     returns-4)

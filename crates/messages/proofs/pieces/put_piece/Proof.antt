@@ -2,41 +2,75 @@
 use borrow.Author.Needs.{needs}
 use Rattle.messages.proofs.pieces.put_piece.Statement.{statement}
 use Rattle.messages.proofs.pieces.put_piece.Tie as tie
-use Rattle.messages.proofs.Laws.{piece-copied}
+use mathlib.Core.Path.{_≡_, refl, sym, ap, _∙_}
+use mathlib.Core.List.{List}
+use Prim.Native.Nat.{ℕ, _+_, _-_, _≤_}
+use native.Mathlib.Omega.{arith}
+use lib.ListN.{length, take, set, getD, length-set}
+use Rattle.lists.specs.Bytes.{put}
+use Rattle.lists.proofs.Put.{put-none}
+use Rattle.messages.proofs.Laws.{piece-more, piece-done}
 
-sub-copy-bytes : tie.Need-sub-copy-bytes
-sub-copy-bytes c = search needs
+abbrev Inv-loop : tie.InvT-loop
+Inv-loop out₀ at piece i₀ out i = (i ≤ length piece) × (length out ≡ length out₀) × (out ≡ put out₀ at (take i piece))
 
-part-copy-bytes-start : tie.Need-part-copy-bytes-start
-part-copy-bytes-start c = search needs
+abbrev μ-loop : tie.MeasureT-loop
+μ-loop out₀ at piece i₀ out i = length piece - i
 
-part-copy-bytes-end : tie.Need-part-copy-bytes-end
-part-copy-bytes-end c = search needs
+loop-holds : tie.Need-loop-holds Inv-loop μ-loop
+loop-holds c = (omega arith, refl, sym (put-none _ _))
 
-copy-bytes-requires : tie.Need-copy-bytes-requires
-copy-bytes-requires c κs = search needs
+shared-slice-read-out : tie.Need-shared-slice-read-out Inv-loop μ-loop
+shared-slice-read-out c = search needs
 
-add-result : tie.Need-add-result
+add-out : tie.Need-add-out Inv-loop μ-loop
+add-out c = search needs
+
+slice-write-out : tie.Need-slice-write-out Inv-loop μ-loop
+slice-write-out c = search needs
+
+add-i : tie.Need-add-i Inv-loop μ-loop
+add-i c = search needs
+
+loop-less : tie.Need-loop-less Inv-loop μ-loop
+loop-less c = search needs
+
+loop-again : tie.Need-loop-again Inv-loop μ-loop
+loop-again c =
+    let l = c .before .before .loop in
+    let at-start = c .before .before .before in
+    let a = at-start .args in (
+      omega arith,
+      simp length-set (l .inv .1),
+      ap (λ (z : List ℕ). set z (a .at + l .i) (getD (a .piece .now) (l .i) 0)) (l .inv .2)
+          ∙ piece-more (a .out .now) (a .piece .now) (a .at) (l .i) (at-start .pre) (c .before .loop-test .taken),
+    )
+
+add-result : tie.Need-add-result Inv-loop μ-loop
 add-result c = search needs
 
-same-length : tie.Need-same-length
-same-length c = search needs
+same-length : tie.Need-same-length Inv-loop μ-loop
+same-length c = c .before .loop .inv .1
 
-returns : tie.Need-returns
+returns : tie.Need-returns Inv-loop μ-loop
 returns c =
-    let at-copy-bytes = c .before .before in
-    let at-start = at-copy-bytes .before .before .before .before in
-    let a = at-start .args in
-    piece-copied (a .out .now) (a .piece .now) (at-copy-bytes .copy-bytes .last .0) (a .at) (at-start .pre) (at-copy-bytes .copy-bytes .ensures)
+    let l = c .before .loop in
+    let a = c .before .before .args in
+    piece-done (a .out .now) (a .piece .now) (l .out) (a .at) (l .i) (omega arith) (l .inv .2)
 
 pub put-piece-spec : {M : Type 1} → statement M
 put-piece-spec =
     tie.close
     (tie.spec
-    sub-copy-bytes
-    part-copy-bytes-start
-    part-copy-bytes-end
-    copy-bytes-requires
+    Inv-loop
+    μ-loop
+    loop-holds
+    shared-slice-read-out
+    add-out
+    slice-write-out
+    add-i
+    loop-less
+    loop-again
     add-result
     same-length
     returns)

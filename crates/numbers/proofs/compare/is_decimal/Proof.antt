@@ -2,73 +2,92 @@
 use borrow.Author.Needs.{needs}
 use Rattle.numbers.proofs.compare.is_decimal.Statement.{statement}
 use Rattle.numbers.proofs.compare.is_decimal.Tie as tie
-use mathlib.Core.Path.{_∙_, ap}
-use mathlib.Core.List.{List}
-use Prim.Native.Nat.{ℕ, _≤_}
-use lib.ListN.{length}
+use mathlib.Core.Path.{_≡_, _∙_}
+use Prim.Native.Nat.{_≤_}
 use native.Mathlib.Omega.{arith}
+use lib.ListN.{length, take}
+use lib.Seq.{take-length}
 use Rattle.lists.specs.Bytes.{same}
 use Rattle.numbers.specs.Numbers.{decimal}
-use Rattle.numbers.proofs.Laws.{length-most}
-use Rattle.lists.proofs.Put.{first-fits, first-size, first-part}
+use Rattle.numbers.proofs.Texts.{more-digits, more-bytes, one-byte, digit-differs, digit-same, lengths-differ, digit-left}
 
-digit-count-requires : tie.Need-digit-count-requires
-digit-count-requires c κs = search needs
+abbrev Inv-loop : tie.InvT-loop
+Inv-loop field n i₀ rest₀ i rest = (i ≤ length field) × (same (take i field) (decimal rest) ≡ same field (decimal n))
 
-write-digits-requires : tie.Need-write-digits-requires
-write-digits-requires c κs =
-    let at-start = c .before .before .before .before in
-    let h = length-most (at-start .args .n) (omega arith) in
-    omega (arith, h, at-start .pre)
+abbrev μ-loop : tie.MeasureT-loop
+μ-loop field n i₀ rest₀ i rest = rest
 
-slice-reshare-prefix-are-same : tie.Need-slice-reshare-prefix-are-same
-slice-reshare-prefix-are-same c =
-    let at-digit-count = c .before .before .before .before in
-    let at-start = at-digit-count .before .before .before in
-    let a = at-start .args in
-    let h = length-most (a .n) (omega arith) in
-    let l : length (decimal (a .n)) ≤ length (a .text .now) = omega (arith, h, at-start .pre) in
-    first-fits (a .text .now) (decimal (a .n)) _ l (c .before .before .write-digits .ensures) (at-digit-count .digit-count .result)
-    (at-digit-count .digit-count .ensures)
+loop-holds : tie.Need-loop-holds Inv-loop μ-loop
+loop-holds c = (omega arith, rw take-length)
 
-slice-aggregate-are-same : tie.Need-slice-aggregate-are-same
-slice-aggregate-are-same c =
-    let at-write-digits = c .before .before .before in
-    let at-digit-count = at-write-digits .before .before in
-    let at-start = at-digit-count .before .before .before in
-    let a = at-start .args in
-    let h = length-most (a .n) (omega arith) in
-    let l : length (decimal (a .n)) ≤ length (a .text .now) = omega (arith, h, at-start .pre) in
-    first-size (a .text .now) (decimal (a .n)) _ l (at-write-digits .write-digits .ensures) (at-digit-count .digit-count .result)
-    (at-digit-count .digit-count .ensures)
+sub-i : tie.Need-sub-i Inv-loop μ-loop
+sub-i c = omega (arith, more-bytes (c .before .loop .rest) (c .before .loop .i) (c .loop-test .taken))
 
-are-same-requires : tie.Need-are-same-requires
-are-same-requires c κs = search needs
+shared-slice-read-x : tie.Need-shared-slice-read-x Inv-loop μ-loop
+shared-slice-read-x c =
+    let l = c .before .before .loop in
+    omega (arith, more-bytes (l .rest) (l .i) (c .before .loop-test .taken))
 
-same-length : tie.Need-same-length
-same-length c = search needs
+digit-of-requires : tie.Need-digit-of-requires Inv-loop μ-loop
+digit-of-requires c κs = search needs
 
-returns : tie.Need-returns
+returns : tie.Need-returns Inv-loop μ-loop
 returns c =
-    let at-write-digits = c .before .before .before .before in
-    let at-digit-count = at-write-digits .before .before in
-    let at-start = at-digit-count .before .before .before in
-    let a = at-start .args in
-    let h = length-most (a .n) (omega arith) in
-    let l : length (decimal (a .n)) ≤ length (a .text .now) = omega (arith, h, at-start .pre) in
-    c .are-same .ensures
-    ∙ ap (λ (z : List ℕ). same (a .field .now) z)
-    (first-part (a .text .now) (decimal (a .n)) _ l (at-write-digits .write-digits .ensures) (at-digit-count .digit-count .result)
-    (at-digit-count .digit-count .ensures))
+    let at-loop-test = c .before .before .before in
+    let l = at-loop-test .before .loop in
+    digit-differs _ (l .rest) (l .i) (c .before .digit-of .result) (l .inv .0) (at-loop-test .loop-test .taken) (c .before .digit-of .ensures)
+    (c .if1 .taken)
+    ∙ l .inv .1
+
+loop-less : tie.Need-loop-less Inv-loop μ-loop
+loop-less c =
+    let at-loop-test = c .before .before .before in
+    let l = at-loop-test .before .loop in
+    omega (arith, more-digits (l .rest) (l .i) (at-loop-test .loop-test .taken))
+
+loop-again : tie.Need-loop-again Inv-loop μ-loop
+loop-again c =
+    let at-loop-test = c .before .before .before in
+    let l = at-loop-test .before .loop in (
+      omega arith,
+      digit-same _ (l .rest) (l .i) (c .before .digit-of .result) (l .inv .0) (at-loop-test .loop-test .taken) (c .before .digit-of .ensures)
+          (c .if1 .left)
+          ∙ l .inv .1,
+    )
+
+returns-2 : tie.Need-returns-2 Inv-loop μ-loop
+returns-2 c =
+    let l = c .before .before .loop in
+    lengths-differ _ (l .rest) (l .i) (l .inv .0) (c .before .loop-test .left) (c .if2 .taken) ∙ l .inv .1
+
+shared-slice-read-result : tie.Need-shared-slice-read-result Inv-loop μ-loop
+shared-slice-read-result c =
+    let l = c .before .before .before .loop in
+    omega (arith, one-byte (l .rest) (l .i) (c .before .if2 .left))
+
+digit-of-requires-2 : tie.Need-digit-of-requires-2 Inv-loop μ-loop
+digit-of-requires-2 c κs = search needs
+
+returns-3 : tie.Need-returns-3 Inv-loop μ-loop
+returns-3 c =
+    let at-if2 = c .before .before in
+    let l = at-if2 .before .before .loop in
+    digit-left _ (l .rest) (l .i) (c .digit-of2 .result) (l .inv .0) (at-if2 .if2 .left) (c .digit-of2 .ensures) ∙ l .inv .1
 
 pub is-decimal-spec : {M : Type 1} → statement M
 is-decimal-spec =
     tie.close
     (tie.spec
-    digit-count-requires
-    write-digits-requires
-    slice-reshare-prefix-are-same
-    slice-aggregate-are-same
-    are-same-requires
-    same-length
-    returns)
+    Inv-loop
+    μ-loop
+    loop-holds
+    sub-i
+    shared-slice-read-x
+    digit-of-requires
+    returns
+    loop-less
+    loop-again
+    returns-2
+    shared-slice-read-result
+    digit-of-requires-2
+    returns-3)

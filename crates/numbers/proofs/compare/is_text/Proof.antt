@@ -16,9 +16,6 @@ are-same-requires c κs = search needs
 enum-known-number : tie.Need-enum-known-number
 enum-known-number c = search needs
 
-slice-aggregate-is-decimal : tie.Need-slice-aggregate-is-decimal
-slice-aggregate-is-decimal c = search needs
-
 is-decimal-requires : tie.Need-is-decimal-requires
 is-decimal-requires c κs = search needs
 
@@ -26,7 +23,7 @@ returns : tie.Need-returns
 returns c = c .are-same .ensures ∙ rw (c .before .before .enum-told .given .1)
 
 returns-2 : tie.Need-returns-2
-returns-2 c = c .before .is-decimal .ensures ∙ rw (c .before .before .before .before .number .given .1)
+returns-2 c = c .is-decimal .ensures ∙ rw (c .before .before .number .given .1)
 
 pub is-text-spec : {M : Type 1} → statement M
 is-text-spec =
@@ -36,7 +33,6 @@ is-text-spec =
     slice-aggregate-are-same
     are-same-requires
     enum-known-number
-    slice-aggregate-is-decimal
     is-decimal-requires
     returns
     returns-2)

@@ -35,22 +35,19 @@ loop-less : tie.Need-loop-less Inv-loop μ-loop
 loop-less c = search needs
 
 loop-again : tie.Need-loop-again Inv-loop μ-loop
-loop-again c =
-    let at-loop = c .before .before in (
-      simp length-set (omega arith),
-      simp length-set (at-loop .loop .inv .1),
-      omega (arith, length-more (at-loop .loop .rest) (omega arith)),
-      put-digit (at-loop .loop .out) (at-loop .loop .i)
-          (at-loop .loop .rest) _ (at-loop .loop .inv .2) (at-loop .loop .inv .0) (c .digit-of .ensures)
-          (c .before .loop-test .taken)
-          ∙ at-loop .loop .inv .3,
-    )
+loop-again c = (
+  simp length-set (omega arith),
+  simp length-set (c .before .before .loop .inv .1),
+  omega
+      (arith, length-more (c .before .before .loop .rest) (omega arith)),
+  put-digit (c .before .before .loop .out) 0 (c .before .before .loop .i)
+      (c .before .before .loop .rest) _ (omega arith) (c .before .before .loop .inv .0) (c .digit-of .ensures)
+      (c .before .loop-test .taken)
+      ∙ c .before .before .loop .inv .3,
+)
 
 digit-of-requires-2 : tie.Need-digit-of-requires-2 Inv-loop μ-loop
 digit-of-requires-2 c κs = search needs
-
-sub-out : tie.Need-sub-out Inv-loop μ-loop
-sub-out c = omega (arith, length-least (c .before .before .loop .rest))
 
 slice-write-out-2 : tie.Need-slice-write-out-2 Inv-loop μ-loop
 slice-write-out-2 c = omega (arith, length-least (c .before .before .loop .rest))
@@ -60,10 +57,9 @@ same-length c = simp length-set (c .before .before .loop .inv .1)
 
 returns : tie.Need-returns Inv-loop μ-loop
 returns c =
-    let at-loop = c .before .before in
-    put-last (at-loop .loop .out) (at-loop .loop .i) (at-loop .loop .rest) _ (at-loop .loop .inv .2)
-    (at-loop .loop .inv .0) (c .digit-of2 .ensures) (omega arith)
-    ∙ at-loop .loop .inv .3
+    put-last (c .before .before .loop .out) 0 (c .before .before .loop .i) (c .before .before .loop .rest) _ (omega arith)
+    (c .before .before .loop .inv .0) (c .digit-of2 .ensures) (omega arith)
+    ∙ c .before .before .loop .inv .3
 
 pub write-digits-spec : {M : Type 1} → statement M
 write-digits-spec =
@@ -79,7 +75,6 @@ write-digits-spec =
     loop-less
     loop-again
     digit-of-requires-2
-    sub-out
     slice-write-out-2
     same-length
     returns)
