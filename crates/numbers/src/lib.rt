@@ -1,12 +1,11 @@
 // Numbers in fields: -1 or plain digits, read and written.
 mod compare;
 mod read;
-mod write;
+mod text;
 
 pub use compare::is_text;
 pub use read::read_number;
-pub use write::text_length;
-pub use write::write_number;
+pub use text::text_length;
 
 // A number that a message may carry.
 pub enum SequenceNumber {

@@ -1,7 +1,7 @@
--- `numbers::write::text_length` meets its contract.
+-- `numbers::text::text_length` meets its contract.
 use borrow.Author.Needs.{needs}
-use Rattle.numbers.proofs.write.text_length.Statement.{statement}
-use Rattle.numbers.proofs.write.text_length.Tie as tie
+use Rattle.numbers.proofs.text.text_length.Statement.{statement}
+use Rattle.numbers.proofs.text.text_length.Tie as tie
 
 enum-told : tie.Need-enum-told
 enum-told c = search needs

@@ -1,6 +1,6 @@
--- `numbers::write::digit_count` meets its contract.
-use Rattle.numbers.proofs.write.digit_count.Statement.{statement}
-use Rattle.numbers.proofs.write.digit_count.Tie as tie
+-- `numbers::text::digit_count` meets its contract.
+use Rattle.numbers.proofs.text.digit_count.Statement.{statement}
+use Rattle.numbers.proofs.text.digit_count.Tie as tie
 use mathlib.Core.Path.{_≡_, refl}
 use Prim.Native.Nat.{_+_}
 use native.Mathlib.Omega.{arith}
