@@ -84,7 +84,7 @@ fn print_submitted(sender: Sender, message: &[u8]) -> Sender {
     let acted = sender::submit_transaction(DATA_LIMIT, sender, message);
     let then = acted.sender;
     let persisted = then.persisted;
-    print_number(acted.number);
+    print_number(acted.refusal);
     print_number(persisted.last);
     print_text(b"\n");
     then

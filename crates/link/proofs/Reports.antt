@@ -71,7 +71,7 @@ module _ (l : Link) (P : Sender → Persisted → List Entry → Type 0)
     request-read a (x ∷ xs) = now
 
     at-after : (d : SystemAct) → At (afterAct l d y .sending)
-    at-after opens = cond-ind (λ (z : System). At (z .sending)) (eqb (openOf (y .sending .sender) .number) 0) _ _ (λ z. by opened (omega arith)) (λ z. by opened (omega arith))
+    at-after opens = cond-ind (λ (z : System). At (z .sending)) (eqb (openOf (y .sending .sender) .refusal) 0) _ _ (λ z. by opened (omega arith)) (λ z. by opened (omega arith))
     at-after ends = by ended (omega arith)
     at-after resets = by reset (omega arith)
     at-after timerRuns = by (timer (l .resends)) (omega arith)

@@ -47,9 +47,9 @@ module _ (s : Sender) (v : validSender s ≡ false) where
   invalid-same (block r u d) = when-open-same r _
   invalid-same (submit limit d) = cond-ind Same (validLinkLimit limit) _ _ (λ e. invalid-test _) (λ e. refl)
 
-pub refused-same : (a : Act) (s : Sender) → leb 1 (actOf a s .number) ≡ true → actOf a s .sender ≡ s
+pub refused-same : (a : Act) (s : Sender) → leb 1 (actOf a s .refusal) ≡ true → actOf a s .sender ≡ s
 refused-same a s h = go (validSender s) refl
   where
     go : (b : Bool) → validSender s ≡ b → actOf a s .sender ≡ s
-    go true v = step-same (steps s v a) (leb-true 1 (actOf a s .number) h)
+    go true v = step-same (steps s v a) (leb-true 1 (actOf a s .refusal) h)
     go false v = invalid-same s v a

@@ -66,7 +66,7 @@ pub data Step (r : ℕ) (s : Sender) : ℕ → Sender → NumberedMessage → �
   shuts : {p : Persisted} {e : Event} → isAbandoned e ≡ false → Stored p → Step r s 0 (record { persisted = p; waiting = Closed; sends = 0 }) Nothing 0 e
 
 abbrev pub StepOf : ℕ → Sender → Acted → Type 0
-StepOf r s a = Step r s (a .number) (a .sender) (a .send) (a .sends) (a .event)
+StepOf r s a = Step r s (a .refusal) (a .sender) (a .send) (a .sends) (a .event)
 
 none-fresh : (v : NumberedMessage) → Fresh Nothing v
 none-fresh v m e = refl

@@ -116,7 +116,7 @@ newCircuit y a =
     (receiving (y .receiving .volatile) (y .receiving .persisted) []) emptyLine emptyLine
 
 abbrev pub circuitOpened : System → Acted → System
-circuitOpened y a = cond (eqb (a .number) 0) (newCircuit y a) (senderActed y a)
+circuitOpened y a = cond (eqb (a .refusal) 0) (newCircuit y a) (senderActed y a)
 
 abbrev pub sameFlag : Bool → Bool → Bool
 sameFlag true b = b

@@ -112,7 +112,7 @@ decisionOf k a s (Accepted t n) d = cond (isNak k t) (Drops 0) (headerDecision k
 
 -- what the act answers: the number that refuses the act, or 0; the block's number, 0 or 3 to 9; what is to be persisted; the reply's length
 abbrev pub received : ℕ → ℕ → Persisted → ℕ → Received
-received k n p size = record { refusal = k; number = n; persisted = p; «reply_length» = size }
+received k n p size = record { refusal = k; block = n; persisted = p; «reply_length» = size }
 
 -- no transaction, and the state as before
 abbrev pub unchanged : Expected → Persisted

@@ -53,8 +53,8 @@ pub enum Decision {
 pub struct Received {
     // The number that refuses the act: 1, 2 or 11; otherwise 0.
     pub refusal: u64,
-    // The block's number: 0, or 3 to 9.
-    pub number: u64,
+    // The number of a block that was refused: 3 to 9, or 0.
+    pub block: u64,
     pub persisted: Persisted,
     // The reply block's length; 0 where there is none.
     pub reply_length: usize,

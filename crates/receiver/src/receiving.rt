@@ -52,7 +52,7 @@ fn nothing_new(refusal: u64, number: u64, expected: Expected, reply_length: usiz
 {
     Received {
         refusal,
-        number,
+        block: number,
         persisted: Persisted {
             transaction: Transaction::NoTransaction,
             expected,
@@ -151,7 +151,7 @@ fn reply(
             );
             Received {
                 refusal: 0,
-                number: 0,
+                block: 0,
                 persisted,
                 reply_length: size,
             }

@@ -40,7 +40,7 @@ module _ (st p : List ℕ) (r : Received) where
 
   pub finish-written : eqb (r .refusal) 0 ≡ true → 1 ≤ length st → 3 ≤ length p
       → called 0 (set st 0 (expectedWord (r .persisted .expected))) []
-      (set (set (set p 0 (transactionWord (r .persisted .transaction))) 1 (r .«reply_length»)) 2 (r .number)) ≡ finished st p (outcome r [])
+      (set (set (set p 0 (transactionWord (r .persisted .transaction))) 1 (r .«reply_length»)) 2 (r .block)) ≡ finished st p (outcome r [])
   finish-written h l m =
       rw (written-over st (expectedWord (r .persisted .expected) ∷ []) l, written-over p (receivedWords r) m, h)
 

@@ -45,7 +45,7 @@ freshCall st = need (leb 1 (length st)) (called TOO-SHORT st [] []) (called 0 (o
 
 -- GMV_RECEIVED_TRANSACTION, GMV_RECEIVED_REPLY_LENGTH, GMV_RECEIVED_BLOCK
 abbrev pub receivedWords : Received → List ℕ
-receivedWords r = transactionWord (r .persisted .transaction) ∷ r .«reply_length» ∷ r .number ∷ []
+receivedWords r = transactionWord (r .persisted .transaction) ∷ r .«reply_length» ∷ r .block ∷ []
 
 -- a refused act changes nothing
 abbrev pub finished : List ℕ → List ℕ → Outcome Received → Called

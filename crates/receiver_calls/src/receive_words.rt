@@ -40,7 +40,7 @@ fn finish(received: Received, state: &mut [u64], report: &mut [u64]) -> u64
     state[0] = expected_word(expected);
     report[0] = transaction_word(transaction);
     report[1] = received.reply_length as u64;
-    report[2] = received.number;
+    report[2] = received.block;
     0
 }
 

@@ -17,4 +17,4 @@ pub record Bounded (s : Sender) : Type 0 where
 
 -- the circuit ends, after so many sends of what waited
 abbrev pub endsWith : Persisted → ℕ → Event → Acted
-endsWith p n e = record { number = 0; sender = closed p; send = Nothing; sends = n; event = e; block = 0; offset = 0 }
+endsWith p n e = record { refusal = 0; sender = closed p; send = Nothing; sends = n; event = e; block = 0; offset = 0 }

@@ -86,20 +86,20 @@ senderOf f = need (validFirst f) Refused (Made (freshSender f))
 -- "An act's answer names the message to send now, if any"; "The sends made of the waiting message are a number in each answer":
 -- "the message waiting after the act"
 abbrev pub acted : Sender → NumberedMessage → Event → Acted
-acted s m e = record { number = 0; sender = s; send = m; sends = s .sends; event = e; block = 0; offset = 0 }
+acted s m e = record { refusal = 0; sender = s; send = m; sends = s .sends; event = e; block = 0; offset = 0 }
 
 -- "or the one just given up"
 abbrev pub abandons : Sender → Acted
 abandons s =
-    record { number = 0; sender = closed (s .persisted); send = Nothing; sends = s .sends; event = Abandoned; block = 0; offset = 0 }
+    record { refusal = 0; sender = closed (s .persisted); send = Nothing; sends = s .sends; event = Abandoned; block = 0; offset = 0 }
 
 -- "A refused act leaves the state equal": the number, and the offset of a byte
 abbrev pub refused : ℕ → ℕ → Sender → Acted
-refused n i s = record { number = n; sender = s; send = Nothing; sends = s .sends; event = NoEvent; block = 0; offset = i }
+refused n i s = record { refusal = n; sender = s; send = Nothing; sends = s .sends; event = NoEvent; block = 0; offset = i }
 
 -- 11 for what is no state, and where no circuit is open: nothing waits
 abbrev pub noState : Sender → Acted
-noState s = record { number = STATE; sender = s; send = Nothing; sends = 0; event = NoEvent; block = 0; offset = 0 }
+noState s = record { refusal = STATE; sender = s; send = Nothing; sends = 0; event = NoEvent; block = 0; offset = 0 }
 
 -- ---- what waits
 -- "the transaction at mark + 1"
@@ -274,7 +274,7 @@ timerOf r s = whenOpen r s (resendOf r s (waitsOf s))
 -- a refused block, 9 included: its number is reported
 abbrev pub withBlock : ℕ → Acted → Acted
 withBlock n a =
-    record { number = a .number; sender = a .sender; send = a .send; sends = a .sends; event = a .event; block = n; offset = a .offset }
+    record { refusal = a .refusal; sender = a .sender; send = a .send; sends = a .sends; event = a .event; block = n; offset = a .offset }
 
 abbrev pub dataBlock : ℕ → Sender → List ℕ → Acknowledgment → Acted
 dataBlock r s d NoAnswer = withBlock HEAD (resendOf r s (waitsOf s))

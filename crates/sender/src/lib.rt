@@ -75,7 +75,7 @@ pub enum Event {
 // What an act answers.
 pub struct Acted {
     // 0, or why it was refused.
-    pub number: u64,
+    pub refusal: u64,
     pub sender: Sender,
     // The message to send now.
     pub send: NumberedMessage,

@@ -106,7 +106,7 @@ pub(crate) fn act(sender: Sender, send: NumberedMessage, event: Event) -> Acted
     ensures { λ r. ⌜ r ≡ acted sender send event ⌝ }
 {
     Acted {
-        number: 0,
+        refusal: 0,
         sender,
         send,
         sends: sender.sends,
@@ -136,7 +136,7 @@ pub(crate) fn end_circuit(p: Persisted, sends: u64, event: Event) -> Acted
     ensures { λ r. ⌜ r ≡ endsWith p sends event ⌝ }
 {
     Acted {
-        number: 0,
+        refusal: 0,
         sender: Sender {
             persisted: p,
             waiting: Waiting::Closed,
@@ -154,7 +154,7 @@ pub(crate) fn refuse(number: u64, offset: usize, sender: Sender) -> Acted
     ensures { λ r. ⌜ r ≡ refused number offset sender ⌝ }
 {
     Acted {
-        number,
+        refusal: number,
         sender,
         send: NumberedMessage::Nothing,
         sends: sender.sends,
@@ -169,7 +169,7 @@ pub(crate) fn refuse_state(sender: Sender) -> Acted
     ensures { λ r. ⌜ r ≡ noState sender ⌝ }
 {
     Acted {
-        number: refusal::STATE,
+        refusal: refusal::STATE,
         sender,
         send: NumberedMessage::Nothing,
         sends: 0,

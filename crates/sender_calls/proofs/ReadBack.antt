@@ -60,7 +60,7 @@ module _ (st : List ℕ) (h : 7 ≤ length st) where
   crash-back p = words-back (closed p)
 
 -- a call makes of the words what the act makes of the sender
-module _ (f : Sender → Acted) (same : (s : Sender) → leb 1 (f s .number) ≡ true → f s .sender ≡ s) (st p : List ℕ) (h : 7 ≤ length st) (l : 8 ≤ length p) where
+module _ (f : Sender → Acted) (same : (s : Sender) → leb 1 (f s .refusal) ≡ true → f s .sender ≡ s) (st p : List ℕ) (h : 7 ≤ length st) (l : 8 ≤ length p) where
   some-number : (n : ℕ) → eqb n 0 ≡ false → leb 1 n ≡ true
   some-number n e = le-leb 1 n (let z : n ≡ 0 → ⊥ = eqb-false n 0 e in omega arith)
 
@@ -71,9 +71,9 @@ module _ (f : Sender → Acted) (same : (s : Sender) → leb 1 (f s .number) ≡
 
   written : (s : Sender) → senderIn st ≡ Known s → senderIn (actWritten st p (f s) .state) ≡ Known (f s .sender)
   written s e =
-      cond-ind (λ (c : Called). senderIn (c .state) ≡ Known (f s .sender)) (eqb (f s .number) 0) _ _
+      cond-ind (λ (c : Called). senderIn (c .state) ≡ Known (f s .sender)) (eqb (f s .refusal) 0) _ _
       (λ z. words-back st h (f s .sender))
-      (λ z. e ∙ ap Known (sym (same s (some-number (f s .number) z))))
+      (λ z. e ∙ ap Known (sym (same s (some-number (f s .refusal) z))))
 
   pub call-acts : (s : Sender) → senderIn st ≡ Known s → senderIn (senderCall f st p .state) ≡ Known (f s .sender)
   call-acts s e = ap (λ (c : Called). senderIn (c .state)) (sym (read-as (Known s) e)) ∙ written s e

@@ -90,7 +90,7 @@ actWords a = sendWords (a .send) ++ a .sends ∷ eventWords (a .event) ++ a .blo
 -- a refused act leaves the state as it is; its report is written
 abbrev pub actWritten : List ℕ → List ℕ → Acted → Called
 actWritten st p a =
-    need (eqb (a .number) 0) (called (a .number) st [] (over p (actWords a)))
+    need (eqb (a .refusal) 0) (called (a .refusal) st [] (over p (actWords a)))
     (called 0 (over st (senderWords (a .sender))) [] (over p (actWords a)))
 
 -- GMV_SENDER_WORDS, GMV_ACT_WORDS

@@ -29,7 +29,7 @@ fn refuse_words() -> Acted
     ensures { λ r. ⌜ r ≡ noSender ⌝ }
 {
     Acted {
-        number: refusal::STATE,
+        refusal: refusal::STATE,
         sender: Sender {
             persisted: Persisted {
                 first: 0,
@@ -87,7 +87,7 @@ fn act_on(act: Act, bytes: &[u8], state: &mut [u64], report: &mut [u64]) -> u64
         return refusal::TOO_SHORT;
     }
     let acted = perform(act, read_sender(state), bytes);
-    let number = acted.number;
+    let number = acted.refusal;
     let sender = acted.sender;
     write_report(report, acted);
     if number != 0 {

@@ -36,7 +36,7 @@ validStation have (Open e h) = leb e 7 && leb h have
 
 -- what an act answers: the station then, its reply, and whether a message is complete
 abbrev pub stationActed : Station → Reply → Message → Acted
-stationActed s r m = record { number = 0; station = s; reply = r; message = m }
+stationActed s r m = record { refusal = 0; station = s; reply = r; message = m }
 
 -- "dropped": the station stays as it is
 abbrev pub dropped : Station → Reply → Acted
@@ -44,7 +44,7 @@ dropped s r = stationActed s r Incomplete
 
 -- what is no station: 11
 abbrev pub noStation : Station → Acted
-noStation s = record { number = STATE; station = s; reply = NoReply; message = Incomplete }
+noStation s = record { refusal = STATE; station = s; reply = NoReply; message = Incomplete }
 
 -- "answered ACK with its number; ETX completes the message, and the next block starts a new one at the buffer's start": n bytes are held then
 abbrev pub appended : ℕ → Ending → ℕ → Acted

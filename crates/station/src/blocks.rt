@@ -38,7 +38,7 @@ fn acknowledge(expected: u64, ending: Ending, n: usize) -> Acted
     match ending {
         Ending::Etb => answer(Station::Open(next, n), Reply::Ack(expected)),
         Ending::Etx => Acted {
-            number: 0,
+            refusal: 0,
             station: Station::Open(next, 0),
             reply: Reply::Ack(expected),
             message: Message::Complete(n),

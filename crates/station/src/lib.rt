@@ -39,7 +39,7 @@ pub enum Message {
 // What an act answers.
 pub struct Acted {
     // 0, or 11 for what is no station.
-    pub number: u64,
+    pub refusal: u64,
     pub station: Station,
     pub reply: Reply,
     pub message: Message,

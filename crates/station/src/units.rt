@@ -14,7 +14,7 @@ pub(crate) fn answer(station: Station, reply: Reply) -> Acted
     ensures { λ r. ⌜ r ≡ stationActed station reply Incomplete ⌝ }
 {
     Acted {
-        number: 0,
+        refusal: 0,
         station,
         reply,
         message: Message::Incomplete,
@@ -25,7 +25,7 @@ pub(crate) fn refuse_station(station: Station) -> Acted
     ensures { λ r. ⌜ r ≡ noStation station ⌝ }
 {
     Acted {
-        number: refusal::STATE,
+        refusal: refusal::STATE,
         station,
         reply: Reply::NoReply,
         message: Message::Incomplete,

@@ -35,7 +35,7 @@ module _ (f : Station → Outcome Acted) (st b p : List ℕ) where
 -- an act with a buffer, whose state and report were written by one that has none
 pub with-its-buffer : (st p b : List ℕ) (a : Acted) (o : Outcome Acted) (c : Called) → c ≡ actWritten st p (outcome a []) → outcome a b ≡ o
     → withBuffer c b ≡ actWritten st p o
-with-its-buffer st p b a o c e f = with-buffer (eqb (a .number) 0) c _ _ b e ∙ ap (actWritten st p) f
+with-its-buffer st p b a o c e f = with-buffer (eqb (a .refusal) 0) c _ _ b e ∙ ap (actWritten st p) f
 
 -- the two words of a reply, and those of a message
 pub reply-both : (r : Reply) (ws : List ℕ) → getD (replyWords r) 0 0 ∷ getD (replyWords r) 1 0 ∷ ws ≡ replyWords r ++ ws

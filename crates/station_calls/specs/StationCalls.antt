@@ -54,7 +54,7 @@ stationReport a = replyWords (a .reply) ++ messageWords (a .message)
 -- what an act answered, in the state and the report; a refusal changes neither
 abbrev pub actWritten : List ℕ → List ℕ → Outcome Acted → Called
 actWritten st p o =
-    need (eqb (o .answer .number) 0) (called (o .answer .number) st (o .buffer) p)
+    need (eqb (o .answer .refusal) 0) (called (o .answer .refusal) st (o .buffer) p)
     (called 0 (over st (stationWords (o .answer .station))) (o .buffer) (over p (stationReport (o .answer))))
 
 -- GMV_STATION_WORDS, GMV_STATION_REPORT_WORDS

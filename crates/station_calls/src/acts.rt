@@ -31,7 +31,7 @@ fn finish(acted: Acted, state: &mut [u64], report: &mut [u64]) -> u64
     requires { ⌜ 4 ≤ length (now report) ⌝ }
     ensures { λ r. ⌜ called r (now (state .exit)) [] (now (report .exit)) ≡ actWritten (now (state .entry)) (now (report .entry)) (outcome acted []) ⌝ }
 {
-    let number = acted.number;
+    let number = acted.refusal;
     if number != 0 {
         return number;
     }

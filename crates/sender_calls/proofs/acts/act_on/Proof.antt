@@ -55,7 +55,7 @@ returns-2 c =
     let x = at-perform .perform in
     let enough = leb 7 (length st) && leb 8 (length p) in
     rw (at-write-report .write-report .ensures)
-    (unmet _ _ _ (ne-eqb (x .result .number) 0 (c .if2 .taken)) ∙ performed (a .act) (a .bytes .now) st p (x .ensures) (at-read-sender .read-sender .ensures) (not-false enough (at-if1 .if1 .left)))
+    (unmet _ _ _ (ne-eqb (x .result .refusal) 0 (c .if2 .taken)) ∙ performed (a .act) (a .bytes .now) st p (x .ensures) (at-read-sender .read-sender .ensures) (not-false enough (at-if1 .if1 .left)))
 
 write-sender-requires : tie.Need-write-sender-requires
 write-sender-requires c κs =
@@ -85,7 +85,7 @@ returns-3 c =
     let x = at-perform .perform in
     let enough = leb 7 (length st) && leb 8 (length p) in
     rw (at-write-sender .write-sender .ensures, at-write-report .write-report .ensures)
-    (met _ _ _ (eq-eqb (x .result .number) 0 (at-if2 .if2 .left)) ∙ performed (a .act) (a .bytes .now) st p (x .ensures) (at-read-sender .read-sender .ensures) (not-false enough (at-if1 .if1 .left)))
+    (met _ _ _ (eq-eqb (x .result .refusal) 0 (at-if2 .if2 .left)) ∙ performed (a .act) (a .bytes .now) st p (x .ensures) (at-read-sender .read-sender .ensures) (not-false enough (at-if1 .if1 .left)))
 
 pub act-on-spec : {M : Type 1} → statement M
 act-on-spec =

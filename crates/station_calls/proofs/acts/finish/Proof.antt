@@ -5,7 +5,7 @@ use Rattle.station_calls.proofs.acts.finish.Statement.{statement}
 use Rattle.station_calls.proofs.acts.finish.Tie as tie
 
 returns : tie.Need-returns
-returns c = rw (ne-eqb (c .before .before .before .args .acted .number) 0 (c .if1 .taken))
+returns c = rw (ne-eqb (c .before .before .before .args .acted .refusal) 0 (c .if1 .taken))
 
 write-station-requires : tie.Need-write-station-requires
 write-station-requires c κs = search needs
@@ -22,7 +22,7 @@ same-length-2 c = search needs
 returns-2 : tie.Need-returns-2
 returns-2 c =
     let tested = c .before .before .before .before .before .before .before .before in
-    let zero = eq-eqb (tested .before .before .before .args .acted .number) 0 (tested .if1 .left) in
+    let zero = eq-eqb (tested .before .before .before .args .acted .refusal) 0 (tested .if1 .left) in
     rw (c .before .before .before .before .before .before .write-station .ensures, c .before .before .write-report .ensures, zero)
 
 pub finish-spec : {M : Type 1} → statement M
