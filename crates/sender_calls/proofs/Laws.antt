@@ -1,31 +1,54 @@
 -- The ways in which an act on a sender's words returns.
 use mathlib.Core.Path.{_≡_, refl, sym, ap, _∙_}
 use mathlib.Core.List.{List, [], _∷_, _++_, append-assoc}
-use mathlib.Core.Bool.{true}
-use Prim.Native.Nat.{ℕ}
+use mathlib.Core.Bool.{Bool, true, false}
+use Prim.Native.Nat.{ℕ, _≤_}
+use native.Mathlib.Omega.{arith}
 use lib.ListN.{length, getD}
-use Rattle.lists.proofs.Calls.{met}
+use Rattle.lists.specs.Outcome.{need, Outcome, outcome, Called, called}
+use Rattle.lists.proofs.Calls.{state-words, report-words}
 use Rattle.numbers.specs.declared.SequenceNumber.the-variants.{MinusOne, Number}
+use Rattle.sender.specs.declared.Sender.{Sender}
 use Rattle.sender.specs.declared.NumberedMessage.{NumberedMessage}
 use Rattle.sender.specs.declared.NumberedMessage.the-variants.{Nothing, Numbered}
 use Rattle.sender.specs.declared.Event.{Event}
 use Rattle.sender.specs.declared.Event.the-variants.{NoEvent, Delivered, DeliveredUnknown, Abandoned, Froze, Dropped}
 use Rattle.sender.specs.declared.Acted.{Acted}
 use Rattle.sender_calls.specs.SenderCalls.{senderIn, sendWords, eventWords, actWords, actWritten, enoughWords, actOn, senderCall}
-use Rattle.sender_calls.specs.Internal.{actOf, actOfDecoded}
+use Rattle.sender_calls.specs.Internal.{foundAs, foundIn}
 use Rattle.sender_calls.specs.declared.Decoded.{Decoded}
 use Rattle.sender_calls.specs.declared.Decoded.the-variants.{Unknown, Known}
-use Rattle.sender_calls.specs.declared.Act.{Act}
+use Rattle.sender_calls.specs.declared.Found.{Found}
+use Rattle.sender_calls.specs.declared.Found.the-variants.{Refused, Known as ASender}
 
--- what is written of an act is what the call leaves
-module _ (a : Act) (d st p : List ℕ) where
-  written : (k : Decoded) → actWritten st p (actOfDecoded a d k) ≡ actOn k (actOf a d) st p
-  written Unknown = refl
-  written (Known s) = refl
+-- what a call makes of what it found in its words
+abbrev after : (Sender → Acted) → List ℕ → List ℕ → Found → Called
+after f st q (Refused n) = called n st [] q
+after f st q (ASender s) = actWritten st q (f s)
 
-  pub performed : {x : Acted} {k : Decoded} → x ≡ actOfDecoded a d k → k ≡ senderIn st → enoughWords (length st) (length p) ≡ true
-      → actWritten st p x ≡ senderCall (actOf a d) st p
-  performed e f h = ap (actWritten st p) (e ∙ ap (actOfDecoded a d) f) ∙ written (senderIn st) ∙ met _ _ _ h
+module _ (f : Sender → Acted) (st p : List ℕ) where
+  tests : (t : Bool) (d : Decoded) → let o = need t (outcome (Refused 2) p) (foundAs d p) in after f st (o .buffer) (o .answer) ≡ need t (called 2 st [] p) (actOn d f st p)
+  tests false d = refl
+  tests true Unknown = refl
+  tests true (Known s) = refl
+
+  found-is : after f st (foundIn st p .buffer) (foundIn st p .answer) ≡ senderCall f st p
+  found-is = tests (enoughWords (length st) (length p)) (senderIn st)
+
+  module _ {x y : Found} {q : List ℕ} (e : outcome x q ≡ foundIn st p) (g : x ≡ y) where
+    pub found : after f st q y ≡ senderCall f st p
+    found = ap (after f st q) (sym g) ∙ ap (λ (o : Outcome Found). after f st (o .buffer) (o .answer)) e ∙ found-is
+
+pub found-words : (st p q : List ℕ) {x : Found} (s : Sender) → outcome x q ≡ foundIn st p → x ≡ ASender s → (7 ≤ length st) × (8 ≤ length q)
+found-words st p q {x} s e g = go (enoughWords (length st) (length p)) refl (senderIn st) e
+  where
+    other : {P : Type 0} (n : ℕ) (r : List ℕ) → outcome x q ≡ outcome (Refused n) r → P
+    other n r h = let a = ap (λ (o : Outcome Found). o .answer) h in let z : _≡_ {A = ℕ} 0 1 = cc in absurd (omega arith)
+
+    go : (t : Bool) → enoughWords (length st) (length p) ≡ t → (d : Decoded) → outcome x q ≡ need t (outcome (Refused 2) p) (foundAs d p) → (7 ≤ length st) × (8 ≤ length q)
+    go false h d k = other 2 p k
+    go true h Unknown k = other 11 _ k
+    go true h (Known u) k = (state-words 7 8 st p h, rw (ap (λ (o : Outcome Found). o .buffer) k) (report-words 7 8 st p h))
 
 -- the words of a message to send, and those of an event
 send-both : (m : NumberedMessage) (ws : List ℕ) → getD (sendWords m) 0 0 ∷ getD (sendWords m) 1 0 ∷ ws ≡ sendWords m ++ ws

@@ -11,7 +11,6 @@ pub use acts::opened_words;
 pub use acts::reset_words;
 pub use acts::submitted_words;
 pub use acts::timer_words;
-use refusal::Verdict;
 use sender::Sender;
 
 // What a sender's words encode.
@@ -20,24 +19,8 @@ pub enum Decoded {
     Known(Sender),
 }
 
-// An act on a sender, with the settings that it takes.
-enum Act {
-    Open,
-    End,
-    Reset,
-    Timer(u64),
-    Block(u64, Verdict),
-    Submit(usize),
-}
-
-// The words of a message to send, and of an event.
-struct SendWords {
-    kind: u64,
-    number: u64,
-}
-
-struct EventWords {
-    kind: u64,
-    delivered: u64,
-    code: u64,
+// What an act finds in the words: a sender, or why it is refused.
+enum Found {
+    Refused(u64),
+    Known(Sender),
 }

@@ -8,13 +8,13 @@ use Rattle.sender_calls.proofs.acts.fresh_sender_words.Statement.{state
 use Rattle.sender_calls.proofs.acts.fresh_sender_words.Tie as tie
 
 new-sender-requires : tie.Need-new-sender-requires
-new-sender-requires c κs = tt
+new-sender-requires c κs = search needs
 
 enum-known-made : tie.Need-enum-known-made
-enum-known-made c = c .match .keys1
+enum-known-made c = search needs
 
 enum-told : tie.Need-enum-told
-enum-told c = c .match .keys2
+enum-told c = search needs
 
 returns : tie.Need-returns
 unfolding freshCall
