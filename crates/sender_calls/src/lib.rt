@@ -24,3 +24,15 @@ enum Found {
     Refused(u64),
     Known(Sender),
 }
+
+// The words of a message to send, and of an event.
+struct SendWords {
+    kind: u64,
+    number: u64,
+}
+
+struct EventWords {
+    kind: u64,
+    delivered: u64,
+    code: u64,
+}

@@ -1,4 +1,6 @@
 // An act's answer as words.
+use crate::EventWords;
+use crate::SendWords;
 use header::Code;
 use numbers::SequenceNumber;
 use sender::Acted;
@@ -7,61 +9,24 @@ use sender::NumberedMessage;
 ghost use mathlib.Core.Path.{_≡_};
 ghost use mathlib.Core.List.{[], _∷_};
 ghost use Prim.Native.Nat.{_≤_};
-ghost use lib.ListN.{length, getD};
+ghost use lib.ListN.{length};
 ghost use Rattle.lists.specs.Bytes.{over};
-ghost use Rattle.sender_calls.specs.SenderCalls.{sendWords, codeNumber, eventWords, actWords};
+ghost use Rattle.sender_calls.specs.Internal.{sendRecord, eventRecord};
+ghost use Rattle.sender_calls.specs.SenderCalls.{codeNumber, actWords};
 
-fn send_word(send: NumberedMessage) -> u64
-    ensures { λ r. ⌜ r ≡ getD (sendWords send) 0 0 ⌝ }
+fn words_of_send(send: NumberedMessage) -> SendWords
+    ensures { λ r. ⌜ r ≡ sendRecord send ⌝ }
 {
     let NumberedMessage::Numbered(number) = send else {
-        return 0;
+        return SendWords { kind: 0, number: 0 };
     };
     let SequenceNumber::Number(n) = number else {
-        return 1;
+        return SendWords { kind: 1, number: 0 };
     };
     if n == 0 {
-        return 2;
+        return SendWords { kind: 2, number: 0 };
     }
-    3
-}
-
-fn send_number(send: NumberedMessage) -> u64
-    ensures { λ r. ⌜ r ≡ getD (sendWords send) 1 0 ⌝ }
-{
-    let NumberedMessage::Numbered(number) = send else {
-        return 0;
-    };
-    match number {
-        SequenceNumber::MinusOne => 0,
-        SequenceNumber::Number(n) => n,
-    }
-}
-
-fn event_word(event: Event) -> u64
-    ensures { λ r. ⌜ r ≡ getD (eventWords event) 0 0 ⌝ }
-{
-    match event {
-        Event::NoEvent => 0,
-        Event::Delivered(_, _) => 1,
-        Event::DeliveredUnknown(_) => 1,
-        Event::Abandoned => 2,
-        Event::Froze => 3,
-        Event::Dropped => 4,
-    }
-}
-
-fn delivered_word(event: Event) -> u64
-    ensures { λ r. ⌜ r ≡ getD (eventWords event) 1 0 ⌝ }
-{
-    match event {
-        Event::NoEvent => 0,
-        Event::Delivered(number, _) => number,
-        Event::DeliveredUnknown(number) => number,
-        Event::Abandoned => 0,
-        Event::Froze => 0,
-        Event::Dropped => 0,
-    }
+    SendWords { kind: 3, number: n }
 }
 
 fn code_number(code: Code) -> u64
@@ -74,16 +39,42 @@ fn code_number(code: Code) -> u64
     }
 }
 
-fn code_word(event: Event) -> u64
-    ensures { λ r. ⌜ r ≡ getD (eventWords event) 2 0 ⌝ }
+fn words_of_event(event: Event) -> EventWords
+    ensures { λ r. ⌜ r ≡ eventRecord event ⌝ }
 {
     match event {
-        Event::NoEvent => 0,
-        Event::Delivered(_, code) => code_number(code),
-        Event::DeliveredUnknown(_) => 0,
-        Event::Abandoned => 0,
-        Event::Froze => 0,
-        Event::Dropped => 0,
+        Event::NoEvent => EventWords {
+            kind: 0,
+            delivered: 0,
+            code: 0,
+        },
+        Event::Delivered(delivered, code) => {
+            EventWords {
+                kind: 1,
+                delivered,
+                code: code_number(code),
+            }
+        }
+        Event::DeliveredUnknown(delivered) => EventWords {
+            kind: 1,
+            delivered,
+            code: 0,
+        },
+        Event::Abandoned => EventWords {
+            kind: 2,
+            delivered: 0,
+            code: 0,
+        },
+        Event::Froze => EventWords {
+            kind: 3,
+            delivered: 0,
+            code: 0,
+        },
+        Event::Dropped => EventWords {
+            kind: 4,
+            delivered: 0,
+            code: 0,
+        },
     }
 }
 
@@ -94,12 +85,14 @@ pub(crate) fn write_report(words: &mut [u64], acted: Acted)
 {
     let send = acted.send;
     let event = acted.event;
-    words[0] = send_word(send);
-    words[1] = send_number(send);
+    let sent = words_of_send(send);
+    let happened = words_of_event(event);
+    words[0] = sent.kind;
+    words[1] = sent.number;
     words[2] = acted.sends;
-    words[3] = event_word(event);
-    words[4] = delivered_word(event);
-    words[5] = code_word(event);
+    words[3] = happened.kind;
+    words[4] = happened.delivered;
+    words[5] = happened.code;
     words[6] = acted.block;
     words[7] = acted.offset as u64;
 }

@@ -55,12 +55,15 @@ pub(crate) fn write_sender(words: &mut [u64], sender: Sender)
 {
     let persisted = sender.persisted;
     let waiting = sender.waiting;
+    let resynchronized = flag_word(persisted.resynchronized);
+    let frozen = flag_word(persisted.frozen);
+    let word = waiting_word(waiting);
     words[0] = persisted.first;
     words[1] = persisted.delivered;
     words[2] = persisted.last;
-    words[3] = flag_word(persisted.resynchronized);
-    words[4] = flag_word(persisted.frozen);
-    words[5] = waiting_word(waiting);
+    words[3] = resynchronized;
+    words[4] = frozen;
+    words[5] = word;
     words[6] = sender.sends;
 }
 

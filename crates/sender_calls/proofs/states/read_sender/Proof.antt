@@ -36,7 +36,7 @@ shared-slice-read-t18 : tie.Need-shared-slice-read-t18
 shared-slice-read-t18 c = search needs
 
 waiting-of-requires : tie.Need-waiting-of-requires
-waiting-of-requires c κs = search needs
+waiting-of-requires c κs = tt
 
 shared-slice-read-t22 : tie.Need-shared-slice-read-t22
 shared-slice-read-t22 c = search needs

@@ -8,6 +8,15 @@ use Rattle.lists.proofs.Over.{written-over}
 use Rattle.sender_calls.proofs.states.write_sender.Statement.{statement}
 use Rattle.sender_calls.proofs.states.write_sender.Tie as tie
 
+flag-word-requires : tie.Need-flag-word-requires
+flag-word-requires c κs = tt
+
+flag-word-requires-2 : tie.Need-flag-word-requires-2
+flag-word-requires-2 c κs = tt
+
+waiting-word-requires : tie.Need-waiting-word-requires
+waiting-word-requires c κs = tt
+
 slice-write-words : tie.Need-slice-write-words
 slice-write-words c = search needs
 
@@ -17,20 +26,11 @@ slice-write-words-2 c = simp length-set (omega arith)
 slice-write-words-3 : tie.Need-slice-write-words-3
 slice-write-words-3 c = simp length-set (omega arith)
 
-flag-word-requires : tie.Need-flag-word-requires
-flag-word-requires c κs = search needs
-
 slice-write-words-4 : tie.Need-slice-write-words-4
 slice-write-words-4 c = simp length-set (omega arith)
 
-flag-word-requires-2 : tie.Need-flag-word-requires-2
-flag-word-requires-2 c κs = search needs
-
 slice-write-words-5 : tie.Need-slice-write-words-5
 slice-write-words-5 c = simp length-set (omega arith)
-
-waiting-word-requires : tie.Need-waiting-word-requires
-waiting-word-requires c κs = search needs
 
 slice-write-words-6 : tie.Need-slice-write-words-6
 slice-write-words-6 c = simp length-set (omega arith)
@@ -52,14 +52,14 @@ pub write-sender-spec : {M : Type 1} → statement M
 write-sender-spec =
     tie.close
     (tie.spec
+    flag-word-requires
+    flag-word-requires-2
+    waiting-word-requires
     slice-write-words
     slice-write-words-2
     slice-write-words-3
-    flag-word-requires
     slice-write-words-4
-    flag-word-requires-2
     slice-write-words-5
-    waiting-word-requires
     slice-write-words-6
     slice-write-words-7
     same-length
