@@ -11,7 +11,7 @@ use lib.Dec.{eqb}
 use borrow.Author.Tests.{ne-eqb, eqb-true}
 use Rattle.lists.proofs.Search.{clear-most}
 use Rattle.fields.specs.Fields.{fieldLength, fieldStart, fieldOf, segmentLength}
-use Rattle.fields.proofs.Laws.{start-most}
+use Rattle.fields.proofs.Laws.{field-past, start-most}
 
 module _ (bar : ℕ) where
   -- no CR stands in a field
@@ -91,6 +91,19 @@ module _ (bar : ℕ) where
       starts-add j k (drop from m) ∙ ap (λ (z : List ℕ). a + fieldStart bar k z) d in
       let p : from + a + fieldStart bar k (drop (from + a) m) ≡ from + fieldStart bar (j + k) (drop from m) = omega (arith, h) in
       ap (λ (z : ℕ). record { start = z; length = fieldLength bar (drop z m) }) p
+
+  -- or from its end
+  pub field-on : (m : List ℕ) (from j k : ℕ)
+      → fieldOf bar (fieldOf bar from j m .start + fieldOf bar from j m .length) (suc k) m ≡ fieldOf bar from (j + suc k) m
+  unfolding fieldOf
+  field-on m from j k =
+      let a = from + fieldStart bar j (drop from m) in
+      let l = fieldLength bar (drop a m) in
+      let d : drop l (drop a m) ≡ drop (a + l) m = drop-drop l a m in
+      let h : fieldStart bar (suc k) (drop a m) ≡ l + fieldStart bar (suc k) (drop (a + l) m) =
+      field-past bar k (drop a m) ∙ ap (λ (z : List ℕ). l + fieldStart bar (suc k) z) d in
+      let p : a + l + fieldStart bar (suc k) (drop (a + l) m) ≡ a + fieldStart bar (suc k) (drop a m) = omega (arith, h) in
+      ap (λ (z : ℕ). record { start = z; length = fieldLength bar (drop z m) }) p ∙ field-add m from j (suc k)
 
   pub field-inside : (m : List ℕ) (from k : ℕ) → from ≤ length m → fieldOf bar from k m .start + fieldOf bar from k m .length ≤ length m
   unfolding fieldOf

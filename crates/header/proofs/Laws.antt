@@ -16,7 +16,7 @@ use Rattle.lists.proofs.Same.{same-lengths}
 use Rattle.fields.specs.Fields.{bar, fieldOf, segmentLength}
 use Rattle.fields.specs.declared.Field.{Field}
 use Rattle.fields.proofs.Laws.{bar-no-return}
-use Rattle.fields.proofs.Segment.{segment-end, field-add, field-inside}
+use Rattle.fields.proofs.Segment.{segment-end, field-on, field-inside}
 use Rattle.header.specs.Header.{begins, ended, controlIdField, sequenceField, readableHeader, headerOf, readableAnswer, acknowledgmentOf, codeField}
 use Rattle.header.specs.Internal.{scannedOf, acknowledgmentAt}
 use Rattle.header.specs.declared.Scanned.{Scanned}
@@ -85,19 +85,23 @@ module _ (s : List ℕ) (h : length s ≡ 2) where
         code-none d =
             rw (second (code "A"), second (code "E"), second (code "R"), ne-eqb (getD s 1 0) (code "A") b, ne-eqb (getD s 1 0) (code "E") c, ne-eqb (getD s 1 0) (code "R") d)
 
+-- a field's end is in the message
+pub field-ends : (m : List ℕ) (from k : ℕ) (f : Field) → f ≡ fieldOf bar from k m → from ≤ length m → f .start + f .length ≤ length m
+field-ends m from k f e h = rw e (field-inside bar m from k h)
+
 -- the first segment in one pass: MSH-13 is counted on from MSH-10, and the CR from MSH-13
 pub scanned-begin : (m : List ℕ) → begins (bytes "MSH|") m ≡ false → Unreadable ≡ scannedOf m
 unfolding scannedOf readableHeader
 scanned-begin m h = rw h
 
-module _ (m : List ℕ) (id seq : Field) (hi : id ≡ fieldOf bar 0 9 m) (hs : seq ≡ fieldOf bar (id .start) 3 m) where
+module _ (m : List ℕ) (id seq : Field) (hi : id ≡ fieldOf bar 0 9 m) (hs : seq ≡ fieldOf bar (id .start + id .length) 3 m) where
   sequence-is : seq ≡ sequenceField m
-  sequence-is = hs ∙ ap (λ (f : Field). fieldOf bar (f .start) 3 m) hi ∙ field-add bar m 0 9 3
+  sequence-is = hs ∙ ap (λ (f : Field). fieldOf bar (f .start + f .length) 3 m) hi ∙ field-on bar m 0 9 2
 
   pub scan-inside : seq .start + seq .length ≤ length m
   scan-inside = rw sequence-is (field-inside bar m 0 12 (omega arith))
 
-module _ (m : List ℕ) (id seq : Field) (e : ℕ) (hi : id ≡ fieldOf bar 0 9 m) (hs : seq ≡ fieldOf bar (id .start) 3 m)
+module _ (m : List ℕ) (id seq : Field) (e : ℕ) (hi : id ≡ fieldOf bar 0 9 m) (hs : seq ≡ fieldOf bar (id .start + id .length) 3 m)
     (he : e ≡ seq .start + seq .length + clear 0x0D 0x0D (drop (seq .start + seq .length) m)) where
   seq-is : seq ≡ sequenceField m
   seq-is = sequence-is m id seq hi hs
@@ -137,13 +141,20 @@ pub answer-begin : (m : List ℕ) (from : ℕ) → begins (bytes "MSA|") (drop f
 unfolding acknowledgmentAt
 answer-begin m from h = rw h
 
-module _ (m : List ℕ) (from : ℕ) (code id expected : Field) (hc : code ≡ fieldOf bar from 1 m) (hi : id ≡ fieldOf bar (code .start) 1 m)
-    (hx : expected ≡ fieldOf bar (id .start) 2 m) where
+module _ (m : List ℕ) (from : ℕ) (code id : Field) (hc : code ≡ fieldOf bar from 1 m) (hi : id ≡ fieldOf bar (code .start + code .length) 1 m) where
+  second-is : id ≡ fieldOf bar from 2 m
+  second-is = hi ∙ ap (λ (f : Field). fieldOf bar (f .start + f .length) 1 m) hc ∙ field-on bar m from 1 0
+
+  pub id-ends : from ≤ length m → id .start + id .length ≤ length m
+  id-ends = field-ends m from 2 id second-is
+
+module _ (m : List ℕ) (from : ℕ) (code id expected : Field) (hc : code ≡ fieldOf bar from 1 m) (hi : id ≡ fieldOf bar (code .start + code .length) 1 m)
+    (hx : expected ≡ fieldOf bar (id .start + id .length) 2 m) where
   id-is : id ≡ fieldOf bar from 2 m
-  id-is = hi ∙ ap (λ (f : Field). fieldOf bar (f .start) 1 m) hc ∙ field-add bar m from 1 1
+  id-is = second-is m from code id hc hi
 
   expected-is : expected ≡ fieldOf bar from 4 m
-  expected-is = hx ∙ ap (λ (f : Field). fieldOf bar (f .start) 2 m) id-is ∙ field-add bar m from 2 2
+  expected-is = hx ∙ ap (λ (f : Field). fieldOf bar (f .start + f .length) 2 m) id-is ∙ field-on bar m from 2 1
 
   pub answer-inside : from ≤ length m → expected .start + expected .length ≤ length m
   answer-inside h = rw expected-is (field-inside bar m from 4 h)

@@ -52,7 +52,7 @@ fn begins_with(segment: &[u8], first: u8, second: u8, third: u8) -> bool
     ((segment[0] == first) & (segment[1] == second)) & ((segment[2] == third) & (segment[3] == BAR))
 }
 
-// One pass over the first segment.
+// One pass over the first segment: each field is looked for from the end of the one before.
 fn scan_header(message: &[u8]) -> Scanned
     ensures { λ r. ⌜ r ≡ scannedOf (now (message .entry)) ⌝ }
 {
@@ -60,7 +60,7 @@ fn scan_header(message: &[u8]) -> Scanned
         return Scanned::Unreadable;
     }
     let control_id = find_field(message, 0, BAR, 9);
-    let sequence = find_field(message, control_id.start, BAR, 3);
+    let sequence = find_field(message, control_id.start + control_id.length, BAR, 3);
     let end = field_end(message, sequence.start + sequence.length, b'\r');
     if message.len() <= end {
         return Scanned::Unreadable;
@@ -93,8 +93,8 @@ fn scan_acknowledgment(message: &[u8], from: usize) -> Acknowledgment
         return Acknowledgment::Unreadable;
     }
     let code = find_field(message, from, BAR, 1);
-    let control_id = find_field(message, code.start, BAR, 1);
-    let expected = find_field(message, control_id.start, BAR, 2);
+    let control_id = find_field(message, code.start + code.length, BAR, 1);
+    let expected = find_field(message, control_id.start + control_id.length, BAR, 2);
     let end = field_end(message, expected.start + expected.length, b'\r');
     if message.len() <= end {
         return Acknowledgment::Unreadable;

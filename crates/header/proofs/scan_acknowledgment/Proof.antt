@@ -5,7 +5,7 @@ use Rattle.header.proofs.scan_acknowledgment.Tie as tie
 use mathlib.Core.Path.{sym, _∙_}
 use native.Mathlib.Omega.{arith}
 use borrow.Author.Tests.{not-true, not-false}
-use Rattle.header.proofs.Laws.{answer-begin, answer-inside, answer-open, answer-read}
+use Rattle.header.proofs.Laws.{field-ends, id-ends, answer-begin, answer-inside, answer-open, answer-read}
 use Rattle.header.proofs.Laws.{rest}
 
 sub-begins-with : tie.Need-sub-begins-with
@@ -30,8 +30,23 @@ returns c =
 find-field-requires : tie.Need-find-field-requires
 find-field-requires c κs = search needs
 
+add-find-field : tie.Need-add-find-field
+add-find-field c =
+    let at-start = c .before .before .before .before .before .before in
+    let h = field-ends _ _ 1 (c .before .find-field .result) (c .before .find-field .ensures) (at-start .pre) in omega (arith, h)
+
 find-field-requires-2 : tie.Need-find-field-requires-2
 find-field-requires-2 c κs = search needs
+
+add-find-field-2 : tie.Need-add-find-field-2
+add-find-field-2 c =
+    let at-find-field2 = c .before in
+    let at-find-field = at-find-field2 .before .before in
+    let at-start = at-find-field .before .before .before .before .before in
+    let h =
+    id-ends _ _ (at-find-field .find-field .result) (at-find-field2 .find-field2 .result) (at-find-field .find-field .ensures)
+    (at-find-field2 .find-field2 .ensures) (at-start .pre) in
+    omega (arith, h)
 
 find-field-requires-3 : tie.Need-find-field-requires-3
 find-field-requires-3 c κs = search needs
@@ -40,8 +55,8 @@ add-field-end : tie.Need-add-field-end
 add-field-end c =
     let h =
     (let at-find-field3 = c .before in
-    let at-find-field2 = at-find-field3 .before in
-    let at-find-field = at-find-field2 .before in
+    let at-find-field2 = at-find-field3 .before .before in
+    let at-find-field = at-find-field2 .before .before in
     let at-start = at-find-field .before .before .before .before .before in
     answer-inside _ _ (at-find-field .find-field .result) (at-find-field2 .find-field2 .result) (at-find-field3 .find-field3 .result)
     (at-find-field .find-field .ensures) (at-find-field2 .find-field2 .ensures) (at-find-field3 .find-field3 .ensures) (at-start .pre)) in
@@ -54,8 +69,8 @@ returns-2 : tie.Need-returns-2
 returns-2 c =
     let at-field-end = c .before in
     let at-find-field3 = at-field-end .before .before in
-    let at-find-field2 = at-find-field3 .before in
-    let at-find-field = at-find-field2 .before in
+    let at-find-field2 = at-find-field3 .before .before in
+    let at-find-field = at-find-field2 .before .before in
     let at-if1 = at-find-field .before in
     let at-begins-with = at-if1 .before in
     let at-start = at-begins-with .before .before .before in
@@ -69,8 +84,8 @@ returns-3 : tie.Need-returns-3
 returns-3 c =
     let at-field-end = c .before in
     let at-find-field3 = at-field-end .before .before in
-    let at-find-field2 = at-find-field3 .before in
-    let at-find-field = at-find-field2 .before in
+    let at-find-field2 = at-find-field3 .before .before in
+    let at-find-field = at-find-field2 .before .before in
     let at-if1 = at-find-field .before in
     let at-begins-with = at-if1 .before in
     let at-start = at-begins-with .before .before .before in
@@ -90,7 +105,9 @@ scan-acknowledgment-spec =
     begins-with-requires
     returns
     find-field-requires
+    add-find-field
     find-field-requires-2
+    add-find-field-2
     find-field-requires-3
     add-field-end
     field-end-requires

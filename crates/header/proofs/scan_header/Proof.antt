@@ -4,7 +4,7 @@ use Rattle.header.proofs.scan_header.Statement.{statement}
 use Rattle.header.proofs.scan_header.Tie as tie
 use mathlib.Core.Path.{sym, _∙_}
 use borrow.Author.Tests.{not-true, not-false}
-use Rattle.header.proofs.Laws.{scanned-begin, scan-inside, scanned-open, scanned-empty, scanned-long, scanned-read}
+use Rattle.header.proofs.Laws.{field-ends, scanned-begin, scan-inside, scanned-open, scanned-empty, scanned-long, scanned-read}
 use native.Mathlib.Omega.{arith}
 
 begins-with-requires : tie.Need-begins-with-requires
@@ -16,13 +16,16 @@ returns c = scanned-begin (c .before .before .before .args .message .now) (sym (
 find-field-requires : tie.Need-find-field-requires
 find-field-requires c κs = search needs
 
+add-find-field : tie.Need-add-find-field
+add-find-field c = let h = field-ends _ 0 9 (c .before .find-field .result) (c .before .find-field .ensures) (omega arith) in omega (arith, h)
+
 find-field-requires-2 : tie.Need-find-field-requires-2
 find-field-requires-2 c κs = search needs
 
 add-field-end : tie.Need-add-field-end
 add-field-end c =
-    let h = scan-inside _ (c .before .before .find-field .result) (c .before .find-field2 .result) (c .before .before .find-field .ensures)
-    (c .before .find-field2 .ensures) in
+    let at-find-field = c .before .before .before in
+    let h = scan-inside _ (at-find-field .find-field .result) (c .before .find-field2 .result) (at-find-field .find-field .ensures) (c .before .find-field2 .ensures) in
     omega (arith, h)
 
 field-end-requires : tie.Need-field-end-requires
@@ -32,7 +35,7 @@ returns-2 : tie.Need-returns-2
 returns-2 c =
     let at-field-end = c .before in
     let at-find-field2 = at-field-end .before .before in
-    let at-find-field = at-find-field2 .before in
+    let at-find-field = at-find-field2 .before .before in
     let at-if1 = at-find-field .before in
     let at-begins-with = at-if1 .before in
     let at-start = at-begins-with .before .before in
@@ -44,7 +47,7 @@ returns-3 : tie.Need-returns-3
 returns-3 c =
     let at-field-end = c .before .before .before in
     let at-find-field2 = at-field-end .before .before in
-    let at-find-field = at-find-field2 .before in
+    let at-find-field = at-find-field2 .before .before in
     let at-if1 = at-find-field .before in
     let at-begins-with = at-if1 .before in
     let at-start = at-begins-with .before .before in
@@ -57,7 +60,7 @@ returns-4 c =
     let at-if2 = c .before .before .before .before in
     let at-field-end = at-if2 .before in
     let at-find-field2 = at-field-end .before .before in
-    let at-find-field = at-find-field2 .before in
+    let at-find-field = at-find-field2 .before .before in
     let at-if1 = at-find-field .before in
     let at-begins-with = at-if1 .before in
     let at-start = at-begins-with .before .before in
@@ -70,7 +73,7 @@ returns-5 c =
     let at-if2 = c .before .before .before .before in
     let at-field-end = at-if2 .before in
     let at-find-field2 = at-field-end .before .before in
-    let at-find-field = at-find-field2 .before in
+    let at-find-field = at-find-field2 .before .before in
     let at-if1 = at-find-field .before in
     let at-begins-with = at-if1 .before in
     let at-start = at-begins-with .before .before in
@@ -85,6 +88,7 @@ scan-header-spec =
     begins-with-requires
     returns
     find-field-requires
+    add-find-field
     find-field-requires-2
     add-field-end
     field-end-requires
