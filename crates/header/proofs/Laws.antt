@@ -1,22 +1,22 @@
 -- The ways in which the readers return, held against the definitions.
 use mathlib.Core.Path.{_≡_, refl, sym, ap, _∙_}
-use mathlib.Core.List.{List, [], _∷_}
+use mathlib.Core.List.{List, [], _∷_, _++_}
 use mathlib.Core.Bool.{Bool, true, false, _&&_, and-assoc, and-true}
-use Prim.Native.Nat.{ℕ, _+_, _-_, _≤_, _<_}
+use Prim.Native.Nat.{ℕ, _+_, _-_, _≤_, _<_, min}
 use Prim.Native.Char.{code}
 use native.Mathlib.Omega.{arith}
 use native.Mathlib.Nat.{zero-add}
-use lib.ListN.{length, take, drop, getD, length-drop}
+use lib.ListN.{length, take, drop, getD, length-drop, length-take, take-append-drop}
 use lib.Seq.{take-all}
 use lib.Dec.{leb, eqb}
 use borrow.Author.Tests.{lt-ltb, le-ltb, le-leb, lt-leb, eq-eqb, ne-eqb, ltb-true}
 use Rattle.lists.specs.Bytes.{bytes, clear, same}
 use Rattle.lists.proofs.Tests.{and-left, and-right}
-use Rattle.lists.proofs.Same.{same-lengths}
-use Rattle.fields.specs.Fields.{bar, fieldOf, segmentLength}
+use Rattle.lists.proofs.Same.{same-is, same-lengths}
+use Rattle.fields.specs.Fields.{bar, fieldStart, fieldOf, segmentLength}
 use Rattle.fields.specs.declared.Field.{Field}
 use Rattle.fields.proofs.Laws.{bar-no-return}
-use Rattle.fields.proofs.Segment.{segment-end, field-on, field-inside}
+use Rattle.fields.proofs.Segment.{segment-end, field-add, field-on, field-inside}
 use Rattle.header.specs.Header.{begins, ended, controlIdField, sequenceField, readableHeader, headerOf, readableAnswer, acknowledgmentOf, codeField}
 use Rattle.header.specs.Internal.{scannedOf, acknowledgmentAt}
 use Rattle.header.specs.declared.Scanned.{Scanned}
@@ -88,6 +88,33 @@ module _ (s : List ℕ) (h : length s ≡ 2) where
 -- a field's end is in the message
 pub field-ends : (m : List ℕ) (from k : ℕ) (f : Field) → f ≡ fieldOf bar from k m → from ≤ length m → f .start + f .length ≤ length m
 field-ends m from k f e h = rw e (field-inside bar m from k h)
+
+-- the first bar of a segment that begins with three letters and a bar
+first-bar : (text s : List ℕ) → fieldStart bar 1 (text ++ drop 4 s) ≡ 4 → begins text s ≡ true → length text ≡ 4 → fieldStart bar 1 s ≡ 4
+unfolding begins
+first-bar text s f h l =
+    let e : take 4 s ≡ text = same-is (take 4 s) text (rw l at h) in
+    ap (λ (z : List ℕ). fieldStart bar 1 z) (sym (take-append-drop 4 s) ∙ ap (λ (z : List ℕ). z ++ drop 4 s) e) ∙ f
+
+pub begins-length : (text s : List ℕ) → begins text s ≡ true → length text ≡ 4 → 4 ≤ length s
+unfolding begins
+begins-length text s h l =
+    let e : take 4 s ≡ text = same-is (take 4 s) text (rw l at h) in
+    let n : min 4 (length s) ≡ 4 = sym (length-take 4 s) ∙ ap (λ (z : List ℕ). length z) e ∙ l in
+    omega (arith, n)
+
+module _ (m : List ℕ) (from k : ℕ) where
+  past-bar : fieldStart bar 1 (drop from m) ≡ 4 → fieldOf bar (from + 4) k m ≡ fieldOf bar from (1 + k) m
+  unfolding fieldOf
+  past-bar e = ap (λ (z : ℕ). fieldOf bar (from + z) k m) (sym e) ∙ field-add bar m from 1 k
+
+  pub after-header : begins (bytes "MSH|") (drop from m) ≡ true → fieldOf bar (from + 4) k m ≡ fieldOf bar from (1 + k) m
+  unfolding fieldStart
+  after-header h = past-bar (first-bar (bytes "MSH|") (drop from m) refl h refl)
+
+  pub after-answer : begins (bytes "MSA|") (drop from m) ≡ true → fieldOf bar (from + 4) k m ≡ fieldOf bar from (1 + k) m
+  unfolding fieldStart
+  after-answer h = past-bar (first-bar (bytes "MSA|") (drop from m) refl h refl)
 
 -- the first segment in one pass: MSH-13 is counted on from MSH-10, and the CR from MSH-13
 pub scanned-begin : (m : List ℕ) → begins (bytes "MSH|") m ≡ false → Unreadable ≡ scannedOf m

@@ -52,14 +52,14 @@ fn begins_with(segment: &[u8], first: u8, second: u8, third: u8) -> bool
     ((segment[0] == first) & (segment[1] == second)) & ((segment[2] == third) & (segment[3] == BAR))
 }
 
-// One pass over the first segment: each field is looked for from the end of the one before.
+// One pass over the first segment: the first bar is its fourth byte, and each field is looked for from the end of the one before.
 fn scan_header(message: &[u8]) -> Scanned
     ensures { λ r. ⌜ r ≡ scannedOf (now (message .entry)) ⌝ }
 {
     if !begins_with(message, b'M', b'S', b'H') {
         return Scanned::Unreadable;
     }
-    let control_id = find_field(message, 0, BAR, 9);
+    let control_id = find_field(message, 4, BAR, 8);
     let sequence = find_field(message, control_id.start + control_id.length, BAR, 3);
     let end = field_end(message, sequence.start + sequence.length, b'\r');
     if message.len() <= end {
@@ -92,7 +92,7 @@ fn scan_acknowledgment(message: &[u8], from: usize) -> Acknowledgment
     if !begins_with(&message[from..], b'M', b'S', b'A') {
         return Acknowledgment::Unreadable;
     }
-    let code = find_field(message, from, BAR, 1);
+    let code = find_field(message, from + 4, BAR, 0);
     let control_id = find_field(message, code.start + code.length, BAR, 1);
     let expected = find_field(message, control_id.start + control_id.length, BAR, 2);
     let end = field_end(message, expected.start + expected.length, b'\r');

@@ -2,10 +2,11 @@
 use borrow.Author.Needs.{needs}
 use Rattle.header.proofs.scan_header.Statement.{statement}
 use Rattle.header.proofs.scan_header.Tie as tie
-use mathlib.Core.Path.{sym, _∙_}
+use mathlib.Core.Path.{refl, sym, _∙_}
 use borrow.Author.Tests.{not-true, not-false}
-use Rattle.header.proofs.Laws.{field-ends, scanned-begin, scan-inside, scanned-open, scanned-empty, scanned-long, scanned-read}
+use Rattle.header.proofs.Laws.{field-ends, begins-length, after-header, scanned-begin, scan-inside, scanned-open, scanned-empty, scanned-long, scanned-read}
 use native.Mathlib.Omega.{arith}
+use Rattle.lists.specs.Bytes.{bytes}
 
 begins-with-requires : tie.Need-begins-with-requires
 begins-with-requires c κs = search needs
@@ -17,7 +18,11 @@ find-field-requires : tie.Need-find-field-requires
 find-field-requires c κs = search needs
 
 add-find-field : tie.Need-add-find-field
-add-find-field c = let h = field-ends _ 0 9 (c .before .find-field .result) (c .before .find-field .ensures) (omega arith) in omega (arith, h)
+add-find-field c =
+    let at-if1 = c .before .before in
+    let at-begins-with = at-if1 .before in
+    let begun = sym (at-begins-with .begins-with .ensures) ∙ not-false _ (at-if1 .if1 .left) in
+    let h = field-ends _ 4 8 (c .before .find-field .result) (c .before .find-field .ensures) (begins-length (bytes "MSH|") _ begun refl) in omega (arith, h)
 
 find-field-requires-2 : tie.Need-find-field-requires-2
 find-field-requires-2 c κs = search needs
@@ -25,7 +30,10 @@ find-field-requires-2 c κs = search needs
 add-field-end : tie.Need-add-field-end
 add-field-end c =
     let at-find-field = c .before .before .before in
-    let h = scan-inside _ (at-find-field .find-field .result) (c .before .find-field2 .result) (at-find-field .find-field .ensures) (c .before .find-field2 .ensures) in
+    let at-if1 = at-find-field .before in
+    let at-begins-with = at-if1 .before in
+    let begun = sym (at-begins-with .begins-with .ensures) ∙ not-false _ (at-if1 .if1 .left) in
+    let h = scan-inside _ (at-find-field .find-field .result) (c .before .find-field2 .result) (at-find-field .find-field .ensures ∙ after-header _ 0 8 begun) (c .before .find-field2 .ensures) in
     omega (arith, h)
 
 field-end-requires : tie.Need-field-end-requires
@@ -38,10 +46,11 @@ returns-2 c =
     let at-find-field = at-find-field2 .before .before in
     let at-if1 = at-find-field .before in
     let at-begins-with = at-if1 .before in
+    let begun = sym (at-begins-with .begins-with .ensures) ∙ not-false _ (at-if1 .if1 .left) in
     let at-start = at-begins-with .before .before in
     scanned-open (at-start .args .message .now) (at-find-field .find-field .result) (at-find-field2 .find-field2 .result)
-    (at-field-end .field-end .result) (at-find-field .find-field .ensures) (at-find-field2 .find-field2 .ensures) (at-field-end .field-end .ensures)
-    (sym (at-begins-with .begins-with .ensures) ∙ not-false _ (at-if1 .if1 .left)) (c .if2 .taken)
+    (at-field-end .field-end .result) (at-find-field .find-field .ensures ∙ after-header _ 0 8 begun) (at-find-field2 .find-field2 .ensures) (at-field-end .field-end .ensures)
+    begun (c .if2 .taken)
 
 returns-3 : tie.Need-returns-3
 returns-3 c =
@@ -50,10 +59,11 @@ returns-3 c =
     let at-find-field = at-find-field2 .before .before in
     let at-if1 = at-find-field .before in
     let at-begins-with = at-if1 .before in
+    let begun = sym (at-begins-with .begins-with .ensures) ∙ not-false _ (at-if1 .if1 .left) in
     let at-start = at-begins-with .before .before in
     scanned-empty (at-start .args .message .now) (at-find-field .find-field .result) (at-find-field2 .find-field2 .result)
-    (at-field-end .field-end .result) (at-find-field .find-field .ensures) (at-find-field2 .find-field2 .ensures) (at-field-end .field-end .ensures)
-    (sym (at-begins-with .begins-with .ensures) ∙ not-false _ (at-if1 .if1 .left)) (c .before .before .if2 .left) (c .if3 .taken)
+    (at-field-end .field-end .result) (at-find-field .find-field .ensures ∙ after-header _ 0 8 begun) (at-find-field2 .find-field2 .ensures) (at-field-end .field-end .ensures)
+    begun (c .before .before .if2 .left) (c .if3 .taken)
 
 returns-4 : tie.Need-returns-4
 returns-4 c =
@@ -63,10 +73,11 @@ returns-4 c =
     let at-find-field = at-find-field2 .before .before in
     let at-if1 = at-find-field .before in
     let at-begins-with = at-if1 .before in
+    let begun = sym (at-begins-with .begins-with .ensures) ∙ not-false _ (at-if1 .if1 .left) in
     let at-start = at-begins-with .before .before in
     scanned-long (at-start .args .message .now) (at-find-field .find-field .result) (at-find-field2 .find-field2 .result)
-    (at-field-end .field-end .result) (at-find-field .find-field .ensures) (at-find-field2 .find-field2 .ensures) (at-field-end .field-end .ensures)
-    (sym (at-begins-with .begins-with .ensures) ∙ not-false _ (at-if1 .if1 .left)) (at-if2 .if2 .left) (c .before .before .if3 .left) (c .if4 .taken)
+    (at-field-end .field-end .result) (at-find-field .find-field .ensures ∙ after-header _ 0 8 begun) (at-find-field2 .find-field2 .ensures) (at-field-end .field-end .ensures)
+    begun (at-if2 .if2 .left) (c .before .before .if3 .left) (c .if4 .taken)
 
 returns-5 : tie.Need-returns-5
 returns-5 c =
@@ -76,10 +87,11 @@ returns-5 c =
     let at-find-field = at-find-field2 .before .before in
     let at-if1 = at-find-field .before in
     let at-begins-with = at-if1 .before in
+    let begun = sym (at-begins-with .begins-with .ensures) ∙ not-false _ (at-if1 .if1 .left) in
     let at-start = at-begins-with .before .before in
     scanned-read (at-start .args .message .now) (at-find-field .find-field .result) (at-find-field2 .find-field2 .result)
-    (at-field-end .field-end .result) (at-find-field .find-field .ensures) (at-find-field2 .find-field2 .ensures) (at-field-end .field-end .ensures)
-    (sym (at-begins-with .begins-with .ensures) ∙ not-false _ (at-if1 .if1 .left)) (at-if2 .if2 .left) (c .before .before .if3 .left) (c .if4 .left)
+    (at-field-end .field-end .result) (at-find-field .find-field .ensures ∙ after-header _ 0 8 begun) (at-find-field2 .find-field2 .ensures) (at-field-end .field-end .ensures)
+    begun (at-if2 .if2 .left) (c .before .before .if3 .left) (c .if4 .left)
 
 pub scan-header-spec : {M : Type 1} → statement M
 scan-header-spec =
