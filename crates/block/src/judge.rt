@@ -66,7 +66,7 @@ fn judge_parts(start_block: u8, t: u8, s: &[u8], count: &[u8], sum: &[u8]) -> Ve
         return Verdict::Refused(refusal::COUNT, 0);
     }
     if !checksum_matches(start_block, t, s, sum) {
-        return Verdict::Refused(refusal::CHECKSUM, 0);
+        return Verdict::Refused(refusal::CHECK, 0);
     }
     Verdict::Accepted(t, s.len())
 }

@@ -84,7 +84,7 @@ pub fn read_header_words(message: &[u8], words: &mut [u64]) -> u64
         return refusal::TOO_SHORT;
     }
     let Header::Readable(control_id, sequence) = header::read_header(message) else {
-        return refusal::HEADER;
+        return refusal::HEAD;
     };
     let number = read_number(
         field_content(message, sequence),
@@ -125,7 +125,7 @@ pub fn read_answer_words(message: &[u8], words: &mut [u64]) -> u64
     }
     let Acknowledgment::Readable(code, control_id, expected) = header::read_acknowledgment(message)
     else {
-        return refusal::HEADER;
+        return refusal::HEAD;
     };
     let read = header::read_code(field_content(message, code));
     let number = read_number(

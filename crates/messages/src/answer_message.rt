@@ -62,7 +62,7 @@ fn refuse_control_id(control_id: &[u8]) -> Written
     if first < control_id.len() {
         return Written::Refused(refusal::BYTE, first);
     }
-    Written::Refused(refusal::HEADER, 0)
+    Written::Refused(refusal::HEAD, 0)
 }
 
 fn is_answerable(number: SequenceNumber) -> bool
@@ -120,7 +120,7 @@ pub fn write_answer(
         return refuse_control_id(control_id);
     }
     if !is_answerable(number) {
-        return Written::Refused(refusal::SEQUENCE_NUMBER, 0);
+        return Written::Refused(refusal::NUMBER, 0);
     }
     let next = put_header(buffer, start, control_id, code);
     let end = put_acknowledgment(buffer, next, control_id, number, digits);

@@ -36,10 +36,10 @@ fn decide_data(kind: Kind, application: Application, expected: Expected, content
     ensures { λ r. ⌜ r ≡ headerDecision kind application expected (now (content .entry)) (headerOf (now (content .entry))) ⌝ }
 {
     let Header::Readable(control_id, sequence) = header::read_header(content) else {
-        return refused_by(kind, refusal::HEADER);
+        return refused_by(kind, refusal::HEAD);
     };
     if !settings::are_allowed(field_content(content, control_id)) {
-        return refused_by(kind, refusal::HEADER);
+        return refused_by(kind, refusal::HEAD);
     }
     let number = read_number(
         field_content(content, sequence),

@@ -71,7 +71,7 @@ fn reason_of(number: u64) -> u8
     if number == refusal::COUNT {
         return b'C';
     }
-    if number == refusal::CHECKSUM {
+    if number == refusal::CHECK {
         return b'X';
     }
     b'G'

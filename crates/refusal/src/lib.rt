@@ -15,13 +15,13 @@ pub const SHAPE: u64 = 5;
 
 pub const COUNT: u64 = 6;
 
-pub const CHECKSUM: u64 = 7;
+pub const CHECK: u64 = 7;
 
 pub const INTERRUPTED: u64 = 8;
 
-pub const HEADER: u64 = 9;
+pub const HEAD: u64 = 9;
 
-pub const SEQUENCE_NUMBER: u64 = 10;
+pub const NUMBER: u64 = 10;
 
 pub const STATE: u64 = 11;
 

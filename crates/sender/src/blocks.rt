@@ -37,7 +37,7 @@ fn read_data(resends: u64, sender: Sender, content: &[u8]) -> Acted
 {
     let Acknowledgment::Readable(code, control_id, expected) = header::read_acknowledgment(content)
     else {
-        return resend_for(refusal::HEADER, resends, sender);
+        return resend_for(refusal::HEAD, resends, sender);
     };
     let NumberedMessage::Numbered(number) = waiting_message(sender) else {
         return act(sender, NumberedMessage::Nothing, Event::NoEvent);

@@ -53,7 +53,7 @@ fn submit_header(sender: Sender, message: &[u8]) -> Acted
     ensures { λ r. ⌜ r ≡ submittedHeader sender (now (message .entry)) (headerOf (now (message .entry))) ⌝ }
 {
     let Header::Readable(control_id, sequence) = header::read_header(message) else {
-        return refuse(refusal::HEADER, 0, sender);
+        return refuse(refusal::HEAD, 0, sender);
     };
     let next = sender.persisted.last + 1;
     let number = read_number(
@@ -66,7 +66,7 @@ fn submit_header(sender: Sender, message: &[u8]) -> Acted
     );
     let is_next = is_number(next, number) & decimal;
     if !is_next {
-        return refuse(refusal::SEQUENCE_NUMBER, 0, sender);
+        return refuse(refusal::NUMBER, 0, sender);
     }
     take(sender)
 }
