@@ -17,9 +17,8 @@ use Rattle.header.specs.declared.Acknowledgment.{Acknowledgment}
 use Rattle.header.specs.declared.Code.{Code}
 use Rattle.header.specs.declared.CodeField.{CodeField}
 use Rattle.header.specs.declared.CodeField.the-variants.{Known}
-use Rattle.messages.specs.Messages.{answerMessage}
-use Rattle.message_theorems.proofs.Answer.{answer-reads-back, answer-acknowledges}
-use Rattle.receiver.specs.Receiver.{reasonOf}
+use Rattle.message_theorems.specs.ReadBack.{ReadsAnswer}
+use Rattle.message_theorems.proofs.Answer.{answer-acknowledges}
 use Rattle.sender.specs.Sender.{validSender, isOpen, onCircuit, acted, waitsOf, answerOf, answeredBy, validResends, resendOf, whenOpen, timerOf, dataBlock, blockIn, blockReadOf}
 use Rattle.sender.specs.declared.Sender.{Sender}
 use Rattle.sender.specs.declared.NumberedMessage.the-variants.{Nothing, Numbered}
@@ -27,38 +26,36 @@ use Rattle.sender.specs.declared.Event.the-variants.{Dropped}
 use Rattle.sender.specs.declared.Acted.{Acted}
 use Rattle.link.proofs.Facts.{not-both}
 use Rattle.link.proofs.SenderValid.{right-from, when-open-is}
-use Rattle.link.specs.Line.{accepts}
-use Rattle.link.proofs.Queues.{Answer, skip, sub-all, replies, refuses}
+use Rattle.link.specs.Line.{arrival, accepts}
+use Rattle.link.proofs.Queues.{Answer, skip, sub-all, sub-among, replies, refuses}
 use Rattle.link.proofs.Books.{Books, withSender, withLines, Core, lose-back}
 use Rattle.link.proofs.Naming.{quiet}
 use Rattle.link.proofs.Sending.{After, due, answered}
 use Rattle.lists.proofs.Same.{same-self}
-use Rattle.link.proofs.Messages.{SayableAnswer}
+use Rattle.link.proofs.Messages.{IsReply}
 
 -- an answer of the receiver's, as the sender reads it
-pub read-as : (r : ℕ) (s : Sender) (v : SequenceNumber) (d : Code) (m : SequenceNumber) → SayableAnswer v m → (n : ℕ)
-    → blockIn r s (Accepted (code "D") n) (answerMessage (textOf v) d m) ≡ answeredBy s (textOf v) (Known d) (Present m) (waitsOf s)
-read-as r s v d m y n =
-    let t = answerMessage (textOf v) d m in
+pub read-as : (r : ℕ) (s : Sender) (t : List ℕ) (v : SequenceNumber) (d : Code) (m : SequenceNumber) → ReadsAnswer t d (textOf v) m → (n : ℕ)
+    → blockIn r s (Accepted (code "D") n) t ≡ answeredBy s (textOf v) (Known d) (Present m) (waitsOf s)
+read-as r s t v d m a n =
     let w = waitsOf s in
-    let a = answer-reads-back (textOf v) d m (y .control) (y .number) in
     ap (λ (z : Acknowledgment). dataBlock r s t z) (answer-acknowledges t d (textOf v) m a)
     ∙ ap (λ (z : List ℕ). answeredBy s z (codeField (bytesOf (answerField 1 t) t)) (numberField greatestExpected (bytesOf (answerField 4 t) t)) w) (a .id-read)
     ∙ ap (λ (z : CodeField). answeredBy s (textOf v) z (numberField greatestExpected (bytesOf (answerField 4 t) t)) w) (a .code-read)
     ∙ ap (λ (z : NumberField). answeredBy s (textOf v) (Known d) z w) (a .expected)
 
 -- the act on a block, where a circuit is open
-pub on-open : (r : ℕ) (s : Sender) (v : Verdict) (d : List ℕ) → r ≤ 99 → validSender s ≡ true → isOpen (s .waiting) ≡ true → blockReadOf r s v d ≡ blockIn r s v d
+on-open : (r : ℕ) (s : Sender) (v : Verdict) (d : List ℕ) → r ≤ 99 → validSender s ≡ true → isOpen (s .waiting) ≡ true → blockReadOf r s v d ≡ blockIn r s v d
 unfolding blockReadOf
 on-open r s v d l z w = when-open-is r s (blockIn r s v d) l z w
 
 -- an answer to what waits
-pub read-own : (r : ℕ) (s : Sender) (v : SequenceNumber) (d : Code) (m : SequenceNumber) → SayableAnswer v m → r ≤ 99 → validSender s ≡ true → isOpen (s .waiting) ≡ true
+pub read-own : (r : ℕ) (s : Sender) (t : List ℕ) (v : SequenceNumber) (d : Code) (m : SequenceNumber) → ReadsAnswer t d (textOf v) m → r ≤ 99 → validSender s ≡ true → isOpen (s .waiting) ≡ true
     → waitsOf s ≡ Numbered v
-    → (n : ℕ) → blockReadOf r s (Accepted (code "D") n) (answerMessage (textOf v) d m) ≡ answerOf s (Known d) (Present m)
-read-own r s v d m y l z w u n =
-    on-open r s (Accepted (code "D") n) (answerMessage (textOf v) d m) l z w
-    ∙ read-as r s v d m y n
+    → (n : ℕ) → blockReadOf r s (Accepted (code "D") n) t ≡ answerOf s (Known d) (Present m)
+read-own r s t v d m y l z w u n =
+    on-open r s (Accepted (code "D") n) t l z w
+    ∙ read-as r s t v d m y n
     ∙ ap (answeredBy s (textOf v) (Known d) (Present m)) u
     ∙ ap (λ (b : Bool). cond b (answerOf s (Known d) (Present m)) (acted s Nothing Dropped)) (same-self (textOf v))
 
@@ -90,13 +87,14 @@ module _ (f : ℕ) (b : Books) (r : ℕ) (s : Sender) where
   refusal-read c (Accepted t n) m z = not-both cc
   refusal-read c (Refused n i) m z = on-circuit c (Refused n i) m (falls-due c)
 
-  -- ---- an N block
-  pub nak-read : (k n : ℕ) → Here (refuses k ∷ b .back) → Then (blockReadOf r s (Accepted (code "N") n) (reasonOf k ∷ []))
-  nak-read k n c = let t = lose-back c (skip (sub-all (b .back))) in on-circuit t (Accepted (code "N") n) (reasonOf k ∷ []) (falls-due t)
+  less : {a : Answer} → Here (a ∷ b .back) → Here (b .back)
+  less c = lose-back c (sub-among (skip (sub-all (b .back))))
 
-  -- ---- an answer
-  pub answer-read : (v : SequenceNumber) (d : Code) (m : SequenceNumber) → SayableAnswer v m → (n : ℕ) → Here (replies v d m ∷ b .back)
-      → Then (blockReadOf r s (Accepted (code "D") n) (answerMessage (textOf v) d m))
-  answer-read v d m y n c =
-      on-circuit (lose-back c (skip (sub-all (b .back)))) (Accepted (code "D") n) (answerMessage (textOf v) d m)
-      (λ z. subst Then (sym (read-as r s v d m y n)) (answered f b (s .persisted) (s .sends) v d m (s .waiting) c))
+  -- ---- a reply: an N block, or an answer
+  pub reply-read : (a : Answer) (t n : ℕ) (d : List ℕ) → IsReply (arrival t d) a → Here (a ∷ b .back) → Then (blockReadOf r s (Accepted t n) d)
+  reply-read (refuses k) t n d is c =
+      subst (λ (x : ℕ). Then (blockReadOf r s (Accepted x n) d)) (sym is) (on-circuit (less c) (Accepted (code "N") n) d (falls-due (less c)))
+  reply-read (replies v x m) t n d is c =
+      subst (λ (x : ℕ). Then (blockReadOf r s (Accepted x n) d)) (sym (is .type))
+      (on-circuit (less c) (Accepted (code "D") n) d
+      (λ z. subst Then (sym (read-as r s d v x m (is .reads) n)) (answered f b (s .persisted) (s .sends) v x m (s .waiting) c)))

@@ -12,8 +12,8 @@ use Rattle.sender.specs.declared.Persisted.{Persisted}
 use Rattle.sender.specs.declared.Waiting.{Waiting}
 use Rattle.sender.specs.declared.Waiting.the-variants.{Closed, Idle, Resynchronizing, Querying, Sending}
 use Rattle.link.proofs.Facts.{not-both, either}
-use Rattle.link.proofs.Queues.{All, none, Sub, all-sub, all-map, all-append, all-left, all-right, all-end, IsMinusOne, IsZero, Bounded, bounded-more}
-use Rattle.link.proofs.Queues.{Good, good-none, good-minus, good-zero, good-number, good-sub, good-behind, good-minus-ones, Answer, refuses, Side, Given, given-more, NamesExpected}
+use Rattle.link.proofs.Queues.{All, none, Sub, sub-none, all-sub, Among, nobody, all-among, all-map, all-append, all-left, all-right, all-end, IsMinusOne, IsZero, Bounded, bounded-more}
+use Rattle.link.proofs.Queues.{Good, good-lower, good-front, good-sub, Answer, refuses, Side, Given, given-more, NamesExpected}
 
 -- the link as messages: the sender's numbers as held and as persisted, what waits, and what is named and not yet written; the receiver as held and as persisted;
 -- the requests and the replies on the lines, and the replies pending
@@ -153,6 +153,10 @@ module _ {f : ℕ} {b : Books} (c : Core f b) where
   stored-least : f ≤ b .stored .next
   stored-least = let n = c .numbers in omega arith
 
+  -- nothing is named
+  only-line : Good f (b .volatile .next) (b .forward ++ [])
+  only-line = subst (Good f (b .volatile .next)) (sym (append-nil (b .forward))) (good-front f (b .forward) (b .named) (c .forward .good))
+
   -- ---- loss and damage
   pub lose-forward : {ys : List SequenceNumber} → Sub ys (b .forward) → Core f (withLines b ys (b .back))
   lose-forward {ys} s =
@@ -164,13 +168,14 @@ module _ {f : ℕ} {b : Books} (c : Core f b) where
       (waits-with (withLines b ys (b .back))
       (λ t. queried-of (t .synchronized) (all-append (all-sub s (all-left xs (b .named) (t .zeros))) (all-right xs (b .named) (t .zeros))) (t .names) (t .names-stored)))
 
-  pub lose-back : {ys : List Answer} → Sub ys (b .back) → Core f (withLines b (b .forward) ys)
+  -- answers in any order, and repeatedly
+  pub lose-back : {ys : List Answer} → Among ys (b .back) → Core f (withLines b (b .forward) ys)
   lose-back {ys} s =
       let bs = b .back in
       lines-with (b .waiting) (b .named) (b .forward) ys (b .pending)
-      (c .forward) (all-sub s (c .back)) (c .pending)
+      (c .forward) (all-among s (c .back)) (c .pending)
       (waits-with (withLines b (b .forward) ys)
-      (λ t. queried-of (t .synchronized) (t .zeros) (all-append (all-sub s (all-left bs (b .pending) (t .names))) (all-right bs (b .pending) (t .names))) (all-sub s (t .names-stored))))
+      (λ t. queried-of (t .synchronized) (t .zeros) (all-append (all-among s (all-left bs (b .pending) (t .names))) (all-right bs (b .pending) (t .names))) (all-among s (t .names-stored))))
 
   -- ---- the sender persists
   pub persist-sender : Core f (books (b .held) (b .held) (b .waiting) (b .named) (b .volatile) (b .stored) (b .forward) (b .back) (b .pending))
@@ -206,18 +211,9 @@ module _ {f : ℕ} {b : Books} (c : Core f b) where
             (λ t. queried-of (t .synchronized) (t .zeros) (t .names) (all-left (b .back) (b .pending) (t .names)));
       }
 
-  -- ---- a crash of the receiver: the lines are empty, and it holds what it has persisted
-  crash-good : (b .held .resynchronized ≡ true) ⊎ (b .held .resynchronized ≡ false) → (w : Waiting)
-      → Waits (b .held .resynchronized) (b .named) (Queried b) w → Good f (b .stored .next) (b .named)
-  crash-good (inl z) w t = let n = c .numbers in good-behind f (b .forward) (b .named) (b .stored .next) stored-least (n .stored-most) (c .forward .good)
-  crash-good (inr z) Closed t = subst (λ (l : List SequenceNumber). Good f (b .stored .next) l) (sym t) good-none
-  crash-good (inr z) Idle t = not-both (sym t ∙ z)
-  crash-good (inr z) Resynchronizing t = good-minus-ones f (let n = c .numbers in let s = c .forward .start (c .senders .later z) in omega arith) (t .minus-ones)
-  crash-good (inr z) Querying t = not-both (sym (t .synchronized) ∙ z)
-  crash-good (inr z) Sending t = not-both (sym t ∙ z)
-
-  pub crash-receiver : Core f (books (b .held) (b .persisted) (b .waiting) (b .named) (b .stored) (b .stored) [] [] [])
-  crash-receiver =
+  -- ---- the receiver goes on from what it has persisted, without the replies that were pending
+  pub restore-receiver : Core f (books (b .held) (b .persisted) (b .waiting) (b .named) (b .stored) (b .stored) (b .forward) (b .back) [])
+  restore-receiver =
       let n = c .numbers in
       let r = c .receivers in
       let g = c .forward in
@@ -225,26 +221,27 @@ module _ {f : ℕ} {b : Books} (c : Core f b) where
         numbers = chain (n .first-least) (n .persisted-least) (n .delivered-more) (n .covered) (omega arith) (omega arith) (omega arith) (n .last-more) (n .last-most);
         senders = c .senders;
         receivers = record { expects = r .stored-expects; stored-expects = r .stored-expects; newer = λ z. z; synchronized = r .synchronized };
-        forward = forward-of (crash-good (either (b .held .resynchronized)) (b .waiting) (c .waits)) none (g .named) (λ z. let s = g .start z in omega arith) (λ z. none);
-        back = none;
+        forward = forward-of (good-lower f (b .stored .next) stored-least (n .stored-most) (g .good)) (g .line) (g .named) (λ z. let s = g .start z in omega arith) (g .start-line);
+        back = c .back;
         pending = none;
         waits =
-            waits-with (books (b .held) (b .persisted) (b .waiting) (b .named) (b .stored) (b .stored) [] [] [])
-            (λ t. queried-of (t .synchronized) (all-right (b .forward) (b .named) (t .zeros)) none none);
+            waits-with (books (b .held) (b .persisted) (b .waiting) (b .named) (b .stored) (b .stored) (b .forward) (b .back) [])
+            (λ t. queried-of (t .synchronized) (t .zeros) (all-append (t .names-stored) none) (t .names-stored));
       }
 
-  -- ---- a crash of the sender: it holds what it has persisted, and no circuit is open
-  pub crash-sender : Core f (books (b .persisted) (b .persisted) Closed [] (b .volatile) (b .stored) [] [] (b .pending))
-  crash-sender =
+  -- ---- the sender goes on from what it has persisted: no circuit is open
+  pub restore-sender : Core f (books (b .persisted) (b .persisted) Closed [] (b .volatile) (b .stored) (b .forward) (b .back) (b .pending))
+  restore-sender =
       let n = c .numbers in
       let i = c .senders in
       let r = c .receivers in
+      let g = c .forward in
       record {
         numbers = chain (n .first-least) (n .persisted-least) (omega arith) (omega arith) (n .stored-most) (n .ahead) (n .submitted) (omega arith) (omega arith);
         senders = record { first = i .persisted-first; persisted-first = i .persisted-first; unfrozen = i .persisted-unfrozen; persisted-unfrozen = i .persisted-unfrozen; later = λ z. z };
         receivers = record { expects = r .expects; stored-expects = r .stored-expects; newer = r .newer; synchronized = λ z. persisted-synchronized z (either (b .held .resynchronized)) };
-        forward = forward-of good-none none none (c .forward .start) (λ z. none);
-        back = none;
+        forward = forward-of only-line (g .line) none (g .start) (g .start-line);
+        back = c .back;
         pending = c .pending;
         waits = refl;
       }
@@ -257,16 +254,7 @@ module _ {f : ℕ} {b : Books} (c : Core f b) where
   pub close-circuit : Core f (withSender b (b .held) Closed [])
   close-circuit =
       let g = c .forward in
-      lines-with Closed [] (b .forward) (b .back) (b .pending)
-      (forward-of (subst (λ (l : List SequenceNumber). Good f (b .volatile .next) l) (sym (append-nil (b .forward))) (front (b .forward) (g .good))) (g .line) none (g .start)
-      (g .start-line)) (c .back) (c .pending)
-      refl
-    where
-      front : {j : ℕ} (l : List SequenceNumber) → Good f j (l ++ b .named) → Good f j l
-      front [] y = good-none
-      front (v ∷ l) (good-minus a y) = good-minus a (front l y)
-      front (v ∷ l) (good-zero a y) = good-zero a (front l y)
-      front (v ∷ l) (good-number a d y z) = good-number a d y (front l z)
+      lines-with Closed [] (b .forward) (b .back) (b .pending) (forward-of only-line (g .line) none (g .start) (g .start-line)) (c .back) (c .pending) refl
 
   -- ---- a refused block is answered by an N block
   pub nak : (r : ℕ) → Core f (withReceived b (b .volatile) (b .forward) (b .pending ++ refuses r ∷ []))
@@ -276,3 +264,14 @@ module _ {f : ℕ} {b : Books} (c : Core f b) where
       (waits-with (withReceived b (b .volatile) (b .forward) (b .pending ++ refuses r ∷ []))
       (λ t. queried-of (t .synchronized) (t .zeros) (subst (All (NamesExpected (b .volatile .expected))) (append-assoc (b .back) (b .pending) (refuses r ∷ []))
       (all-end (t .names) refl)) (t .names-stored)))
+
+-- ---- a crash, and the lines are empty
+module _ {f : ℕ} {b : Books} (c : Core f b) where
+  empty-lines : Core f (withLines b [] [])
+  empty-lines = lose-back (lose-forward c (sub-none (b .forward))) nobody
+
+pub crash-receiver : {f : ℕ} {b : Books} → Core f b → Core f (books (b .held) (b .persisted) (b .waiting) (b .named) (b .stored) (b .stored) [] [] [])
+crash-receiver c = empty-lines (restore-receiver c)
+
+pub crash-sender : {f : ℕ} {b : Books} → Core f b → Core f (books (b .persisted) (b .persisted) Closed [] (b .volatile) (b .stored) [] [] (b .pending))
+crash-sender c = empty-lines (restore-sender c)

@@ -1,11 +1,13 @@
 -- The premises can be met.
-use mathlib.Core.Path.{_≡_, refl, ap}
+use mathlib.Core.Path.{_≡_, refl}
 use mathlib.Core.Bool.{true}
-use Prim.Native.Nat.{ℕ, zero, suc, _+_, _≤_}
+use Prim.Native.Nat.{ℕ, _+_, _≤_}
 use native.Mathlib.Omega.{arith}
 use lib.ListN.{length, length-append}
 use borrow.Author.Tests.{le-leb}
 use Rattle.settings.specs.Settings.{valid, validLink}
+use Rattle.settings.specs.declared.Kind.{Kind}
+use Rattle.settings.specs.declared.Kind.the-variants.{Hybrid, Minimal}
 use Rattle.numbers.specs.Numbers.{greatestSent, greatestExpected, textOf}
 use Rattle.numbers.specs.declared.SequenceNumber.the-variants.{Number}
 use Rattle.numbers.proofs.Reading.{text-length}
@@ -16,21 +18,17 @@ use Rattle.receiver.specs.declared.Application.{Application}
 use Rattle.receiver.specs.declared.Expected.{Expected}
 use Rattle.link.specs.System.{startOf}
 use Rattle.link.specs.Promise.{Ready}
-use Rattle.link.specs.Example.{admission, blank, exampleLog, exampleLink}
+use Rattle.link.specs.Example.{admission, exampleLog, exampleLink}
 use Rattle.link.proofs.Resuming.{Delivers, delivers}
-
-blank-length : (n : ℕ) → length (blank n) ≡ n
-unfolding blank
-blank-length zero = refl
-blank-length (suc n) = ap suc (blank-length n)
 
 type-valid : validType admission ≡ true
 unfolding validType
 type-valid = refl
 
-settings-valid : validLink (exampleLink .settings) ≡ true
+settings-valid : (k : Kind) → validLink (exampleLink k .settings) ≡ true
 unfolding validLink valid
-settings-valid = refl
+settings-valid Hybrid = refl
+settings-valid Minimal = refl
 
 log-length : (n : ℕ) → n ≤ greatestSent → length (exampleLog n) ≤ 128
 log-length n h =
@@ -38,10 +36,10 @@ log-length n h =
     let z : length (exampleLog n) ≡ 29 + (length (textOf (Number n)) + length (textOf (Number n))) = simp length-append (omega arith) in
     omega (arith, t, z)
 
-pub ready : Ready exampleLink
-ready =
+pub ready : (k : Kind) → Ready (exampleLink k)
+ready k =
     record {
-      settings = settings-valid;
+      settings = settings-valid k;
       first-least = omega arith;
       first-most = omega arith;
       resends = omega arith;
@@ -51,9 +49,8 @@ ready =
         allowed = numbered-allowed admission (Number n) type-valid;
         reads = numbered-reads admission (Number n) type-valid (le-leb n greatestSent b) (let t = text-length (Number n) (le-leb n greatestExpected (omega arith)) .1 in omega (arith, t));
       };
-      reply = let z = blank-length 143 in omega (arith, z);
     }
 
 -- and so a thousand transactions are delivered by some run, whatever the receiver expected before
-pub thousand : (a : Application) (e : Expected) → validExpected e ≡ true → Delivers exampleLink (startOf exampleLink e) 1000
-thousand a e v = delivers exampleLink ready a e v 1000 (omega arith)
+pub thousand : (k : Kind) (a : Application) (e : Expected) → validExpected e ≡ true → Delivers (exampleLink k) (startOf (exampleLink k) e) 1000
+thousand k a e v = delivers (exampleLink k) (ready k) a e v 1000 (omega arith)

@@ -2,10 +2,12 @@
 use mathlib.Core.Path.{_≡_, refl, ap, _∙_}
 use mathlib.Core.List.{List, [], _∷_}
 use mathlib.Core.Bool.{Bool, true, false, cond}
-use Prim.Native.Nat.{ℕ}
+use Prim.Native.Nat.{ℕ, zero, suc, _+_}
 use Prim.Native.Char.{code}
+use native.Mathlib.Omega.{arith}
 use lib.ListN.{length}
-use borrow.Author.Tests.{eq-eqb}
+use lib.Dec.{leb, eqb}
+use borrow.Author.Tests.{le-leb, eq-eqb}
 use Rattle.lists.specs.Outcome.{Outcome}
 use Rattle.block.specs.Format.{blockOf}
 use Rattle.numbers.specs.Numbers.{textOf}
@@ -13,8 +15,10 @@ use Rattle.numbers.specs.declared.SequenceNumber.{SequenceNumber}
 use Rattle.numbers.specs.declared.NumberField.the-variants.{Present}
 use Rattle.header.specs.declared.Code.{Code}
 use Rattle.messages.specs.Messages.{answerMessage, answerable}
+use Rattle.refusal.specs.declared.Verdict.the-variants.{Accepted}
+use Rattle.message_theorems.proofs.Answer.{answer-reads-back}
 use Rattle.stream.specs.Stream.{Judged, Mode, between, run, after}
-use Rattle.receiver.specs.Receiver.{validExpected, rowOf, answerBlock, replied}
+use Rattle.receiver.specs.Receiver.{validExpected, rowOf, answerBlock, replied, replySpace, receiveOf}
 use Rattle.receiver.specs.declared.Application.{Application}
 use Rattle.receiver.specs.declared.Expected.{Expected}
 use Rattle.receiver.specs.declared.Expected.the-variants.{Unknown, Next}
@@ -30,10 +34,11 @@ use Rattle.block_theorems.specs.Shapes.{Writable, accepted}
 use Rattle.block_theorems.proofs.RoundTrip.{reads-back}
 use Rattle.link.specs.SenderHistory.{Entry, reported}
 use Rattle.link.specs.Line.{Reader, Line, line, newReader}
-use Rattle.link.specs.System.{Link, System, SendingEnd, Stored, stored, sending, ReceivingEnd, receiving, link, requestOf, namedAfter, actedEnd, sameFlag}
-use Rattle.link.specs.System.{samePersisted, answersRead, hasWith, receivedWith, requestsRead, sameExpected, sameStored, senderPersists, senderWrites, receiverPersists, receiverWrites}
+use Rattle.link.specs.Duties.{oneAt, othersAt}
+use Rattle.link.specs.System.{Link, System, SendingEnd, Stored, stored, sending, ReceivingEnd, receiving, link, requestOf, namedAfter, actedEnd, sameFlag, samePersisted}
+use Rattle.link.specs.System.{hasWith, receivedEnd, sameExpected, sameStored, senderPersists, senderWrites, senderActs, receiverActs, receiverPersists, receiverWrites}
 use Rattle.link.specs.Promise.{Ready}
-use Rattle.link.proofs.Messages.{Nameable, SayableAnswer, request-control, request-writable, answer-writable, data-read}
+use Rattle.link.proofs.Messages.{Nameable, SayableAnswer, request-reads, request-control, request-writable, answer-writable, data-read}
 use Rattle.link.proofs.Receiving.{received}
 use Rattle.link.proofs.RequestsRead.{reply-is}
 use Rattle.link.proofs.AnswersRead.{read-own}
@@ -55,6 +60,22 @@ expected-same (Next n) = eq-eqb n n refl
 stored-same : (x : Stored) → sameStored x x ≡ true
 stored-same x = rw (expected-same (x .expected), eq-eqb (length (x .has)) (length (x .has)) refl)
 
+-- a buffer for a reply
+unfoldable pub blank : ℕ → List ℕ
+blank zero = []
+blank (suc n) = 0 ∷ blank n
+
+blank-length : (n : ℕ) → length (blank n) ≡ n
+unfolding blank
+blank-length zero = refl
+blank-length (suc n) = ap suc (blank-length n)
+
+abbrev pub replyBuffer : Link → List ℕ
+replyBuffer l = blank (replySpace (l .settings))
+
+buffer-fits : (l : Link) → leb (0 + replySpace (l .settings)) (length (replyBuffer l)) ≡ true
+buffer-fits l = le-leb (0 + replySpace (l .settings)) (length (replyBuffer l)) (let z = blank-length (replySpace (l .settings)) in omega arith)
+
 -- a reader between blocks
 pub record Resting : Type 0 where
   pub reader : Reader
@@ -65,11 +86,11 @@ resting = record { reader = newReader; rests = refl }
 
 -- a sender's end with all persisted
 abbrev pub sendingAt : Sender → List SequenceNumber → List Entry → SendingEnd
-sendingAt s ns h = sending s (s .persisted) ns h
+sendingAt s ns h = sending s (s .persisted) ns [] h
 
--- both ends have persisted all, no reply is pending, and the lines are empty
+-- both ends have persisted all and acted on all, no reply is pending, and the lines are empty
 abbrev pub quietAt : SendingEnd → Stored → Resting → Resting → System
-quietAt s x far own = link s (receiving x x []) (line (far .reader) []) (line (own .reader) [])
+quietAt s x far own = link s (receiving x x [] []) (line (far .reader) []) (line (own .reader) [])
 
 -- some run leads to such ends
 pub record Comes (l : Link) (y : System) (s : SendingEnd) (x : Stored) : Type 0 where
@@ -96,7 +117,7 @@ module _ (l : Link) (rd : Ready l) where
               ∙ reads-back (l .settings) (code "D") d w .rest (r .reader .offset);
         }
 
-  -- the answer to what waits is all that is on the line back: it is read, and what changed is persisted
+  -- the answer to what waits is all that is on the line back: it is read and acted on, and what changed is persisted
   module _ (s : Sender) (v : SequenceNumber) (valid : validSender s ≡ true) (on : isOpen (s .waiting) ≡ true) (names : waitsOf s ≡ Numbered v)
       (d : Code) (m : SequenceNumber) (y : SayableAnswer v m) (k : Acted) (takes : answerOf s (Known d) (Present m) ≡ k) where
     abbrev answer : List ℕ
@@ -105,16 +126,26 @@ module _ (l : Link) (rd : Ready l) where
     abbrev pub answerAble : Writable (l .settings) (code "D") answer
     answerAble = answer-writable (l .settings) (rd .settings) v d m y
 
+    -- the sender's end with these verdicts read
+    abbrev heard : List Judged → List Entry → SendingEnd
+    heard ws h = sending s (s .persisted) [] ws h
+
     pub read-answer : (h : List Entry) (e : ReceivingEnd) (b : Line) (own : Resting)
         → Reaches l (link (sendingAt s [] h) e b (line (own .reader) (blockOf (l .settings) (code "D") answer)))
         (link (sendingAt (k .sender) (namedAfter [] k) (reported k ∷ h)) e b (line (afterBlock answer answerAble own .reader) []))
+    unfolding oneAt othersAt
     read-answer h e b own =
+        let block = blockOf (l .settings) (code "D") answer in
         let end = line (readerThrough l (own .reader) (blockOf (l .settings) (code "D") answer)) [] in
+        let one = accepted (own .reader .offset) (code "D") answer in
         join l
-        (to l (read-answers l (blockOf (l .settings) (code "D") answer) (own .reader) (sendingAt s [] h) e b)
-        (ap (λ (ws : List Judged). link (answersRead l (sendingAt s [] h) ws) e b end) (block-says answer answerAble own)
-        ∙ ap (λ (z : Acted). link (actedEnd (sendingAt s [] h) z) e b end) (read-own (l .resends) s v d m y (rd .resends) valid on names (length answer) ∙ takes)))
-        (act l senderPersists (link (actedEnd (sendingAt s [] h) k) e b end))
+        (to l (read-answers l (blockOf (l .settings) (code "D") answer) (own .reader) s (s .persisted) [] [] h e b)
+        (ap (λ (ws : List Judged). link (heard ws h) e b end) (block-says answer answerAble own)))
+        (join l
+        (to l (act l (senderActs 0) (link (heard (one ∷ []) h) e b end))
+        (ap (λ (z : Acted). link (actedEnd (heard (one ∷ []) h) [] z) e b end)
+        (read-own (l .resends) s answer v d m (answer-reads-back (textOf v) d m (y .control) (y .number)) (rd .resends) valid on names (length answer) ∙ takes)))
+        (act l senderPersists (link (actedEnd (heard (one ∷ []) h) [] k) e b end)))
 
   -- the message v is named and all else is quiet: it is written, read, stored, and answered by the row that it meets; and the answer is taken
   module _ (a : Application) (s : Sender) (v : SequenceNumber) (valid : validSender s ≡ true) (on : isOpen (s .waiting) ≡ true)
@@ -156,34 +187,45 @@ module _ (l : Link) (rd : Ready l) where
     at e xs r bs = link (sendingAt s [] h) e (line r xs) (line (own .reader) bs)
 
     -- written
-    step-1 : Reaches l (quietAt (sendingAt s (v ∷ []) h) x far own) (at (receiving x x []) requestBlock (far .reader) [])
+    step-1 : Reaches l (quietAt (sendingAt s (v ∷ []) h) x far own) (at (receiving x x [] []) requestBlock (far .reader) [])
+    unfolding oneAt othersAt
     step-1 =
         let z = quietAt (sendingAt s (v ∷ []) h) x far own in
-        to l (act l senderWrites z)
-        (ap (λ (b : Bool). cond b (at (receiving x x []) requestBlock (far .reader) []) z) (persisted-same (s .persisted)))
-
-    outcomeOf : Row → Outcome Received
-    outcomeOf z = replied 0 (z .persisted) (answerBlock (l .settings) (textOf v) z) 0 (l .reply)
-
-    decided : requestsRead l a (receiving x x []) (verdictsOf l (far .reader) requestBlock) ≡ receiving x' x (reply ∷ [])
-    unfolding outcomeOf
-    decided =
-        ap (λ (ws : List Judged). requestsRead l a (receiving x x []) ws) (block-says request able far)
-        ∙ ap (λ (o : Outcome Received). receivedWith (receiving x x []) request o) (received l rd a (x .expected) vx v nm (length request) ∙ ap outcomeOf meets)
-        ∙ ap (λ (bs : List (List ℕ)). receiving x' x bs) (reply-is (l .settings) (code "D") (answerMessage (textOf v) (r .code) (r .number)) (l .reply) (outcomeOf r) refl refl)
+        to l (act l (senderWrites 0) z)
+        (ap (λ (b : Bool). cond b (at (receiving x x [] []) requestBlock (far .reader) []) z) (persisted-same (s .persisted)))
 
     -- read
-    step-2 : Reaches l (at (receiving x x []) requestBlock (far .reader) []) (at (receiving x' x (reply ∷ [])) [] (far' .reader) [])
+    abbrev one : Judged
+    one = accepted (far .reader .offset) (code "D") request
+
+    step-2 : Reaches l (at (receiving x x [] []) requestBlock (far .reader) []) (at (receiving x x [] (one ∷ [])) [] (far' .reader) [])
     step-2 =
-        to l (read-requests l a requestBlock (far .reader) (sendingAt s [] h) (receiving x x []) (line (own .reader) []))
-        (ap (λ (e : ReceivingEnd). at e [] (far' .reader) []) decided)
+        to l (read-requests l requestBlock (far .reader) (sendingAt s [] h) x x [] [] (line (own .reader) []))
+        (ap (λ (ws : List Judged). at (receiving x x [] ws) [] (far' .reader) []) (block-says request able far))
+
+    -- acted on
+    outcomeOf : Row → Outcome Received
+    outcomeOf z = replied 0 (z .persisted) (answerBlock (l .settings) (textOf v) z) 0 (replyBuffer l)
+
+    decided : receiveOf (l .settings) a (x .expected) (Accepted (code "D") (length request)) request 0 (replyBuffer l) ≡ outcomeOf r
+    unfolding outcomeOf
+    decided = received l rd a (x .expected) vx 0 (replyBuffer l) (buffer-fits l) request v (request-reads l rd v nm) (able .bytes) (length request) ∙ ap outcomeOf meets
+
+    step-3 : Reaches l (at (receiving x x [] (one ∷ [])) [] (far' .reader) []) (at (receiving x' x (reply ∷ []) []) [] (far' .reader) [])
+    unfolding oneAt othersAt outcomeOf
+    step-3 =
+        let z = at (receiving x x [] (one ∷ [])) [] (far' .reader) [] in
+        to l (act l (receiverActs 0 a 0 (replyBuffer l)) z)
+        (ap (λ (o : Outcome Received). cond (eqb (o .answer .refusal) 0) (at (receivedEnd (receiving x x [] (one ∷ [])) [] request 0 o) [] (far' .reader) []) z) decided
+        ∙ ap (λ (bs : List (List ℕ)). at (receiving x' x bs []) [] (far' .reader) [])
+        (reply-is (l .settings) (code "D") (answerMessage (textOf v) (r .code) (r .number)) 0 (replyBuffer l) (outcomeOf r) (omega arith) refl refl))
 
     -- persisted, and answered
-    step-3 : Reaches l (at (receiving x' x (reply ∷ [])) [] (far' .reader) []) (at (receiving x' x' []) [] (far' .reader) reply)
-    step-3 =
-        let z = at (receiving x' x' (reply ∷ [])) [] (far' .reader) [] in
-        join l (act l receiverPersists (at (receiving x' x (reply ∷ [])) [] (far' .reader) []))
-        (to l (act l receiverWrites z) (ap (λ (b : Bool). cond b (at (receiving x' x' []) [] (far' .reader) reply) z) (stored-same x')))
+    step-4 : Reaches l (at (receiving x' x (reply ∷ []) []) [] (far' .reader) []) (at (receiving x' x' [] []) [] (far' .reader) reply)
+    step-4 =
+        let z = at (receiving x' x' (reply ∷ []) []) [] (far' .reader) [] in
+        join l (act l receiverPersists (at (receiving x' x (reply ∷ []) []) [] (far' .reader) []))
+        (to l (act l receiverWrites z) (ap (λ (b : Bool). cond b (at (receiving x' x' [] []) [] (far' .reader) reply) z) (stored-same x')))
 
     pub exchange : Comes l y (sendingAt (k .sender) (namedAfter [] k) (reported k ∷ h)) x'
     exchange =
@@ -192,5 +234,6 @@ module _ (l : Link) (rd : Ready l) where
           own = own';
           run =
               join l (i .run)
-              (join l step-1 (join l step-2 (join l step-3 (read-answer s v valid on names (r .code) (r .number) says k takes h (receiving x' x' []) (line (far' .reader) []) own))));
+              (join l step-1 (join l step-2 (join l step-3 (join l step-4
+              (read-answer s v valid on names (r .code) (r .number) says k takes h (receiving x' x' [] []) (line (far' .reader) []) own)))));
         }

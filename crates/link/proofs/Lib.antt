@@ -6,6 +6,7 @@ pub mod Naming
 pub mod Texts
 pub mod Sending
 pub mod Bytes
+pub mod Arrivals
 pub mod Messages
 pub mod Receiving
 pub mod AnswersRead
@@ -15,15 +16,12 @@ pub mod Acts
 pub mod Safety
 pub mod Reports
 pub mod Delivery
+pub mod Adverse
 pub mod Runs
-pub mod SlotSeven
 pub mod Exchange
 pub mod Progress
 pub mod Resuming
 pub mod Example
-pub mod Breaks
-pub mod OldRequest
-pub mod Twice
 pub mod SenderValid
 pub mod SenderSteps
 pub mod SenderInvariant

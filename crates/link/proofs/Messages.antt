@@ -1,4 +1,4 @@
--- The messages of a link: each can be written as a block and reads as what it is.
+-- The messages of a link: each can be written as a block, and is known by what it reads as.
 use mathlib.Core.Path.{_≡_, refl, sym, ap, subst}
 use mathlib.Core.List.{List, [], _∷_}
 use mathlib.Core.Bool.{Bool, true, false, cond}
@@ -25,8 +25,8 @@ use Rattle.header.specs.declared.Code.{Code}
 use Rattle.messages.specs.Messages.{answerMessage, controlMessage, validControlId, answerable}
 use Rattle.messages.specs.declared.Control.{Control}
 use Rattle.messages.specs.declared.Control.the-variants.{Resynchronize, Query}
-use Rattle.message_theorems.specs.ReadBack.{ReadsControl}
-use Rattle.message_theorems.proofs.Answer.{answer-allowed, answer-length}
+use Rattle.message_theorems.specs.ReadBack.{ReadsAnswer, ReadsControl}
+use Rattle.message_theorems.proofs.Answer.{answer-reads-back, answer-allowed, answer-length}
 use Rattle.message_theorems.proofs.Control.{control-reads-back, control-allowed, control-length}
 use Rattle.message_theorems.proofs.HandedOut.{handed-out}
 use Rattle.block_theorems.specs.Shapes.{typeRead, Writable}
@@ -37,17 +37,35 @@ use Rattle.link.specs.System.{Link, requestOf}
 use Rattle.link.specs.Promise.{Ready}
 use Rattle.link.proofs.Queues.{Answer, replies, refuses}
 
--- ---- as blocks on the line
-abbrev pub asRequest : Link → SequenceNumber → Arrival
-asRequest l v = arrival (code "D") (requestOf l v)
+-- ---- what stands on the lines, by what it reads as
+-- a transaction is the log's
+abbrev pub Carries : Link → SequenceNumber → List ℕ → Type 0
+Carries l MinusOne d = d ≡ d
+Carries l (Number n) d = 1 ≤ n → d ≡ l .log n
 
-abbrev pub asAnswer : Answer → Arrival
-asAnswer (replies v c n) = arrival (code "D") (answerMessage (textOf v) c n)
-asAnswer (refuses n) = arrival (code "N") (reasonOf n ∷ [])
+-- the message v
+pub record IsRequest (l : Link) (a : Arrival) (v : SequenceNumber) : Type 0 where
+  pub type : a .type ≡ code "D"
+  pub allowed : allAllowed (a .content) ≡ true
+  pub reads : ReadsControl (a .content) v
+  pub carries : Carries l v (a .content)
 
-abbrev pub asBlock : Settings → Answer → List ℕ
-asBlock g (replies v c n) = blockOf g (code "D") (answerMessage (textOf v) c n)
-asBlock g (refuses n) = nakBlock g n
+-- an answer, or an N block
+pub record IsAnswer (a : Arrival) (v : SequenceNumber) (c : Code) (n : SequenceNumber) : Type 0 where
+  pub type : a .type ≡ code "D"
+  pub reads : ReadsAnswer (a .content) c (textOf v) n
+
+abbrev pub IsReply : Arrival → Answer → Type 0
+IsReply a (replies v c n) = IsAnswer a v c n
+IsReply a (refuses k) = a .type ≡ code "N"
+
+-- a reply that is still to be sent, as a block
+pub record IsBlock (g : Settings) (b : List ℕ) (r : Answer) : Type 0 where
+  pub type : ℕ
+  pub content : List ℕ
+  pub is : b ≡ blockOf g type content
+  pub writable : Writable g type content
+  pub reply : IsReply (arrival (typeRead g type) content) r
 
 -- ---- what can be named, and what can be said
 pub data Nameable (f : ℕ) : SequenceNumber → Type 0 where
@@ -58,10 +76,6 @@ pub data Nameable (f : ℕ) : SequenceNumber → Type 0 where
 pub record SayableAnswer (v n : SequenceNumber) : Type 0 where
   pub control : validControlId (textOf v) ≡ true
   pub number : answerable n ≡ true
-
-abbrev pub Sayable : Settings → Answer → Type 0
-Sayable g (replies v c n) = SayableAnswer v n
-Sayable g (refuses n) = g .kind ≡ Hybrid
 
 nak-matches : (r : ℕ) → isReason (r ∷ []) ≡ true → typeValid Hybrid (code "N") (r ∷ []) ≡ true
 unfolding typeMatches
@@ -142,6 +156,29 @@ module _ (l : Link) (rd : Ready l) where
   request-control v x =
       let r = request-reads v x in
       subst (λ (id : List ℕ). validControlId id ≡ true) (r .id-read) (handed-out (requestOf l v) (r .readable))
+
+  -- the request that is written for v
+  pub request-is : (v : SequenceNumber) → Nameable (l .first) v → IsRequest l (arrival (typeRead (l .settings) (code "D")) (requestOf l v)) v
+  request-is v x = record { type = data-read (l .settings) (rd .settings); allowed = request-writable v x .bytes; reads = request-reads v x; carries = carried v }
+    where
+      carried : (v : SequenceNumber) → Carries l v (requestOf l v)
+      carried MinusOne = refl
+      carried (Number n) = λ a. transaction-is n a
+
+-- ---- the blocks that the receiver writes
+module _ (g : Settings) (h : validLink g ≡ true) where
+  pub answer-block : (v : SequenceNumber) (c : Code) (n : SequenceNumber) → SayableAnswer v n → IsBlock g (blockOf g (code "D") (answerMessage (textOf v) c n)) (replies v c n)
+  answer-block v c n s =
+      record {
+        type = code "D";
+        content = answerMessage (textOf v) c n;
+        is = refl;
+        writable = answer-writable g h v c n s;
+        reply = record { type = data-read g h; reads = answer-reads-back (textOf v) c n (s .control) (s .number) };
+      }
+
+  pub nak-block : (n : ℕ) → g .kind ≡ Hybrid → IsBlock g (nakBlock g n) (refuses n)
+  nak-block n k = record { type = code "N"; content = reasonOf n ∷ []; is = refl; writable = nak-writable g h n k; reply = nak-read g h k }
 
 pub block-some : (g : Settings) (t : ℕ) (d : List ℕ) → eqb (length (blockOf g t d)) 0 ≡ false
 unfolding blockOf hybridBlock minimalBlock

@@ -39,6 +39,7 @@ use Rattle.sender.specs.declared.Event.{Event}
 use Rattle.sender.specs.declared.Event.the-variants.{NoEvent, Delivered}
 use Rattle.sender.specs.declared.Acted.{Acted}
 use Rattle.link.specs.SenderActs.{senderAt, afterCrash}
+use Rattle.link.specs.Duties.{every}
 use Rattle.link.specs.SenderHistory.{Entry, reported}
 use Rattle.link.specs.Line.{emptyLine}
 use Rattle.link.specs.System.{Link, System, Stored, stored, receiving, link, startOf, requestOf, namedAfter, circuitOpened, hasWith, opens, submits, senderPersists, afterAct}
@@ -112,6 +113,7 @@ module _ (l : Link) (rd : Ready l) where
       let a = rd .first-least in
       let i = t .is in
       let y = quietAt (sendingAt (afterCrash (before (t .last))) [] (t .history)) (stored e []) resting resting in
+      let next = submits (l .settings .«data_limit») (l .log (t .last + 1)) in
       let k = submit-is (before (t .last)) (before-valid (t .last) (omega arith) (omega arith)) refl (omega arith) (omega arith) in
       record {
         last = t .last + 1;
@@ -119,8 +121,8 @@ module _ (l : Link) (rd : Ready l) where
         history = reported (acted (afterCrash (submitted (before (t .last)))) Nothing NoEvent) ∷ t .history;
         run =
             join l (t .run)
-            (join l (act l submits y)
-            (to l (act l senderPersists (afterAct l submits y)) (ap (λ (x : Acted). quietAt (sendingAt (x .sender) (namedAfter [] x) (reported x ∷ t .history)) (stored e []) resting resting) k)));
+            (join l (act l next y)
+            (to l (act l senderPersists (afterAct every l next y)) (ap (λ (x : Acted). quietAt (sendingAt (x .sender) (namedAfter [] x) (reported x ∷ t .history)) (stored e []) resting resting) k)));
       }
 
   -- ---- a stage: so many are delivered, and the next waits, or nothing does
@@ -141,7 +143,7 @@ module _ (l : Link) (rd : Ready l) where
   module _ (a : Application) (y : System) where
     -- ---- the first exchange of a circuit, from ends that have persisted all and hold nothing else
     module _ (q : Persisted) (hist : List Entry) (d : Stored) (vd : validExpected (d .expected) ≡ true) (z : validSender (afterCrash q) ≡ true) (unfrozen : q .frozen ≡ false)
-        (here : Reaches l y (link (sendingAt (afterCrash q) [] hist) (receiving d d []) emptyLine emptyLine)) where
+        (here : Reaches l y (link (sendingAt (afterCrash q) [] hist) (receiving d d [] []) emptyLine emptyLine)) where
       open-is : (b : Bool) → q .resynchronized ≡ b → openOf (afterCrash q) ≡ beginsToWait q (firstWaiting b) NoEvent
       unfolding openOf
       open-is true e = rw (z, unfrozen, e)
@@ -152,12 +154,12 @@ module _ (l : Link) (rd : Ready l) where
       opened b e = record { far = resting; own = resting; run = go b (open-is b e) }
         where
           t : System
-          t = link (sendingAt (afterCrash q) [] hist) (receiving d d []) emptyLine emptyLine
+          t = link (sendingAt (afterCrash q) [] hist) (receiving d d [] []) emptyLine emptyLine
 
           go : (b : Bool) → openOf (afterCrash q) ≡ beginsToWait q (firstWaiting b) NoEvent
               → Reaches l y (quietAt (sendingAt (senderAt q (firstWaiting b) 1) (firstMessage b ∷ []) (reported (beginsToWait q (firstWaiting b) NoEvent) ∷ hist)) d resting resting)
-          go true i = join l here (to l (act l opens t) (ap (λ (x : Acted). circuitOpened t x) i))
-          go false i = join l here (to l (act l opens t) (ap (λ (x : Acted). circuitOpened t x) i))
+          go true i = join l here (to l (act l opens t) (ap (λ (x : Acted). circuitOpened every t x) i))
+          go false i = join l here (to l (act l opens t) (ap (λ (x : Acted). circuitOpened every t x) i))
 
       waiting-valid : (b : Bool) → q .resynchronized ≡ b → validSender (senderAt q (firstWaiting b) 1) ≡ true
       waiting-valid b e = right-valid (senderAt q (firstWaiting b) 1) (record { stored = right-from (afterCrash q) z .stored; waits = go b e })

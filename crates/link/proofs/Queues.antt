@@ -27,10 +27,40 @@ pub sub-all : {A : Type 0} (xs : List A) → Sub xs xs
 sub-all [] = empty
 sub-all (x ∷ xs) = keep (sub-all xs)
 
+pub sub-none : {A : Type 0} (l : List A) → Sub [] l
+sub-none [] = empty
+sub-none (x ∷ l) = skip (sub-none l)
+
 pub all-sub : {A : Type 0} {P : A → Type 0} {xs ys : List A} → Sub xs ys → All P ys → All P xs
 all-sub empty none = none
 all-sub (skip s) (more p ps) = all-sub s ps
 all-sub (keep s) (more p ps) = more p (all-sub s ps)
+
+-- each one is among others, in any order and any number of times
+pub data In {A : Type 0} (x : A) : List A → Type 0 where
+  here : {ys : List A} → In x (x ∷ ys)
+  there : {y : A} {ys : List A} → In x ys → In x (y ∷ ys)
+
+pub data Among {A : Type 0} : List A → List A → Type 0 where
+  nobody : {ys : List A} → Among [] ys
+  one : {x : A} {xs ys : List A} → In x ys → Among xs ys → Among (x ∷ xs) ys
+
+pub all-in : {A : Type 0} {P : A → Type 0} {x : A} {ys : List A} → In x ys → All P ys → P x
+all-in here (more p ps) = p
+all-in (there i) (more p ps) = all-in i ps
+
+pub all-among : {A : Type 0} {P : A → Type 0} {xs ys : List A} → Among xs ys → All P ys → All P xs
+all-among nobody ps = none
+all-among (one i a) ps = more (all-in i ps) (all-among a ps)
+
+pub among-more : {A : Type 0} {y : A} {xs ys : List A} → Among xs ys → Among xs (y ∷ ys)
+among-more nobody = nobody
+among-more (one i a) = one (there i) (among-more a)
+
+pub sub-among : {A : Type 0} {xs ys : List A} → Sub xs ys → Among xs ys
+sub-among empty = nobody
+sub-among (skip s) = among-more (sub-among s)
+sub-among (keep s) = one here (among-more (sub-among s))
 
 pub all-map : {A : Type 0} {P Q : A → Type 0} {xs : List A} → ((x : A) → P x → Q x) → All P xs → All Q xs
 all-map f none = none
@@ -56,6 +86,56 @@ all-head (more p ps) = p
 
 pub all-tail : {A : Type 0} {P : A → Type 0} {x : A} {xs : List A} → All P (x ∷ xs) → All P xs
 all-tail (more p ps) = ps
+
+-- ---- two lists, of which each one of the first is related to the one of the second at its place
+pub data Each {A B : Type 0} (R : A → B → Type 0) : List A → List B → Type 0 where
+  each-none : Each R [] []
+  each-more : {x : A} {y : B} {xs : List A} {ys : List B} → R x y → Each R xs ys → Each R (x ∷ xs) (y ∷ ys)
+
+pub each-end : {A B : Type 0} {R : A → B → Type 0} {xs : List A} {ys : List B} {x : A} {y : B} → Each R xs ys → R x y → Each R (xs ++ x ∷ []) (ys ++ y ∷ [])
+each-end each-none q = each-more q each-none
+each-end (each-more p ps) q = each-more p (each-end ps q)
+
+pub data Front {A B : Type 0} (R : A → B → Type 0) (x : A) (xs : List A) (ys : List B) : Type 0 where
+  front : (z : B) (zs : List B) → ys ≡ z ∷ zs → R x z → Each R xs zs → Front R x xs ys
+
+pub each-front : {A B : Type 0} {R : A → B → Type 0} {x : A} {xs : List A} {ys : List B} → Each R (x ∷ xs) ys → Front R x xs ys
+each-front (each-more {y = z} {ys = zs} p ps) = front z zs refl p ps
+
+-- some of the first have some of the second, and others of the first others of the second
+pub data Some {A B : Type 0} (R : A → B → Type 0) (xs : List A) (ys : List B) : Type 0 where
+  some : (zs : List B) → Sub zs ys → Each R xs zs → Some R xs ys
+
+pub each-sub : {A B : Type 0} {R : A → B → Type 0} {vs xs : List A} {ys : List B} → Sub vs xs → Each R xs ys → Some R vs ys
+each-sub empty each-none = some [] empty each-none
+each-sub {R = R} {vs = vs} (skip s) (each-more {y = y} {ys = ys} p ps) = go (each-sub s ps)
+  where
+    go : Some R vs ys → Some R vs (y ∷ ys)
+    go (some zs a e) = some zs (skip a) e
+each-sub {R = R} (keep {x = x} {xs = us} s) (each-more {y = y} {ys = ys} p ps) = go (each-sub s ps)
+  where
+    go : Some R us ys → Some R (x ∷ us) (y ∷ ys)
+    go (some zs a e) = some (y ∷ zs) (keep a) (each-more p e)
+
+pub data Found {A B : Type 0} (R : A → B → Type 0) (x : A) (ys : List B) : Type 0 where
+  found : (y : B) → In y ys → R x y → Found R x ys
+
+pub each-in : {A B : Type 0} {R : A → B → Type 0} {x : A} {xs : List A} {ys : List B} → In x xs → Each R xs ys → Found R x ys
+each-in here (each-more {y = y} p ps) = found y here p
+each-in {R = R} {x = x} (there i) (each-more {y = z} {ys = ys} p ps) = go (each-in i ps)
+  where
+    go : Found R x ys → Found R x (z ∷ ys)
+    go (found y j r) = found y (there j) r
+
+pub data Others {A B : Type 0} (R : A → B → Type 0) (xs : List A) (ys : List B) : Type 0 where
+  others : (zs : List B) → Among zs ys → Each R xs zs → Others R xs ys
+
+pub each-among : {A B : Type 0} {R : A → B → Type 0} {vs xs : List A} {ys : List B} → Among vs xs → Each R xs ys → Others R vs ys
+each-among nobody e = others [] nobody each-none
+each-among {R = R} {ys = ys} (one {x = x} {xs = us} i a) e = go (each-in i e) (each-among a e)
+  where
+    go : Found R x ys → Others R us ys → Others R (x ∷ us) ys
+    go (found y j r) (others zs b f) = others (y ∷ zs) (one j b) (each-more r f)
 
 -- ---- requests
 abbrev pub IsMinusOne : SequenceNumber → Type 0
@@ -106,6 +186,13 @@ module _ (f : ℕ) where
   good-sub p a (keep s) (good-minus e g) = good-minus e (good-sub p a s g)
   good-sub p a (keep s) (good-zero e g) = good-zero e (good-sub p a s g)
   good-sub p a (keep s) (good-number l m n g) = good-number l m n (good-sub p (omega arith) s g)
+
+  -- what stands before others
+  pub good-front : {h : ℕ} (xs p : List SequenceNumber) → Good f h (xs ++ p) → Good f h xs
+  good-front [] p g = good-none
+  good-front (v ∷ xs) p (good-minus e g) = good-minus e (good-front xs p g)
+  good-front (v ∷ xs) p (good-zero e g) = good-zero e (good-front xs p g)
+  good-front (v ∷ xs) p (good-number l m n g) = good-number l m n (good-front xs p g)
 
   -- what stands behind others, for a receiver that has no more
   pub good-behind : {h : ℕ} (xs p : List SequenceNumber) (k : ℕ) → f ≤ k → k ≤ h → Good f h (xs ++ p) → Good f k p

@@ -1,16 +1,17 @@
 -- Demand 3, of every run: "It sends at once what waits .. and reports how many it made."
 use mathlib.Core.Path.{_≡_, refl, sym, ap, _∙_, subst}
 use mathlib.Core.List.{List, [], _∷_}
-use mathlib.Core.Bool.{true}
+use mathlib.Core.Bool.{Bool, true, false, cond, _&&_}
 use mathlib.Core.Logic.{_⊎_, inl, inr}
 use Prim.Native.Nat.{ℕ, _+_, _≤_, _<_}
 use native.Mathlib.Omega.{arith}
 use lib.Dec.{eqb}
+use borrow.Author.Tests.{eq-eqb, ne-eqb}
 use Rattle.lists.proofs.Tests.{cond-ind}
 use Rattle.numbers.specs.declared.SequenceNumber.{SequenceNumber}
 use Rattle.numbers.specs.declared.SequenceNumber.the-variants.{Number}
 use Rattle.stream.specs.Stream.{Judged}
-use Rattle.receiver.specs.Receiver.{validExpected}
+use Rattle.receiver.specs.Receiver.{validExpected, receiveOf}
 use Rattle.receiver.specs.declared.Application.{Application}
 use Rattle.receiver.specs.declared.Expected.{Expected}
 use Rattle.sender.specs.Sender.{validSender, waitingMessage, waitsOf, openOf}
@@ -19,20 +20,22 @@ use Rattle.sender.specs.declared.Waiting.{Waiting}
 use Rattle.sender.specs.declared.Waiting.the-variants.{Closed, Idle, Resynchronizing, Querying, Sending}
 use Rattle.sender.specs.declared.Sender.{Sender}
 use Rattle.sender.specs.declared.NumberedMessage.{NumberedMessage}
-use Rattle.sender.specs.declared.NumberedMessage.the-variants.{Numbered}
+use Rattle.sender.specs.declared.NumberedMessage.the-variants.{Nothing, Numbered}
 use Rattle.sender.specs.declared.Event.{Event}
-use Rattle.link.specs.SenderActs.{Act, opened, ended, reset, timer, block, submit, actOf, resendsOf, afterCrash}
-use Rattle.link.specs.SenderHistory.{Entry, reported, crashed, isAbandoned, sendsToReport}
+use Rattle.sender.specs.declared.Acted.{Acted}
+use Rattle.link.specs.SenderActs.{Act, opened, ended, reset, timer, block, submit, actOf, fallsDue, resendsOf, afterCrash}
+use Rattle.link.specs.SenderHistory.{Entry, reported, crashed, countedOf, isAbandoned, sendsToReport}
 use Rattle.link.proofs.Facts.{not-both}
 use Rattle.link.proofs.SenderValid.{right-from, WaitsRight}
 use Rattle.link.proofs.SenderSteps.{Step, refuses, keeps, starts, resends, abandons, shuts, steps}
-use Rattle.link.proofs.SenderInvariant.{act-valid}
-use Rattle.link.proofs.SenderCounts.{Counts, counts-step, reported-right, few-step, up-step}
-use Rattle.link.specs.Line.{readsByte, damages}
-use Rattle.link.specs.System.{Link, System, SendingEnd, startOf, actedEnd, samePersisted, requestWritten, sameStored, replyWritten, answersRead, senderRead}
-use Rattle.link.specs.System.{receiverRead, SystemAct, opens, ends, resets, submits}
-use Rattle.link.specs.System.{timer as timerRuns, senderPersists, senderWrites, senderReads, senderCrashes, receiverReads, receiverPersists, receiverWrites}
-use Rattle.link.specs.System.{receiverCrashes, damagesForward, damagesBack, afterAct, runOf}
+use Rattle.link.proofs.SenderCounts.{Counts, count-is, counts-step, reported-right, few-step, up-step}
+use Rattle.link.proofs.SenderDue.{only-due, due-as-timer, timer-abandons}
+use Rattle.link.specs.Duties.{every, oneAt, othersAt}
+use Rattle.link.specs.Line.{damages, disorders}
+use Rattle.link.specs.System.{Link, System, SendingEnd, startOf, samePersisted, requestWritten, sameStored, replyWritten, senderRead, answerTaken, receiverRead, requestTaken}
+use Rattle.link.specs.System.{SystemAct, opens, ends, resets, submits, timer as timerRuns, senderPersists, senderWrites, senderReads, senderActs, senderDiscards, senderRestores, senderCrashes}
+use Rattle.link.specs.System.{receiverReads, receiverActs, receiverDiscards, receiverPersists, receiverWrites, receiverRestores, receiverCrashes, damagesForward, damagesBack}
+use Rattle.link.specs.System.{persistsNumber, persistsTransactions, revertsTo, bringsLate, afterAct, runOf}
 use Rattle.link.specs.Promise.{Ready}
 use Rattle.link.proofs.Safety.{run-keeps}
 
@@ -42,54 +45,68 @@ module _ (l : Link) (P : Sender → Persisted → List Entry → Type 0)
   abbrev At : SendingEnd → Type 0
   At e = P (e .sender) (e .persisted) (e .history)
 
-  answers-at : (ws : List Judged) (e : SendingEnd) → validSender (e .sender) ≡ true → At e → At (answersRead l e ws)
-  answers-at [] e v c = c
-  answers-at (w ∷ ws) e v c =
-      let a = block (l .resends) (w .verdict) (w .content) in
-      answers-at ws (actedEnd e (actOf a (e .sender))) (act-valid a (e .sender) v) (acts (e .sender) (e .persisted) (e .history) v c a (omega arith))
-
   module _ (y : System) (v : validSender (y .sending .sender) ≡ true) (now : At (y .sending)) (persists : P (y .sending .sender) (y .sending .sender .persisted) (y .sending .history))
       (crashes : P (afterCrash (y .sending .persisted)) (y .sending .persisted) (crashed ∷ y .sending .history)) where
     by : (a : Act) → resendsOf a ≤ l .resends
         → P (actOf a (y .sending .sender) .sender) (y .sending .persisted) (reported (actOf a (y .sending .sender)) ∷ y .sending .history)
     by = acts (y .sending .sender) (y .sending .persisted) (y .sending .history) v now
 
-    written : (vs : List SequenceNumber) → At (requestWritten l y vs .sending)
-    written [] = now
-    written (x ∷ vs) = cond-ind (λ (z : System). At (z .sending)) (samePersisted (y .sending .sender .persisted) (y .sending .persisted)) _ _ (λ z. now) (λ z. now)
+    written : (ws vs : List SequenceNumber) → At (requestWritten every l y ws vs .sending)
+    written [] vs = now
+    written (x ∷ xs) vs = cond-ind (λ (z : System). At (z .sending)) (samePersisted (y .sending .sender .persisted) (y .sending .persisted)) _ _ (λ z. now) (λ z. now)
 
-    replied : (bs : List (List ℕ)) → At (replyWritten y bs .sending)
+    replied : (bs : List (List ℕ)) → At (replyWritten every y bs .sending)
     replied [] = now
     replied (b ∷ bs) = cond-ind (λ (z : System). At (z .sending)) (sameStored (y .receiving .volatile) (y .receiving .persisted)) _ _ (λ z. now) (λ z. now)
 
     answer-read : (xs : List ℕ) → At (senderRead l y xs .sending)
     answer-read [] = now
-    answer-read (x ∷ xs) = answers-at (readsByte (l .settings) (y .back .reader) x .says) (y .sending) v now
+    answer-read (x ∷ xs) = now
 
-    request-read : (a : Application) (xs : List ℕ) → At (receiverRead l a y xs .sending)
-    request-read a [] = now
-    request-read a (x ∷ xs) = now
+    answer-taken : (ws vs : List Judged) → At (answerTaken l y ws vs .sending)
+    answer-taken [] vs = now
+    answer-taken (w ∷ ws) vs = by (block (l .resends) (w .verdict) (w .content)) (omega arith)
 
-    at-after : (d : SystemAct) → At (afterAct l d y .sending)
+    request-read : (xs : List ℕ) → At (receiverRead l y xs .sending)
+    request-read [] = now
+    request-read (x ∷ xs) = now
+
+    request-taken : (a : Application) (start : ℕ) (b : List ℕ) (ws vs : List Judged) → At (requestTaken every l a start b y ws vs .sending)
+    request-taken a start b [] vs = now
+    request-taken a start b (w ∷ ws) vs =
+        cond-ind (λ (z : System). At (z .sending))
+        (eqb (receiveOf (l .settings) a (y .receiving .volatile .expected) (w .verdict) (w .content) start b .answer .refusal) 0) _ _ (λ z. now) (λ z. now)
+
+    at-after : (d : SystemAct) → At (afterAct every l d y .sending)
     at-after opens = cond-ind (λ (z : System). At (z .sending)) (eqb (openOf (y .sending .sender) .refusal) 0) _ _ (λ z. by opened (omega arith)) (λ z. by opened (omega arith))
     at-after ends = by ended (omega arith)
     at-after resets = by reset (omega arith)
     at-after timerRuns = by (timer (l .resends)) (omega arith)
-    at-after submits = by (submit (l .settings .«data_limit») (l .log (y .sending .sender .persisted .last + 1))) (omega arith)
+    at-after (submits limit d) = by (submit limit d) (omega arith)
     at-after senderPersists = persists
-    at-after senderWrites = written (y .sending .named)
     at-after senderReads = answer-read (y .back .bytes)
+    at-after senderRestores = crashes
     at-after senderCrashes = crashes
-    at-after (receiverReads a) = request-read a (y .forward .bytes)
+    at-after receiverReads = request-read (y .forward .bytes)
     at-after receiverPersists = now
     at-after receiverWrites = replied (y .receiving .pending)
+    at-after receiverRestores = now
     at-after receiverCrashes = now
+    at-after (senderWrites n) = written (oneAt 0 (y .sending .named)) (othersAt 0 (y .sending .named))
+    at-after (senderActs n) = answer-taken (oneAt n (y .sending .arrived)) (othersAt n (y .sending .arrived))
+    at-after (senderDiscards n) = now
+    at-after (receiverDiscards n) = now
+    at-after (receiverActs n a start b) = request-taken a start b (oneAt 0 (y .receiving .arrived)) (othersAt 0 (y .receiving .arrived))
     at-after (damagesForward b) = cond-ind (λ (z : System). At (z .sending)) (damages (l .settings) (y .forward) b) _ _ (λ z. now) (λ z. now)
-    at-after (damagesBack b) = cond-ind (λ (z : System). At (z .sending)) (damages (l .settings) (y .back) b) _ _ (λ z. now) (λ z. now)
+    at-after (damagesBack b) = cond-ind (λ (z : System). At (z .sending)) (disorders (l .settings) (y .back) b) _ _ (λ z. now) (λ z. now)
+    at-after persistsNumber = now
+    at-after persistsTransactions = now
+    at-after (revertsTo p) = now
+    at-after (bringsLate b) = now
 
 module _ (l : Link) (rd : Ready l) (e : Expected) (v : validExpected e ≡ true) where
   abbrev at : List SystemAct → System
-  at ds = runOf l (startOf l e) ds
+  at ds = runOf every l (startOf l e) ds
 
   pub run-valid : (ds : List SystemAct) → validSender (at ds .sending .sender) ≡ true
   run-valid ds = run-keeps l rd e v ds .ends .valid
@@ -172,3 +189,43 @@ module _ (l : Link) (rd : Ready l) (e : Expected) (v : validExpected e ≡ true)
       let x = few-step (l .resends) (omega arith) (run-within ds) t .reported in
       let y = up-step t u in
       omega arith
+
+  -- the sends by the history are the sends that the sender has counted
+  counted-is : (ds : List SystemAct) → countedOf (waitsOf (at ds .sending .sender)) (at ds .sending .history) ≡ at ds .sending .sender .sends
+  counted-is ds =
+      let s = at ds .sending .sender in
+      sym (count-is (s .persisted) (s .waiting) (s .sends) (at ds .sending .history) (right-from s (run-valid ds) .waits) (run-counts ds))
+
+  -- as one equation: an act gives up exactly when a resend falls due with it and r + 1 sends were made, by the history, of what waits
+  pub abandons-exactly : (ds : List SystemAct) (a : Act) → (fallsDue a ≡ true → resendsOf a ≡ l .resends)
+      → isAbandoned (actOf a (at ds .sending .sender) .event) ≡ (fallsDue a && eqb (countedOf (waitsOf (at ds .sending .sender)) (at ds .sending .history)) (l .resends + 1))
+  abandons-exactly ds a given = go (isAbandoned (actOf a (at ds .sending .sender) .event)) refl
+    where
+      spent : isAbandoned (actOf a (at ds .sending .sender) .event) ≡ true → countedOf (waitsOf (at ds .sending .sender)) (at ds .sending .history) ≡ l .resends + 1
+      spent u =
+          let b = actOf a (at ds .sending .sender) in
+          let told : b .sends ≡ countedOf (waitsOf (at ds .sending .sender)) (at ds .sending .history) =
+          reports ds a ∙ ap (λ (z : Bool). cond z (countedOf (waitsOf (at ds .sending .sender)) (at ds .sending .history)) (countedOf (waitsOf (b .sender)) (reported b ∷ at ds .sending .history))) u in
+          sym told ∙ abandons-spent ds a (given (only-due a (at ds .sending .sender) u)) u
+
+      waiting : (w : NumberedMessage) → waitsOf (at ds .sending .sender) ≡ w → fallsDue a ≡ true → at ds .sending .sender .sends ≡ l .resends + 1
+          → isAbandoned (actOf a (at ds .sending .sender) .event) ≡ true
+      waiting Nothing w d e =
+          let none : 0 ≡ at ds .sending .sender .sends = ap (λ (m : NumberedMessage). countedOf m (at ds .sending .history)) (sym w) ∙ counted-is ds in
+          absurd (omega arith)
+      waiting (Numbered m) w d e =
+          let s = at ds .sending .sender in
+          ap isAbandoned (due-as-timer (l .resends) s (rd .resends) (run-valid ds) m w a d (given d))
+          ∙ ap (λ (b : Acted). isAbandoned (b .event)) (timer-abandons (l .resends) s (rd .resends) (run-valid ds) m w (omega arith))
+
+      unspent : isAbandoned (actOf a (at ds .sending .sender) .event) ≡ false → (d : Bool) → fallsDue a ≡ d
+          → (d && eqb (countedOf (waitsOf (at ds .sending .sender)) (at ds .sending .history)) (l .resends + 1)) ≡ false
+      unspent u false d = refl
+      unspent u true d =
+          ne-eqb (countedOf (waitsOf (at ds .sending .sender)) (at ds .sending .history)) (l .resends + 1)
+          (λ z. not-both (sym (waiting (waitsOf (at ds .sending .sender)) refl d (sym (counted-is ds) ∙ z)) ∙ u))
+
+      go : (b : Bool) → isAbandoned (actOf a (at ds .sending .sender) .event) ≡ b
+          → isAbandoned (actOf a (at ds .sending .sender) .event) ≡ (fallsDue a && eqb (countedOf (waitsOf (at ds .sending .sender)) (at ds .sending .history)) (l .resends + 1))
+      go true u = u ∙ sym (rw (only-due a (at ds .sending .sender) u, eq-eqb (countedOf (waitsOf (at ds .sending .sender)) (at ds .sending .history)) (l .resends + 1) (spent u)))
+      go false u = u ∙ sym (unspent u (fallsDue a) refl)

@@ -23,6 +23,7 @@ use Rattle.sender.specs.declared.Waiting.the-variants.{Closed, Querying}
 use Rattle.sender.specs.declared.Event.{Event}
 use Rattle.sender.specs.declared.Event.the-variants.{NoEvent, DeliveredUnknown}
 use Rattle.link.specs.SenderActs.{senderAt, afterCrash}
+use Rattle.link.specs.Duties.{every}
 use Rattle.link.specs.SenderHistory.{crashed}
 use Rattle.link.specs.Line.{emptyLine}
 use Rattle.link.specs.System.{Link, System, Stored, stored, receiving, link, startOf, requestOf, SystemAct, senderCrashes, receiverCrashes, afterAct, runOf}
@@ -80,7 +81,7 @@ module _ (l : Link) (rd : Ready l) (a : Application) (y : System) where
   all-from total h (suc k) n e t = all-from total h k (suc n) (omega arith) (step total n h (omega arith) t)
 
   -- ---- from where the run is
-  module _ (i : Inv l y [] []) where
+  module _ (i : Inv l y) where
     abbrev q : Persisted
     q = y .sending .persisted
 
@@ -100,8 +101,8 @@ module _ (l : Link) (rd : Ready l) (a : Application) (y : System) where
     core : Core (l .first) (books (y .sending .persisted) (y .sending .persisted) Closed [] reached reached [] [] [])
     core = crash-sender (crash-receiver (i .core))
 
-    here : Reaches l y (link (sendingAt (afterCrash (y .sending .persisted)) [] (crashed ∷ y .sending .history)) (receiving (y .receiving .persisted) (y .receiving .persisted) []) emptyLine emptyLine)
-    here = join l (act l receiverCrashes y) (act l senderCrashes (afterAct l receiverCrashes y))
+    here : Reaches l y (link (sendingAt (afterCrash (y .sending .persisted)) [] (crashed ∷ y .sending .history)) (receiving (y .receiving .persisted) (y .receiving .persisted) [] []) emptyLine emptyLine)
+    here = join l (act l receiverCrashes y) (act l senderCrashes (afterAct every l receiverCrashes y))
 
     total-is : l .first + (y .sending .persisted .last + 1 - l .first) ≡ y .sending .persisted .last + 1
     total-is = let n = core .numbers in omega arith
@@ -178,9 +179,9 @@ pub record Delivers (l : Link) (y : System) (total : ℕ) : Type 0 where
 
 module _ (l : Link) (rd : Ready l) (a : Application) (e : Expected) (v : validExpected e ≡ true) where
   -- "whatever is lost, damaged or cut off"
-  pub resumes : (ds : List SystemAct) → Delivers l (runOf l (startOf l e) ds) (runOf l (startOf l e) ds .sending .persisted .last + 1 - l .first)
+  pub resumes : (ds : List SystemAct) → Delivers l (runOf every l (startOf l e) ds) (runOf every l (startOf l e) ds .sending .persisted .last + 1 - l .first)
   resumes ds =
-      let y = runOf l (startOf l e) ds in
+      let y = runOf every l (startOf l e) ds in
       let t = all l rd a y (run-keeps l rd e v ds) in
       record { end = _; run = t .stage .comes .run; has = t .has; delivered = t .reached }
 
@@ -190,8 +191,8 @@ module _ (l : Link) (rd : Ready l) (a : Application) (e : Expected) (v : validEx
       let s = submitted-all l rd e n h in
       let i = s .is in
       let r = resumes (s .run .acts) in
-      let last : runOf l (startOf l e) (s .run .acts) .sending .persisted .last ≡ s .last = ap (λ (z : System). z .sending .persisted .last) (s .run .arrives) in
-      let total : runOf l (startOf l e) (s .run .acts) .sending .persisted .last + 1 - l .first ≡ n = omega arith in
+      let last : runOf every l (startOf l e) (s .run .acts) .sending .persisted .last ≡ s .last = ap (λ (z : System). z .sending .persisted .last) (s .run .arrives) in
+      let total : runOf every l (startOf l e) (s .run .acts) .sending .persisted .last + 1 - l .first ≡ n = omega arith in
       record {
         end = r .end;
         run = join l (record { acts = s .run .acts; arrives = refl }) (r .run);

@@ -118,7 +118,7 @@ reports (abandons j l w) = reported-before refl refl
 reports (shuts g j) = reported-after g refl
 
 -- the state's number is the history's count of what waits
-count-is : (p : Persisted) (w : Waiting) (n : ℕ) (h : List Entry) → WaitsRight p w n → ((m : SequenceNumber) → counted m h ≡ cond (is m (waitingMessage p w)) n 0)
+pub count-is : (p : Persisted) (w : Waiting) (n : ℕ) (h : List Entry) → WaitsRight p w n → ((m : SequenceNumber) → counted m h ≡ cond (is m (waitingMessage p w)) n 0)
     → n ≡ countedOf (waitingMessage p w) h
 count-is p Closed n h i c = i
 count-is p Idle n h i c = i .1 .none

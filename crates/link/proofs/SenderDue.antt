@@ -6,7 +6,7 @@ use Prim.Native.Nat.{ℕ, _+_, _-_, _≤_, _<_}
 use Prim.Native.Char.{code}
 use lib.ListN.{length}
 use lib.Dec.{ltb, leb, eqb}
-use borrow.Author.Tests.{lt-ltb, le-ltb}
+use borrow.Author.Tests.{lt-ltb, le-ltb, eqb-true}
 use Rattle.lists.proofs.Tests.{cond-ind}
 use Rattle.settings.specs.Settings.{validLinkLimit}
 use Rattle.settings.specs.DataBytes.{allAllowed}
@@ -41,7 +41,7 @@ use Rattle.sender.specs.declared.NumberedMessage.{NumberedMessage}
 use Rattle.sender.specs.declared.NumberedMessage.the-variants.{Nothing, Numbered}
 use Rattle.sender.specs.declared.Event.the-variants.{NoEvent}
 use Rattle.sender.specs.declared.Acted.{Acted}
-use Rattle.link.specs.SenderActs.{Act, opened, ended, reset, timer, block, submit, actOf, dueBlock, fallsDue}
+use Rattle.link.specs.SenderActs.{Act, opened, ended, reset, timer, block, submit, actOf, dueBlock, fallsDue, resendsOf}
 use Rattle.link.specs.SenderHistory.{isAbandoned}
 use Rattle.link.proofs.Facts.{not-both}
 use Rattle.link.proofs.SenderValid.{when-open-is}
@@ -212,3 +212,25 @@ only-due (timer r) s h = refl
 only-due (block r (Accepted t n) d) s h = accepted-due s r t n d h
 only-due (block r (Refused n i) d) s h = refl
 only-due (submit limit d) s h = not-both (sym h ∙ submit-quiet s limit d)
+
+-- ---- and each act with which a resend falls due does: what happens is what happens when the timer runs out
+module _ (r : ℕ) (s : Sender) (l : r ≤ 99) (v : validSender s ≡ true) (m : SequenceNumber) (w : waitsOf s ≡ Numbered m) where
+  block-due : (x : Verdict) (d : List ℕ) → dueBlock x d ≡ true → blockReadOf r s x d .event ≡ timerOf r s .event
+  block-due (Refused n i) d h = ap (λ (a : Acted). a .event) (block-in r s l v m w (Refused n i) d ∙ ap (withBlock n) (sym (timer-due r s l v m w)))
+  block-due (Accepted t n) d h = go (eqb t (code "N")) refl (acknowledgmentOf d) refl
+    where
+      go : (b : Bool) → eqb t (code "N") ≡ b → (k : Acknowledgment) → acknowledgmentOf d ≡ k → blockReadOf r s (Accepted t n) d .event ≡ timerOf r s .event
+      go true type k is =
+          ap (λ (j : ℕ). blockReadOf r s (Accepted j n) d .event) (eqb-true t (code "N") type) ∙ ap (λ (a : Acted). a .event) (nak-as-timer r s l v m w n d)
+      go false type NoAnswer is = ap (λ (a : Acted). a .event) (unreadable-as-timer r s l v m w t n d type is)
+      go false type (AnAnswer c i e) is =
+          let z : dueBlock (Accepted t n) d ≡ false = rw (type, is) in
+          not-both (sym h ∙ z)
+
+  pub due-as-timer : (a : Act) → fallsDue a ≡ true → resendsOf a ≡ r → actOf a s .event ≡ timerOf r s .event
+  due-as-timer opened h e = not-both (sym h)
+  due-as-timer ended h e = not-both (sym h)
+  due-as-timer reset h e = not-both (sym h)
+  due-as-timer (timer k) h e = ap (λ (j : ℕ). timerOf j s .event) e
+  due-as-timer (block k x d) h e = ap (λ (j : ℕ). blockReadOf j s x d .event) e ∙ block-due x d h
+  due-as-timer (submit limit d) h e = not-both (sym h)

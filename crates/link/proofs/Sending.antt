@@ -43,7 +43,7 @@ use Rattle.link.proofs.SenderValid.{WaitsRight, right-from}
 use Rattle.link.proofs.SenderSteps.{number-sent}
 use Rattle.link.specs.SenderActs.{senderAt}
 use Rattle.link.specs.System.{namedAfter}
-use Rattle.link.proofs.Queues.{all-head, Answer, skip, sub-all, replies, Given, ToNumber, to-zero, to-stored, to-repeat, NamesExpected, All}
+use Rattle.link.proofs.Queues.{all-head, Answer, skip, sub-all, sub-among, replies, Given, ToNumber, to-zero, to-stored, to-repeat, NamesExpected, All}
 use Rattle.link.proofs.Books.{Books, withSender, withLines, Core, Expects, old, unknown, next, close-circuit, lose-back}
 use Rattle.link.proofs.Naming.{quiet, send-next, rest, deliver, submit, synchronize, again-first, again-query}
 use Rattle.link.proofs.Texts.{text-is}
@@ -156,7 +156,7 @@ module _ (f : ℕ) (b : Books) where
     Before w = Core f (withLines (withSender b p w (b .named)) (b .forward) (replies v d m ∷ b .back))
 
     rid : {w : Waiting} → Before w → Now p w
-    rid c = lose-back c (skip (sub-all (b .back)))
+    rid c = lose-back c (sub-among (skip (sub-all (b .back))))
 
     given : {w : Waiting} (x : SequenceNumber) → v ≡ x → Before w → Given (b .stored) (replies x d m)
     given x y c = subst (λ (z : SequenceNumber). Given (b .stored) (replies z d m)) y (all-head (c .back))

@@ -1,7 +1,7 @@
+pub mod Duties
 pub mod Line
 pub mod System
 pub mod Promise
-pub mod Counterexamples
 pub mod Example
 pub mod SenderActs
 pub mod SenderHistory

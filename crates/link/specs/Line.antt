@@ -65,7 +65,20 @@ someOf [] ys = true
 someOf (x ∷ xs) [] = false
 someOf (x ∷ xs) (y ∷ ys) = cond (sameArrival x y) (someOf xs ys) (someOf (x ∷ xs) ys)
 
+-- whether each of the first is one of the second: in any order, and any number of times
+unfoldable pub oneOf : Arrival → List Arrival → Bool
+oneOf x [] = false
+oneOf x (y ∷ ys) = cond (sameArrival x y) true (oneOf x ys)
+
+unfoldable pub eachOf : List Arrival → List Arrival → Bool
+eachOf [] ys = true
+eachOf (x ∷ xs) ys = oneOf x ys && eachOf xs ys
+
 -- Loss and damage: any other bytes may come in place of those on the line, as many as you like, if no block is accepted that would not have been:
 -- all that changed is refused, by one refusal, by several, or by none until the next SB
 abbrev pub damages : Settings → Line → List ℕ → Bool
 damages g x ys = someOf (arriving g (line (x .reader) ys)) (arriving g x)
+
+-- and of answers, which need no order: they may come in another one, and repeatedly
+abbrev pub disorders : Settings → Line → List ℕ → Bool
+disorders g x ys = eachOf (arriving g (line (x .reader) ys)) (arriving g x)

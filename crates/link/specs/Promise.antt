@@ -11,8 +11,10 @@ use Rattle.numbers.specs.Numbers.{greatestSent}
 use Rattle.numbers.specs.declared.SequenceNumber.the-variants.{Number}
 use Rattle.messages.specs.Messages.{validType}
 use Rattle.message_theorems.specs.ReadBack.{ReadsControl}
-use Rattle.receiver.specs.Receiver.{replySpace}
-use Rattle.link.specs.System.{Link, System}
+use Rattle.receiver.specs.Receiver.{validExpected}
+use Rattle.receiver.specs.declared.Expected.{Expected}
+use Rattle.link.specs.Duties.{Duty, everyBut}
+use Rattle.link.specs.System.{Link, System, Remains, SystemAct, beginning, runOf}
 
 -- a message that the sender takes as the transaction n: it fits a block, and its MSH-10 and MSH-13 are n
 pub record Logged (g : Settings) (n : ℕ) (message : List ℕ) : Type 0 where
@@ -20,7 +22,7 @@ pub record Logged (g : Settings) (n : ℕ) (message : List ℕ) : Type 0 where
   pub allowed : allAllowed message ≡ true
   pub reads : ReadsControl message (Number n)
 
--- settings within their ranges, a log of such messages, and a buffer for replies
+-- settings within their ranges, and a log of such messages
 pub record Ready (l : Link) : Type 0 where
   pub settings : validLink (l .settings) ≡ true
   pub first-least : 1 ≤ l .first
@@ -28,7 +30,6 @@ pub record Ready (l : Link) : Type 0 where
   pub resends : l .resends ≤ 99
   pub name : validType (l .name) ≡ true
   pub logged : (n : ℕ) → l .first ≤ n → n ≤ greatestSent → Logged (l .settings) n (l .log n)
-  pub reply : replySpace (l .settings) ≤ length (l .reply)
 
 -- the first n transactions of the log, in order
 unfoldable pub transactions : Link → ℕ → List (List ℕ)
@@ -54,3 +55,11 @@ pub record Safe (l : Link) (y : System) : Type 0 where
   -- "The sender never freezes."
   pub unfrozen : y .sending .sender .persisted .frozen ≡ false
   pub persisted-unfrozen : y .sending .persisted .frozen ≡ false
+
+-- A duty is needed: where every other is kept, a run from a tenancy's beginning leads to a state of which the statement is false.
+pub record Needed (l : Link) (d : Duty) : Type 0 where
+  pub expected : Expected
+  pub valid : validExpected expected ≡ true
+  pub remains : Remains
+  pub acts : List SystemAct
+  pub broken : Safe l (runOf (everyBut d) l (beginning (everyBut d) l expected remains) acts) → ⊥

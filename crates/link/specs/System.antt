@@ -1,9 +1,9 @@
 -- Demand 3: one tenancy of a link. Two ends, each with what it has persisted and what a crash loses, a line in each direction, and hosts that persist what changed before the next block goes out.
 use mathlib.Core.List.{List, [], _∷_, _++_}
-use mathlib.Core.Bool.{Bool, true, false, cond, not, _&&_}
-use Prim.Native.Nat.{ℕ, _+_}
+use mathlib.Core.Bool.{Bool, true, false, cond, not, _&&_, _||_}
+use Prim.Native.Nat.{ℕ}
 use Prim.Native.Char.{code}
-use lib.ListN.{length, take}
+use lib.ListN.{length, take, drop}
 use lib.Dec.{eqb}
 use Rattle.lists.specs.Outcome.{Outcome}
 use Rattle.settings.specs.declared.Settings.{Settings}
@@ -29,34 +29,39 @@ use Rattle.sender.specs.declared.NumberedMessage.the-variants.{Nothing, Numbere
 use Rattle.sender.specs.declared.Acted.{Acted}
 use Rattle.link.specs.SenderActs.{afterCrash}
 use Rattle.link.specs.SenderHistory.{Entry, reported, crashed}
-use Rattle.link.specs.Line.{Line, line, emptyLine, readsByte, readerAfter, damages}
+use Rattle.link.specs.Line.{Line, line, newReader, emptyLine, readsByte, readerAfter, damages, disorders}
+use Rattle.link.specs.Duties.{Duty, exchanges, emptiesLines, dropsReplies, dropsVerdicts, bringsNothingLate, writesInOrder, offersInOrder}
+use Rattle.link.specs.Duties.{senderPersistsFirst, receiverPersistsFirst, persistsAsOne, decidesFromVolatile, dropsNamed, dropsUnpersisted, survives}
+use Rattle.link.specs.Duties.{every, dropped, place, oneAt, othersAt}
 
--- what stands fixed: the block settings of both ends, f, r, the type of control messages, the numbered log, and the buffer for replies
+-- what stands fixed: the block settings of both ends, f, r, the type of control messages, and the numbered log
 pub record Link : Type 0 where
   pub settings : Settings
   pub first : ℕ
   pub resends : ℕ
   pub name : MessageType
   pub log : ℕ → List ℕ
-  pub reply : List ℕ
 
--- the sender's end: the sender as it is held, and what of it is persisted; the messages named and not yet written; and, for the count, what happened
+-- the sender's end: the sender as it is held, and what of it is persisted; the messages named and not yet written; the verdicts read and not yet acted on;
+-- and, for the count, what happened
 pub record SendingEnd : Type 0 where
   pub sender : Sender
   pub persisted : Persisted
   pub named : List SequenceNumber
+  pub arrived : List Judged
   pub history : List Entry
 
--- what the receiver stores: the expected number, and the transactions
+-- the receiver with what it stores: the expected number, and the transactions
 pub record Stored : Type 0 where
   pub expected : Expected
   pub has : List (List ℕ)
 
--- the receiver's end: both as they are held, and as they are persisted; the reply blocks not yet sent
+-- the receiver's end: the receiver as it is held, and as it is persisted; the reply blocks not yet sent; the verdicts read and not yet acted on
 pub record ReceivingEnd : Type 0 where
   pub volatile : Stored
   pub persisted : Stored
   pub pending : List (List ℕ)
+  pub arrived : List Judged
 
 -- the two ends, and the line to the receiver and the line back
 pub record System : Type 0 where
@@ -65,28 +70,47 @@ pub record System : Type 0 where
   pub forward : Line
   pub back : Line
 
-abbrev pub sending : Sender → Persisted → List SequenceNumber → List Entry → SendingEnd
-sending s p vs h = record { sender = s; persisted = p; named = vs; history = h }
+abbrev pub sending : Sender → Persisted → List SequenceNumber → List Judged → List Entry → SendingEnd
+sending s p vs ws h = record { sender = s; persisted = p; named = vs; arrived = ws; history = h }
 
 abbrev pub stored : Expected → List (List ℕ) → Stored
 stored e ts = record { expected = e; has = ts }
 
-abbrev pub receiving : Stored → Stored → List (List ℕ) → ReceivingEnd
-receiving v p bs = record { volatile = v; persisted = p; pending = bs }
+abbrev pub receiving : Stored → Stored → List (List ℕ) → List Judged → ReceivingEnd
+receiving v p bs ws = record { volatile = v; persisted = p; pending = bs; arrived = ws }
 
 abbrev pub link : SendingEnd → ReceivingEnd → Line → Line → System
 link s e x b = record { sending = s; receiving = e; forward = x; back = b }
 
--- ends at which all is persisted and nothing is under way
-abbrev pub freshSending : Sender → SendingEnd
-freshSending s = sending s (s .persisted) [] []
+-- ---- beginnings
+-- what an earlier tenancy may have left: bytes on the lines, a reply not yet sent, verdicts not yet acted on
+pub record Remains : Type 0 where
+  pub forward : List ℕ
+  pub back : List ℕ
+  pub pending : List (List ℕ)
+  pub requests : List Judged
+  pub answers : List Judged
 
-abbrev pub freshReceiving : Expected → ReceivingEnd
-freshReceiving e = receiving (stored e []) (stored e []) []
+abbrev pub nothingLeft : Remains
+nothingLeft = record { forward = []; back = []; pending = []; requests = []; answers = [] }
 
--- "a receiver with none of it stored", expecting whatever an earlier tenant left
+-- a sender that takes the line for resynchronised, though no exchange was made on it
+abbrev pub presumes : Persisted → Persisted
+presumes p = record { first = p .first; delivered = p .delivered; last = p .last; resynchronized = true; frozen = p .frozen }
+
+abbrev pub firstPersisted : Bool → ℕ → Persisted
+firstPersisted b f = cond b (freshSender f .persisted) (presumes (freshSender f .persisted))
+
+-- a tenancy begins: the receiver expects whatever an earlier tenant left
+abbrev pub beginning : (Duty → Bool) → Link → Expected → Remains → System
+beginning h l e m =
+    let p = firstPersisted (h exchanges) (l .first) in
+    link (sending (afterCrash p) p [] (m .answers) []) (receiving (stored e []) (stored e []) (m .pending) (m .requests))
+    (line newReader (m .forward)) (line newReader (m .back))
+
+-- "a receiver with none of it stored", where nothing is left
 abbrev pub startOf : Link → Expected → System
-startOf l e = link (freshSending (freshSender (l .first))) (freshReceiving e) emptyLine emptyLine
+startOf l e = beginning every l e nothingLeft
 
 -- ---- the sender's end
 
@@ -103,20 +127,25 @@ sendsOf (Numbered v) = v ∷ []
 abbrev pub namedAfter : List SequenceNumber → Acted → List SequenceNumber
 namedAfter vs a = cond (isOpen (a .sender .waiting)) (vs ++ sendsOf (a .send)) []
 
-abbrev pub actedEnd : SendingEnd → Acted → SendingEnd
-actedEnd e a = sending (a .sender) (e .persisted) (namedAfter (e .named) a) (reported a ∷ e .history)
+-- ws: the verdicts still to be acted on
+abbrev pub actedEnd : SendingEnd → List Judged → Acted → SendingEnd
+actedEnd e ws a = sending (a .sender) (e .persisted) (namedAfter (e .named) a) ws (reported a ∷ e .history)
 
-abbrev pub senderActed : System → Acted → System
-senderActed y a = link (actedEnd (y .sending) a) (y .receiving) (y .forward) (y .back)
+abbrev pub senderActed : System → List Judged → Acted → System
+senderActed y ws a = link (actedEnd (y .sending) ws a) (y .receiving) (y .forward) (y .back)
+
+abbrev pub emptied : Bool → Line → Line
+emptied b x = cond b emptyLine x
 
 -- "at each new circuit, the line is empty, and a new circuit .. finds at neither end an answer still to be sent or a block half read"
-abbrev pub newCircuit : System → Acted → System
-newCircuit y a =
-    link (sending (a .sender) (y .sending .persisted) (sendsOf (a .send)) (reported a ∷ y .sending .history))
-    (receiving (y .receiving .volatile) (y .receiving .persisted) []) emptyLine emptyLine
+abbrev pub newCircuit : (Duty → Bool) → System → Acted → System
+newCircuit h y a =
+    link (sending (a .sender) (y .sending .persisted) (sendsOf (a .send)) (dropped (h dropsVerdicts) (y .sending .arrived)) (reported a ∷ y .sending .history))
+    (receiving (y .receiving .volatile) (y .receiving .persisted) (dropped (h dropsReplies) (y .receiving .pending)) (dropped (h dropsVerdicts) (y .receiving .arrived)))
+    (emptied (h emptiesLines) (y .forward)) (emptied (h emptiesLines) (y .back))
 
-abbrev pub circuitOpened : System → Acted → System
-circuitOpened y a = cond (eqb (a .refusal) 0) (newCircuit y a) (senderActed y a)
+abbrev pub circuitOpened : (Duty → Bool) → System → Acted → System
+circuitOpened h y a = cond (eqb (a .refusal) 0) (newCircuit h y a) (senderActed y (y .sending .arrived) a)
 
 abbrev pub sameFlag : Bool → Bool → Bool
 sameFlag true b = b
@@ -127,50 +156,62 @@ samePersisted p q =
     (eqb (p .first) (q .first) && (eqb (p .delivered) (q .delivered) && eqb (p .last) (q .last)))
     && (sameFlag (p .resynchronized) (q .resynchronized) && sameFlag (p .frozen) (q .frozen))
 
--- "each end stores what changed as one act before its next block goes out": the oldest message named is written, once what changed is persisted
-abbrev pub requestWritten : Link → System → List SequenceNumber → System
-requestWritten l y [] = y
-requestWritten l y (v ∷ vs) =
-    cond (samePersisted (y .sending .sender .persisted) (y .sending .persisted))
-    (link (sending (y .sending .sender) (y .sending .persisted) vs (y .sending .history)) (y .receiving)
+-- "each end stores what changed as one act before its next block goes out": the message v is written, once what changed is persisted; vs are left
+abbrev pub requestWritten : (Duty → Bool) → Link → System → List SequenceNumber → List SequenceNumber → System
+requestWritten h l y [] vs = y
+requestWritten h l y (v ∷ none) vs =
+    cond (not (h senderPersistsFirst) || samePersisted (y .sending .sender .persisted) (y .sending .persisted))
+    (link (sending (y .sending .sender) (y .sending .persisted) vs (y .sending .arrived) (y .sending .history)) (y .receiving)
     (line (y .forward .reader) (y .forward .bytes ++ blockOf (l .settings) (code "D") (requestOf l v))) (y .back)) y
 
--- the sender acts on each verdict that its reader gives
-abbrev pub answersRead : Link → SendingEnd → List Judged → SendingEnd
-answersRead l e [] = e
-answersRead l e (w ∷ ws) = answersRead l (actedEnd e (blockReadOf (l .resends) (e .sender) (w .verdict) (w .content))) ws
-
+-- the reader takes a byte
 abbrev pub senderRead : Link → System → List ℕ → System
 senderRead l y [] = y
 senderRead l y (x ∷ xs) =
-    link (answersRead l (y .sending) (readsByte (l .settings) (y .back .reader) x .says)) (y .receiving) (y .forward)
+    let e = y .sending in
+    link (sending (e .sender) (e .persisted) (e .named) (e .arrived ++ readsByte (l .settings) (y .back .reader) x .says) (e .history)) (y .receiving) (y .forward)
     (line (readerAfter (l .settings) (y .back .reader) x) xs)
+
+-- the sender acts on the verdict w; ws are left
+abbrev pub answerTaken : Link → System → List Judged → List Judged → System
+answerTaken l y [] ws = y
+answerTaken l y (w ∷ none) ws = senderActed y ws (blockReadOf (l .resends) (y .sending .sender) (w .verdict) (w .content))
+
+-- it goes on from what is persisted
+abbrev pub senderRestored : (Duty → Bool) → SendingEnd → List Judged → SendingEnd
+senderRestored h e ws = sending (afterCrash (e .persisted)) (e .persisted) (dropped (h dropsNamed) (e .named)) ws (crashed ∷ e .history)
 
 -- ---- the receiver's end
 abbrev pub hasWith : Transaction → List ℕ → List (List ℕ) → List (List ℕ)
 hasWith NoTransaction d ts = ts
 hasWith (Transacted n) d ts = ts ++ d ∷ []
 
--- the reply is what the act wrote into the buffer
-abbrev pub repliesOf : Outcome Received → List (List ℕ)
-repliesOf o = cond (eqb (o .answer .«reply_length») 0) [] (take (o .answer .«reply_length») (o .buffer) ∷ [])
+-- the reply is what the act wrote into the buffer, from the offset on
+abbrev pub repliesOf : ℕ → Outcome Received → List (List ℕ)
+repliesOf start o = cond (eqb (o .answer .«reply_length») 0) [] (take (o .answer .«reply_length») (drop start (o .buffer)) ∷ [])
 
-abbrev pub receivedWith : ReceivingEnd → List ℕ → Outcome Received → ReceivingEnd
-receivedWith e d o =
+abbrev pub receivedEnd : ReceivingEnd → List Judged → List ℕ → ℕ → Outcome Received → ReceivingEnd
+receivedEnd e ws d start o =
     receiving (stored (o .answer .persisted .expected) (hasWith (o .answer .persisted .transaction) d (e .volatile .has))) (e .persisted)
-    (e .pending ++ repliesOf o)
+    (e .pending ++ repliesOf start o) ws
 
--- the receiver acts on each verdict that its reader gives, from the state as it is held
-abbrev pub requestsRead : Link → Application → ReceivingEnd → List Judged → ReceivingEnd
-requestsRead l a e [] = e
-requestsRead l a e (w ∷ ws) =
-    requestsRead l a (receivedWith e (w .content) (receiveOf (l .settings) a (e .volatile .expected) (w .verdict) (w .content) 0 (l .reply))) ws
-
-abbrev pub receiverRead : Link → Application → System → List ℕ → System
-receiverRead l a y [] = y
-receiverRead l a y (x ∷ xs) =
-    link (y .sending) (requestsRead l a (y .receiving) (readsByte (l .settings) (y .forward .reader) x .says))
+abbrev pub receiverRead : Link → System → List ℕ → System
+receiverRead l y [] = y
+receiverRead l y (x ∷ xs) =
+    let e = y .receiving in
+    link (y .sending) (receiving (e .volatile) (e .persisted) (e .pending) (e .arrived ++ readsByte (l .settings) (y .forward .reader) x .says))
     (line (readerAfter (l .settings) (y .forward .reader) x) xs) (y .back)
+
+-- the state that a decision is made from
+abbrev pub decidesFrom : Bool → ReceivingEnd → Expected
+decidesFrom b e = cond b (e .volatile .expected) (e .persisted .expected)
+
+-- the receiver acts on the verdict w, with a buffer for the reply; ws are left. A block whose act is refused may be offered again
+abbrev pub requestTaken : (Duty → Bool) → Link → Application → ℕ → List ℕ → System → List Judged → List Judged → System
+requestTaken h l a start b y [] ws = y
+requestTaken h l a start b y (w ∷ none) ws =
+    let o = receiveOf (l .settings) a (decidesFrom (h decidesFromVolatile) (y .receiving)) (w .verdict) (w .content) start b in
+    cond (eqb (o .answer .refusal) 0) (link (y .sending) (receivedEnd (y .receiving) ws (w .content) start o) (y .forward) (y .back)) y
 
 abbrev pub sameExpected : Expected → Expected → Bool
 sameExpected Unknown Unknown = true
@@ -182,43 +223,80 @@ abbrev pub sameStored : Stored → Stored → Bool
 sameStored a b = sameExpected (a .expected) (b .expected) && eqb (length (a .has)) (length (b .has))
 
 -- the oldest reply goes out, once what changed is persisted
-abbrev pub replyWritten : System → List (List ℕ) → System
-replyWritten y [] = y
-replyWritten y (b ∷ bs) =
-    cond (sameStored (y .receiving .volatile) (y .receiving .persisted))
-    (link (y .sending) (receiving (y .receiving .volatile) (y .receiving .persisted) bs) (y .forward) (line (y .back .reader) (y .back .bytes ++ b))) y
+abbrev pub replyWritten : (Duty → Bool) → System → List (List ℕ) → System
+replyWritten h y [] = y
+replyWritten h y (b ∷ bs) =
+    let e = y .receiving in
+    cond (not (h receiverPersistsFirst) || sameStored (e .volatile) (e .persisted))
+    (link (y .sending) (receiving (e .volatile) (e .persisted) bs (e .arrived)) (y .forward) (line (y .back .reader) (y .back .bytes ++ b))) y
+
+abbrev pub receiverPersisted : System → Stored → System
+receiverPersisted y p =
+    let e = y .receiving in
+    link (y .sending) (receiving (e .volatile) p (e .pending) (e .arrived)) (y .forward) (y .back)
 
 -- ---- the acts, in any order. One that does not apply changes nothing but the history.
 pub data SystemAct : Type 0 where
-  opens ends resets timer submits : SystemAct
-  senderPersists senderWrites senderReads senderCrashes : SystemAct
-  receiverReads : Application → SystemAct
-  receiverPersists receiverWrites receiverCrashes : SystemAct
+  opens ends resets timer : SystemAct
+  -- any bytes, under any limit
+  submits : ℕ → List ℕ → SystemAct
+  senderPersists senderReads senderRestores senderCrashes : SystemAct
+  receiverReads receiverPersists receiverWrites receiverRestores receiverCrashes : SystemAct
+  -- which of those named, or of the verdicts read; answers may be taken in any order
+  senderWrites senderActs senderDiscards receiverDiscards : ℕ → SystemAct
+  receiverActs : ℕ → Application → ℕ → List ℕ → SystemAct
   damagesForward damagesBack : List ℕ → SystemAct
+  -- what only a host that neglects a duty does
+  persistsNumber persistsTransactions : SystemAct
+  revertsTo : Stored → SystemAct
+  bringsLate : List ℕ → SystemAct
 
-abbrev pub afterAct : Link → SystemAct → System → System
-afterAct l opens y = circuitOpened y (openOf (y .sending .sender))
-afterAct l ends y = senderActed y (endedOf (y .sending .sender))
-afterAct l resets y = senderActed y (resetOf (y .sending .sender))
-afterAct l timer y = senderActed y (timerOf (l .resends) (y .sending .sender))
-afterAct l submits y = senderActed y (submitOf (l .settings .«data_limit») (y .sending .sender) (l .log (y .sending .sender .persisted .last + 1)))
-afterAct l senderPersists y =
-    link (sending (y .sending .sender) (y .sending .sender .persisted) (y .sending .named) (y .sending .history)) (y .receiving) (y .forward) (y .back)
-afterAct l senderWrites y = requestWritten l y (y .sending .named)
-afterAct l senderReads y = senderRead l y (y .back .bytes)
+abbrev pub afterAct : (Duty → Bool) → Link → SystemAct → System → System
+afterAct h l opens y = circuitOpened h y (openOf (y .sending .sender))
+afterAct h l ends y = senderActed y (y .sending .arrived) (endedOf (y .sending .sender))
+afterAct h l resets y = senderActed y (y .sending .arrived) (resetOf (y .sending .sender))
+afterAct h l timer y = senderActed y (y .sending .arrived) (timerOf (l .resends) (y .sending .sender))
+afterAct h l (submits limit d) y = senderActed y (y .sending .arrived) (submitOf limit (y .sending .sender) d)
+afterAct h l senderPersists y =
+    let e = y .sending in
+    link (sending (e .sender) (e .sender .persisted) (e .named) (e .arrived) (e .history)) (y .receiving) (y .forward) (y .back)
+afterAct h l (senderWrites n) y =
+    let k = place (h writesInOrder) n in
+    requestWritten h l y (oneAt k (y .sending .named)) (othersAt k (y .sending .named))
+afterAct h l senderReads y = senderRead l y (y .back .bytes)
+afterAct h l (senderActs n) y = answerTaken l y (oneAt n (y .sending .arrived)) (othersAt n (y .sending .arrived))
+afterAct h l (senderDiscards n) y =
+    let e = y .sending in
+    link (sending (e .sender) (e .persisted) (e .named) (othersAt n (e .arrived)) (e .history)) (y .receiving) (y .forward) (y .back)
+-- storing failed: the circuit is over, the lines are as they were
+afterAct h l senderRestores y = link (senderRestored h (y .sending) (y .sending .arrived)) (y .receiving) (y .forward) (y .back)
 -- "A cut loses what isn't stored; after it .. the line is empty"
-afterAct l senderCrashes y =
-    link (sending (afterCrash (y .sending .persisted)) (y .sending .persisted) [] (crashed ∷ y .sending .history)) (y .receiving)
-    (line (y .forward .reader) []) emptyLine
-afterAct l (receiverReads a) y = receiverRead l a y (y .forward .bytes)
+afterAct h l senderCrashes y = link (senderRestored h (y .sending) []) (y .receiving) (line (y .forward .reader) []) emptyLine
+afterAct h l receiverReads y = receiverRead l y (y .forward .bytes)
+afterAct h l (receiverActs n a start b) y =
+    let k = place (h offersInOrder) n in
+    requestTaken h l a start b y (oneAt k (y .receiving .arrived)) (othersAt k (y .receiving .arrived))
+afterAct h l (receiverDiscards n) y =
+    let e = y .receiving in
+    link (y .sending) (receiving (e .volatile) (e .persisted) (e .pending) (othersAt n (e .arrived))) (y .forward) (y .back)
 -- "the receiver a transaction with its new expected number", as one act
-afterAct l receiverPersists y = link (y .sending) (receiving (y .receiving .volatile) (y .receiving .volatile) (y .receiving .pending)) (y .forward) (y .back)
-afterAct l receiverWrites y = replyWritten y (y .receiving .pending)
-afterAct l receiverCrashes y = link (y .sending) (receiving (y .receiving .persisted) (y .receiving .persisted) []) emptyLine (line (y .back .reader) [])
-afterAct l (damagesForward xs) y = cond (damages (l .settings) (y .forward) xs) (link (y .sending) (y .receiving) (line (y .forward .reader) xs) (y .back)) y
-afterAct l (damagesBack xs) y = cond (damages (l .settings) (y .back) xs) (link (y .sending) (y .receiving) (y .forward) (line (y .back .reader) xs)) y
+afterAct h l receiverPersists y = receiverPersisted y (y .receiving .volatile)
+afterAct h l receiverWrites y = replyWritten h y (y .receiving .pending)
+-- storing failed: on the same circuit, and every reply that was not sent is dropped
+afterAct h l receiverRestores y =
+    let e = y .receiving in
+    link (y .sending) (receiving (e .persisted) (e .persisted) (dropped (h dropsUnpersisted) (e .pending)) (e .arrived)) (y .forward) (y .back)
+afterAct h l receiverCrashes y =
+    let p = y .receiving .persisted in
+    link (y .sending) (receiving p p [] []) emptyLine (line (y .back .reader) [])
+afterAct h l (damagesForward xs) y = cond (damages (l .settings) (y .forward) xs) (link (y .sending) (y .receiving) (line (y .forward .reader) xs) (y .back)) y
+afterAct h l (damagesBack xs) y = cond (disorders (l .settings) (y .back) xs) (link (y .sending) (y .receiving) (y .forward) (line (y .back .reader) xs)) y
+afterAct h l persistsNumber y = cond (h persistsAsOne) y (receiverPersisted y (stored (y .receiving .volatile .expected) (y .receiving .persisted .has)))
+afterAct h l persistsTransactions y = cond (h persistsAsOne) y (receiverPersisted y (stored (y .receiving .persisted .expected) (y .receiving .volatile .has)))
+afterAct h l (revertsTo p) y = cond (h survives) y (receiverPersisted y p)
+afterAct h l (bringsLate xs) y = cond (h bringsNothingLate) y (link (y .sending) (y .receiving) (y .forward) (line (y .back .reader) (y .back .bytes ++ xs)))
 
 -- a run, the newest act first
-unfoldable pub runOf : Link → System → List SystemAct → System
-runOf l y [] = y
-runOf l y (a ∷ ds) = afterAct l a (runOf l y ds)
+unfoldable pub runOf : (Duty → Bool) → Link → System → List SystemAct → System
+runOf h l y [] = y
+runOf h l y (a ∷ ds) = afterAct h l a (runOf h l y ds)

@@ -1,0 +1,68 @@
+-- Demand 3: what the two hosts see to. Each is a switch of the model: the statement is for hosts that keep all, and without any one of them a run breaks it.
+use mathlib.Core.List.{List, [], _∷_}
+use mathlib.Core.Bool.{Bool, true, false, not}
+use Prim.Native.Nat.{ℕ, zero, suc}
+use lib.Dec.{eqb}
+
+pub data Duty : Type 0 where
+  -- "the tenancy opens with the resynchronising exchange"
+  exchanges : Duty
+  -- "at each new circuit, the line is empty"
+  emptiesLines : Duty
+  -- "a new circuit .. finds at neither end an answer still to be sent", nor a block that was read and not yet acted on
+  dropsReplies dropsVerdicts : Duty
+  -- nothing of an earlier circuit comes in later
+  bringsNothingLate : Duty
+  -- messages are written in the order in which they were named, blocks offered to the receiver in the order in which they were read
+  writesInOrder offersInOrder : Duty
+  -- "each end stores what changed as one act before its next block goes out"
+  senderPersistsFirst receiverPersistsFirst persistsAsOne : Duty
+  -- and decides from what it holds
+  decidesFromVolatile : Duty
+  -- "A cut loses what isn't stored": what was named; and, where storing failed, every reply
+  dropsNamed dropsUnpersisted : Duty
+  -- "stored things survive"
+  survives : Duty
+
+abbrev pub indexOf : Duty → ℕ
+indexOf exchanges = 0
+indexOf emptiesLines = 1
+indexOf dropsReplies = 2
+indexOf dropsVerdicts = 3
+indexOf bringsNothingLate = 4
+indexOf writesInOrder = 5
+indexOf offersInOrder = 6
+indexOf senderPersistsFirst = 7
+indexOf receiverPersistsFirst = 8
+indexOf persistsAsOne = 9
+indexOf decidesFromVolatile = 10
+indexOf dropsNamed = 11
+indexOf dropsUnpersisted = 12
+indexOf survives = 13
+
+abbrev pub every : Duty → Bool
+every d = true
+
+abbrev pub everyBut : Duty → Duty → Bool
+everyBut x d = not (eqb (indexOf x) (indexOf d))
+
+-- what a host that keeps the duty drops
+abbrev pub dropped : {A : Type 0} → Bool → List A → List A
+dropped true xs = []
+dropped false xs = xs
+
+-- which one a host takes that was to take the oldest
+abbrev pub place : Bool → ℕ → ℕ
+place true n = 0
+place false n = n
+
+-- the one there, if there is one, and those without it
+unfoldable pub oneAt : {A : Type 0} → ℕ → List A → List A
+oneAt n [] = []
+oneAt zero (x ∷ xs) = x ∷ []
+oneAt (suc n) (x ∷ xs) = oneAt n xs
+
+unfoldable pub othersAt : {A : Type 0} → ℕ → List A → List A
+othersAt n [] = []
+othersAt zero (x ∷ xs) = xs
+othersAt (suc n) (x ∷ xs) = x ∷ othersAt n xs

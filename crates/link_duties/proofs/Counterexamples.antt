@@ -1,0 +1,290 @@
+-- Runs from a tenancy's beginning that break the statement, each without one duty of the hosts, on a link of either kind. f is 1.
+use mathlib.Core.Path.{_≡_, refl, sym, ap, _∙_}
+use mathlib.Core.List.{List, [], _∷_, _++_}
+use mathlib.Core.Bool.{Bool, false, _&&_}
+use Prim.Native.Nat.{ℕ, zero, suc}
+use Prim.Native.Char.{code}
+use native.Mathlib.Omega.{arith}
+use lib.ListN.{length}
+use Rattle.lists.specs.Bytes.{same, put}
+use Rattle.settings.specs.Settings.{valid, validLink}
+use Rattle.settings.specs.declared.Kind.{Kind}
+use Rattle.settings.specs.declared.Kind.the-variants.{Hybrid, Minimal}
+use Rattle.block.specs.Content.{contentOf}
+use Rattle.block.specs.Format.{fiveDigits, threeDigits, countField, checksumOf, hybridBody, hybridBlock, minimalBlock, blockOf}
+use Rattle.block.specs.Judge.{typeMatches, headerOk, checksumMatches, judgeParts, dataOf, judgeHybrid, judgeMinimal, judge}
+use Rattle.stream.specs.Stream.{between, endVerdict, move, run}
+use Rattle.fields.specs.Fields.{fieldStart, fieldOf, bytesOf}
+use Rattle.numbers.specs.Numbers.{numberField, decimal, textOf}
+use Rattle.numbers.specs.declared.SequenceNumber.{SequenceNumber}
+use Rattle.numbers.specs.declared.SequenceNumber.the-variants.{MinusOne, Number}
+use Rattle.header.specs.Header.{begins, readableHeader, headerOf, readableAnswer, acknowledgmentOf, codeField}
+use Rattle.header.specs.declared.Code.the-variants.{AA}
+use Rattle.messages.specs.Messages.{answerMessage, controlMessage, numberedMessage}
+use Rattle.receiver.specs.Receiver.{validExpected, rowOf, decisionOf, receiveOf}
+use Rattle.receiver.specs.declared.Application.the-variants.{Accepts}
+use Rattle.receiver.specs.declared.Expected.{Expected}
+use Rattle.receiver.specs.declared.Expected.the-variants.{Unknown, Next}
+use Rattle.sender.specs.Sender.{validSender, submitOf, openOf, timerOf, blockReadOf}
+use Rattle.link.specs.Duties.{Duty, exchanges, emptiesLines, dropsReplies, dropsVerdicts, bringsNothingLate, writesInOrder, offersInOrder, senderPersistsFirst, receiverPersistsFirst}
+use Rattle.link.specs.Duties.{persistsAsOne, decidesFromVolatile, dropsNamed, dropsUnpersisted, survives, every, everyBut, oneAt, othersAt}
+use Rattle.link.specs.Line.{acceptedOf, someOf}
+use Rattle.link.specs.System.{Link, System, Remains, nothingLeft, stored, beginning, runOf, SystemAct, opens, timer, submits, senderPersists, senderWrites, senderReads, senderActs, senderCrashes}
+use Rattle.link.specs.System.{receiverReads, receiverActs, receiverPersists, receiverWrites, receiverRestores, receiverCrashes, damagesForward, persistsTransactions, revertsTo, bringsLate}
+use Rattle.link.specs.Promise.{Safe, transactions}
+use Rattle.link.specs.Example.{exampleLog, exampleLink}
+use Rattle.lists.proofs.Same.{same-self}
+use Rattle.link.proofs.Facts.{not-both}
+use Rattle.link.proofs.Acts.{transactions-length}
+use Rattle.link.proofs.Exchange.{blank}
+
+-- ---- a run, the oldest act first
+pub times : ℕ → SystemAct → List SystemAct
+times zero a = []
+times (suc n) a = a ∷ times n a
+
+pub reversed : List SystemAct → List SystemAct → List SystemAct
+reversed [] ds = ds
+reversed (a ∷ more) ds = reversed more (a ∷ ds)
+
+-- the oldest message named is persisted and written, one block is read at the far end, acted on, persisted and answered, and the answer is read and acted on
+pub sends : List SystemAct
+sends = senderPersists ∷ senderWrites 0 ∷ []
+
+pub reads : List SystemAct
+reads = times 64 receiverReads
+
+pub decides : SystemAct
+decides = receiverActs 0 Accepts 0 (blank 143)
+
+pub hears : List SystemAct
+hears = times 64 senderReads ++ senderActs 0 ∷ []
+
+pub exchanged : List SystemAct
+exchanged = sends ++ (reads ++ decides ∷ receiverPersists ∷ receiverWrites ∷ hears)
+
+pub submitted : ℕ → SystemAct
+submitted n = submits 128 (exampleLog n)
+
+-- a circuit, on which the exchange for -1 was made and the first transaction is named
+pub begun : List SystemAct
+begun = submitted 1 ∷ submitted 2 ∷ opens ∷ exchanged
+
+-- the next message named is lost
+pub loses : List SystemAct
+loses = senderPersists ∷ senderWrites 0 ∷ damagesForward [] ∷ []
+
+-- ---- what an earlier tenant left: its answers, as bytes on the line back, as a reply not yet sent, as a verdict not yet acted on; and its request
+pub oldAnswer : Kind → SequenceNumber → List ℕ
+oldAnswer k v = blockOf (exampleLink k .settings) (code "D") (answerMessage (textOf v) AA v)
+
+pub left : List ℕ → Remains
+left bs = record { forward = []; back = bs; pending = []; requests = []; answers = [] }
+
+pub leftPending : List ℕ → Remains
+leftPending b = record { forward = []; back = []; pending = b ∷ []; requests = []; answers = [] }
+
+pub leftRead : Kind → List ℕ → Remains
+leftRead k bs = record { forward = []; back = []; pending = []; requests = []; answers = run (exampleLink k .settings) 0 between bs }
+
+-- ---- without each duty: what the receiver expects, what is left, and the acts
+pub record Case : Type 0 where
+  pub expected : Expected
+  pub remains : Remains
+  pub acts : List SystemAct
+
+unfoldable pub case : Expected → Remains → List SystemAct → Case
+case e m ds = record { expected = e; remains = m; acts = reversed ds [] }
+
+unfoldable pub caseOf : Kind → Duty → Case
+-- 0 is answered by the number that the earlier tenant left: taken for a delivery
+caseOf k exchanges = case (Next 2) nothingLeft (submitted 1 ∷ opens ∷ exchanged)
+-- the night of slot 7: -1 and then 1 are lost, and the earlier tenant's answers to both come out
+caseOf k emptiesLines =
+    case Unknown (left (oldAnswer k MinusOne ++ oldAnswer k (Number 1))) (submitted 1 ∷ opens ∷ (loses ++ (hears ++ (loses ++ hears))))
+-- -1 is lost, and the earlier tenant's answer to it is still to be sent. The receiver, which expects 2, answers 1 by AR 2: taken for a delivery
+caseOf k dropsReplies = case (Next 2) (leftPending (oldAnswer k MinusOne)) (submitted 1 ∷ opens ∷ (loses ++ receiverWrites ∷ (hears ++ exchanged)))
+-- the same with one that was read and not yet acted on
+caseOf k dropsVerdicts = case (Next 2) (leftRead k (oldAnswer k MinusOne)) (submitted 1 ∷ opens ∷ (loses ++ senderActs 0 ∷ exchanged))
+-- 1 is lost, and an answer to the earlier tenant's 1 comes late
+caseOf k bringsNothingLate = case Unknown nothingLeft (begun ++ (loses ++ bringsLate (oldAnswer k (Number 1)) ∷ hears))
+-- -1 was named twice, and the second is written behind 1: the receiver forgets, and stores 1 again
+caseOf k writesInOrder =
+    case Unknown nothingLeft
+    (submitted 1 ∷ opens ∷ timer ∷ (exchanged ++ senderPersists ∷ senderWrites 1 ∷ senderWrites 0 ∷ (reads ++ (reads ++ decides ∷ decides ∷ timer ∷ (sends ++ (reads ++ decides ∷ []))))))
+-- the second -1 is read before 1 and offered behind it
+caseOf k offersInOrder =
+    case Unknown nothingLeft
+    (submitted 1 ∷ opens ∷ timer ∷ (sends ++ (sends ++ (reads ++ (reads ++ decides ∷ receiverPersists ∷ receiverWrites ∷ (hears ++ (sends ++ (reads
+    ++ receiverActs 1 Accepts 0 (blank 143) ∷ decides ∷ timer ∷ (sends ++ (reads ++ decides ∷ []))))))))))
+-- 2 goes out while the delivery of 1 is not persisted
+caseOf k senderPersistsFirst = case Unknown nothingLeft (begun ++ (exchanged ++ senderWrites 0 ∷ (reads ++ decides ∷ [])))
+-- the answer to 1 goes out while 1 is not persisted
+caseOf k receiverPersistsFirst = case Unknown nothingLeft (begun ++ (sends ++ (reads ++ decides ∷ receiverWrites ∷ hears)))
+-- 1 is persisted, a crash comes before its number is, and 1 is sent again
+caseOf k persistsAsOne =
+    case Unknown nothingLeft (begun ++ (sends ++ (reads ++ decides ∷ persistsTransactions ∷ receiverCrashes ∷ timer ∷ (sends ++ (reads ++ decides ∷ [])))))
+-- 1 and its resend are both decided from what was persisted before either
+caseOf k decidesFromVolatile = case Unknown nothingLeft (begun ++ timer ∷ (sends ++ (sends ++ (reads ++ (reads ++ decides ∷ decides ∷ [])))))
+-- 2 was named, a crash takes the delivery of 1 back, and 2 is written after it
+caseOf k dropsNamed = case Unknown nothingLeft (begun ++ (exchanged ++ senderCrashes ∷ senderWrites 0 ∷ (reads ++ decides ∷ [])))
+-- 1 could not be stored, and its answer goes out
+caseOf k dropsUnpersisted = case Unknown nothingLeft (begun ++ (sends ++ (reads ++ decides ∷ receiverRestores ∷ receiverWrites ∷ hears)))
+-- 1 was stored and answered, and the disk has the older state again
+caseOf k survives = case Unknown nothingLeft (begun ++ (exchanged ++ revertsTo (stored Unknown []) ∷ []))
+
+unfoldable pub endOf : Kind → Duty → System
+endOf k d =
+    let l = exampleLink k in
+    let c = caseOf k d in
+    runOf (everyBut d) l (beginning (everyBut d) l (c .expected) (c .remains)) (c .acts)
+
+-- ---- what is seen then: the transactions at the receiver, as held and as persisted, and the delivered number, as held and as persisted
+abbrev pub seen : System → List ℕ
+seen y =
+    length (y .receiving .volatile .has) ∷ length (y .receiving .persisted .has) ∷ y .sending .sender .persisted .delivered ∷ y .sending .persisted .delivered ∷ []
+
+-- 1 counts as delivered, and nothing is stored; or two are there, and none is stored as delivered
+abbrev pub ends : Duty → List ℕ
+ends exchanges = 0 ∷ 0 ∷ 1 ∷ 0 ∷ []
+ends emptiesLines = 0 ∷ 0 ∷ 1 ∷ 0 ∷ []
+ends dropsReplies = 0 ∷ 0 ∷ 1 ∷ 0 ∷ []
+ends dropsVerdicts = 0 ∷ 0 ∷ 1 ∷ 0 ∷ []
+ends bringsNothingLate = 0 ∷ 0 ∷ 1 ∷ 0 ∷ []
+ends writesInOrder = 2 ∷ 0 ∷ 0 ∷ 0 ∷ []
+ends offersInOrder = 2 ∷ 0 ∷ 0 ∷ 0 ∷ []
+ends senderPersistsFirst = 2 ∷ 1 ∷ 1 ∷ 0 ∷ []
+ends receiverPersistsFirst = 1 ∷ 0 ∷ 1 ∷ 0 ∷ []
+ends persistsAsOne = 2 ∷ 1 ∷ 0 ∷ 0 ∷ []
+ends decidesFromVolatile = 2 ∷ 0 ∷ 0 ∷ 0 ∷ []
+ends dropsNamed = 2 ∷ 1 ∷ 0 ∷ 0 ∷ []
+ends dropsUnpersisted = 0 ∷ 0 ∷ 1 ∷ 0 ∷ []
+ends survives = 1 ∷ 0 ∷ 1 ∷ 0 ∷ []
+
+-- ---- computed, one claim for each kind of block
+abbrev Ends : Kind → Duty → Type 0
+Ends k d = seen (endOf k d) ≡ ends d
+
+abbrev All : Kind → Type 0
+All k =
+    Ends k exchanges × Ends k emptiesLines × Ends k dropsReplies × Ends k dropsVerdicts × Ends k bringsNothingLate × Ends k writesInOrder × Ends k offersInOrder × Ends k senderPersistsFirst × Ends k receiverPersistsFirst × Ends k persistsAsOne × Ends k decidesFromVolatile × Ends k dropsNamed × Ends k dropsUnpersisted × Ends k survives
+
+computed-hybrid : All Hybrid
+unfolding times reversed sends reads decides hears exchanged submitted begun loses oldAnswer left leftPending leftRead case caseOf endOf fiveDigits threeDigits countField checksumOf hybridBody hybridBlock minimalBlock blockOf typeMatches headerOk checksumMatches judgeParts dataOf judgeHybrid judgeMinimal judge contentOf same put valid validLink endVerdict move run fieldStart fieldOf bytesOf numberField decimal begins readableHeader headerOf readableAnswer acknowledgmentOf codeField answerMessage controlMessage validExpected rowOf decisionOf receiveOf validSender submitOf openOf timerOf blockReadOf oneAt othersAt acceptedOf someOf runOf blank
+computed-hybrid = (refl, refl, refl, refl, refl, refl, refl, refl, refl, refl, refl, refl, refl, refl)
+
+computed-minimal : All Minimal
+unfolding times reversed sends reads decides hears exchanged submitted begun loses oldAnswer left leftPending leftRead case caseOf endOf fiveDigits threeDigits countField checksumOf hybridBody hybridBlock minimalBlock blockOf typeMatches headerOk checksumMatches judgeParts dataOf judgeHybrid judgeMinimal judge contentOf same put valid validLink endVerdict move run fieldStart fieldOf bytesOf numberField decimal begins readableHeader headerOf readableAnswer acknowledgmentOf codeField answerMessage controlMessage validExpected rowOf decisionOf receiveOf validSender submitOf openOf timerOf blockReadOf oneAt othersAt acceptedOf someOf runOf blank
+computed-minimal = (refl, refl, refl, refl, refl, refl, refl, refl, refl, refl, refl, refl, refl, refl)
+
+both : (k : Kind) → All k
+both Hybrid = computed-hybrid
+both Minimal = computed-minimal
+
+pub computed : (k : Kind) (d : Duty) → Ends k d
+computed k exchanges = both k .0
+computed k emptiesLines = both k .1
+computed k dropsReplies = both k .2
+computed k dropsVerdicts = both k .3
+computed k bringsNothingLate = both k .4
+computed k writesInOrder = both k .5
+computed k offersInOrder = both k .6
+computed k senderPersistsFirst = both k .7
+computed k receiverPersistsFirst = both k .8
+computed k persistsAsOne = both k .9
+computed k decidesFromVolatile = both k .10
+computed k dropsNamed = both k .11
+computed k dropsUnpersisted = both k .12
+computed k survives = both k .13
+
+-- ---- the night of slot 7, more closely
+-- acts from a beginning with these duties, this number expected and these answers on the line back
+pub nightOf : Kind → (Duty → Bool) → Expected → List ℕ → List SystemAct → System
+nightOf k h e bs ds = runOf h (exampleLink k) (beginning h (exampleLink k) e (left bs)) (reversed ds [])
+
+abbrev pub withoutBoth : Duty → Bool
+withoutBoth d = everyBut exchanges d && everyBut emptiesLines d
+
+pub answerTo : Kind → SequenceNumber → SequenceNumber → List ℕ
+answerTo k v n = blockOf (exampleLink k .settings) (code "D") (answerMessage (textOf v) AA n)
+
+-- One old answer, to 1, is dropped where order is kept, since the opening message waits: 1 is delivered only when it is stored.
+-- An old one to the opening message in front of it breaks the statement: to 0 too, where there is no exchange.
+-- And where the receiver expects 2, one old answer to -1 is enough.
+abbrev Night : Kind → Type 0
+Night k =
+    (seen (nightOf k (everyBut emptiesLines) Unknown (oldAnswer k (Number 1)) (submitted 1 ∷ opens ∷ (hears ++ exchanged))) ≡ 0 ∷ 0 ∷ 0 ∷ 0 ∷ [])
+    × (seen (nightOf k (everyBut emptiesLines) Unknown (oldAnswer k (Number 1)) (submitted 1 ∷ opens ∷ (hears ++ (exchanged ++ exchanged)))) ≡ 1 ∷ 1 ∷ 1 ∷ 0 ∷ [])
+    × (seen (nightOf k withoutBoth Unknown (oldAnswer k (Number 1)) (submitted 1 ∷ opens ∷ (hears ++ exchanged))) ≡ 0 ∷ 0 ∷ 0 ∷ 0 ∷ [])
+    × (seen (nightOf k withoutBoth Unknown (answerTo k (Number 0) MinusOne ++ oldAnswer k (Number 1)) (submitted 1 ∷ opens ∷ (loses ++ (hears ++ (loses ++ hears))))) ≡ 0 ∷ 0 ∷ 1 ∷ 0 ∷ [])
+    × (seen (nightOf k (everyBut emptiesLines) (Next 2) (oldAnswer k MinusOne) (submitted 1 ∷ opens ∷ (loses ++ (hears ++ exchanged)))) ≡ 0 ∷ 0 ∷ 1 ∷ 0 ∷ [])
+
+night-hybrid : Night Hybrid
+unfolding times reversed sends reads decides hears exchanged submitted begun loses oldAnswer left leftPending leftRead case caseOf endOf fiveDigits threeDigits countField checksumOf hybridBody hybridBlock minimalBlock blockOf typeMatches headerOk checksumMatches judgeParts dataOf judgeHybrid judgeMinimal judge contentOf same put valid validLink endVerdict move run fieldStart fieldOf bytesOf numberField decimal begins readableHeader headerOf readableAnswer acknowledgmentOf codeField answerMessage controlMessage validExpected rowOf decisionOf receiveOf validSender submitOf openOf timerOf blockReadOf oneAt othersAt acceptedOf someOf runOf blank nightOf answerTo
+night-hybrid = (refl, refl, refl, refl, refl)
+
+night-minimal : Night Minimal
+unfolding times reversed sends reads decides hears exchanged submitted begun loses oldAnswer left leftPending leftRead case caseOf endOf fiveDigits threeDigits countField checksumOf hybridBody hybridBlock minimalBlock blockOf typeMatches headerOk checksumMatches judgeParts dataOf judgeHybrid judgeMinimal judge contentOf same put valid validLink endVerdict move run fieldStart fieldOf bytesOf numberField decimal begins readableHeader headerOf readableAnswer acknowledgmentOf codeField answerMessage controlMessage validExpected rowOf decisionOf receiveOf validSender submitOf openOf timerOf blockReadOf oneAt othersAt acceptedOf someOf runOf blank nightOf answerTo
+night-minimal = (refl, refl, refl, refl, refl)
+
+pub night : (k : Kind) → Night k
+night Hybrid = night-hybrid
+night Minimal = night-minimal
+
+-- ---- the line to the receiver is not empty when the tenancy begins: an earlier tenant's 1 is read before any circuit, and stored
+foreign : List ℕ
+foreign = numberedMessage (record { first = code "O"; second = code "R"; third = code "U" }) (Number 1)
+
+leftForward : List ℕ → Remains
+leftForward bs = record { forward = bs; back = []; pending = []; requests = []; answers = [] }
+
+pub withRequest : Kind → System
+withRequest k =
+    let l = exampleLink k in
+    runOf every l (beginning every l (Next 1) (leftForward (blockOf (exampleLink k .settings) (code "D") foreign))) (reversed (reads ++ decides ∷ receiverPersists ∷ []) [])
+
+abbrev Stores : Kind → Type 0
+Stores k = (withRequest k .receiving .persisted .has ≡ foreign ∷ []) × (same foreign (exampleLog 1) ≡ false)
+
+stores-hybrid : Stores Hybrid
+unfolding times reversed sends reads decides hears exchanged submitted begun loses oldAnswer left leftPending leftRead case caseOf endOf fiveDigits threeDigits countField checksumOf hybridBody hybridBlock minimalBlock blockOf typeMatches headerOk checksumMatches judgeParts dataOf judgeHybrid judgeMinimal judge contentOf same put valid validLink endVerdict move run fieldStart fieldOf bytesOf numberField decimal begins readableHeader headerOf readableAnswer acknowledgmentOf codeField answerMessage controlMessage validExpected rowOf decisionOf receiveOf validSender submitOf openOf timerOf blockReadOf oneAt othersAt acceptedOf someOf runOf blank foreign leftForward withRequest
+stores-hybrid = (refl, refl)
+
+stores-minimal : Stores Minimal
+unfolding times reversed sends reads decides hears exchanged submitted begun loses oldAnswer left leftPending leftRead case caseOf endOf fiveDigits threeDigits countField checksumOf hybridBody hybridBlock minimalBlock blockOf typeMatches headerOk checksumMatches judgeParts dataOf judgeHybrid judgeMinimal judge contentOf same put valid validLink endVerdict move run fieldStart fieldOf bytesOf numberField decimal begins readableHeader headerOf readableAnswer acknowledgmentOf codeField answerMessage controlMessage validExpected rowOf decisionOf receiveOf validSender submitOf openOf timerOf blockReadOf oneAt othersAt acceptedOf someOf runOf blank foreign leftForward withRequest
+stores-minimal = (refl, refl)
+
+stores : (k : Kind) → Stores k
+stores Hybrid = stores-hybrid
+stores Minimal = stores-minimal
+
+one-is : (k : Kind) (n : ℕ) (d : List ℕ) → n ≡ 1 → d ∷ [] ≡ transactions (exampleLink k) n → d ≡ exampleLog 1
+unfolding transactions
+one-is k n d e z = let w : d ∷ [] ≡ exampleLog 1 ∷ [] = z ∙ ap (transactions (exampleLink k)) e in let q : d ≡ exampleLog 1 = cc in q
+
+pub with-old-request : (k : Kind) → Safe (exampleLink k) (withRequest k) → ⊥
+with-old-request k f =
+    let e = sym (stores k .0) ∙ f .persisted-has in
+    let n : f .persisted ≡ 1 = sym (transactions-length (exampleLink k) (f .persisted)) ∙ ap length (sym e) in
+    let z : same foreign foreign ≡ false = ap (same foreign) (one-is k (f .persisted) foreign n e) ∙ stores k .1 in
+    not-both (sym (same-self foreign) ∙ z)
+
+-- ---- so the statement is false of it
+module _ (k : Kind) (y : System) where
+  -- 1 counts as delivered, and is not stored
+  pub unstored : (m n : ℕ) → seen y ≡ m ∷ 0 ∷ 1 ∷ n ∷ [] → Safe (exampleLink k) y → ⊥
+  unstored m n e f =
+      let a : length (y .receiving .persisted .has) ≡ 0 = cc in
+      let b : y .sending .sender .persisted .delivered ≡ 1 = cc in
+      let c = sym (transactions-length (exampleLink k) (f .persisted)) ∙ ap length (sym (f .persisted-has)) ∙ a in
+      let d = f .covers-persisted .at-most in
+      omega arith
+
+  -- two are there, and none is stored as delivered
+  pub ahead : (m n : ℕ) → seen y ≡ 2 ∷ m ∷ n ∷ 0 ∷ [] → Safe (exampleLink k) y → ⊥
+  ahead m n e f =
+      let a : length (y .receiving .volatile .has) ≡ 2 = cc in
+      let b : y .sending .persisted .delivered ≡ 0 = cc in
+      let c = sym (transactions-length (exampleLink k) (f .volatile)) ∙ ap length (sym (f .has)) ∙ a in
+      let d = f .persisted-covers .at-least in
+      omega arith
