@@ -1,4 +1,5 @@
 pub mod ReaderLaws
+pub mod ReadBack
 pub mod ReadLaws
 pub mod CheckLaws
 pub mod WriteLaws

@@ -1,5 +1,5 @@
--- One call of the reader from any state whatever: it uses at most the part, and a verdict takes at least one byte. So a caller may go on with the rest of the part, and its loop ends.
-use mathlib.Core.Path.{_≡_, refl}
+-- One call of the reader from any state whatever: it uses at most the part, all of it where it finds no verdict, and a verdict takes at least one byte. So a caller may go on with the rest of the part, and its loop ends.
+use mathlib.Core.Path.{_≡_, refl, ap, _∙_}
 use mathlib.Core.List.{List, [], _∷_}
 use Prim.Native.Nat.{ℕ, _+_, _≤_, _<_, _-_}
 use native.Mathlib.Omega.{arith}
@@ -23,6 +23,11 @@ use Rattle.stream.specs.declared.Answer.the-variants.{Refused, Pending, Found}
 record Moves (j k n : ℕ) (t : Scan) : Type 0 where
   least : j ≤ t .reader .position
   most : t .reader .position ≤ k + n
+
+-- after n bytes there is no verdict yet
+record Whole (n : ℕ) (t u : Scan) : Type 0 where
+  pending : t .answer ≡ Pending
+  position : u .reader .position ≡ t .reader .position + n
 
 module _ (g : Settings) where
   one-more : (p : Phase) (n s k : ℕ) (b : List ℕ) (x : ℕ) → phaseStep g p n s k b x .reader .position ≡ k + 1
@@ -59,6 +64,24 @@ module _ (g : Settings) where
   fold-goes [] r b s v e = let z : _≡_ {A = ℕ} 0 1 = cc in omega arith
   fold-goes (x ∷ xs) r b s v e = omega (arith, step-pending r b x, fold-moves xs (step g Pending r b x) .least)
 
+  -- a scan without a verdict has read every byte
+  pending-before : (a : Answer) (r : Reader) (b : List ℕ) (x : ℕ) → step g a r b x .answer ≡ Pending → a ≡ Pending
+  unfolding step
+  pending-before Pending r b x e = refl
+  pending-before (Found s v) r b x e = e
+  pending-before (Refused n) r b x e = e
+
+  fold-whole : (xs : List ℕ) (t : Scan) → fold g t xs .answer ≡ Pending → Whole (length xs) t (fold g t xs)
+  unfolding fold
+  fold-whole [] t e = record { pending = e; position = omega arith }
+  fold-whole (x ∷ xs) t e =
+      let next = step g (t .answer) (t .reader) (t .buffer) x in
+      let w = fold-whole xs next e in
+      let p = pending-before (t .answer) (t .reader) (t .buffer) x (w .pending) in
+      let q : next .reader .position ≡ t .reader .position + 1 =
+      ap (λ (a : Answer). step g a (t .reader) (t .buffer) x .reader .position) p ∙ step-pending (t .reader) (t .buffer) x in
+      record { pending = p; position = omega (arith, w .position, q) }
+
   pub call-most : (r : Reader) (xs b : List ℕ) → readOf g r xs b .answer .used ≤ length xs
   unfolding readOf
   call-most r xs b =
@@ -77,6 +100,18 @@ module _ (g : Settings) where
       cond-ind P (valid g) _ _
       (λ e. cond-ind P (leb (capacityOf g) (length b)) _ _
       (λ i. cond-ind P (leb (length xs) (greatestWord - r .position)) _ _ (λ j w. omega (arith, fold-goes xs r b s v w))
+      (λ j w. let z : _≡_ {A = ℕ} 0 1 = cc in omega arith))
+      (λ i w. let z : _≡_ {A = ℕ} 0 1 = cc in omega arith))
+      (λ e w. let z : _≡_ {A = ℕ} 0 1 = cc in omega arith)
+
+  pub call-whole : (r : Reader) (xs b : List ℕ) → readOf g r xs b .answer .answer ≡ Pending → readOf g r xs b .answer .used ≡ length xs
+  unfolding readOf
+  call-whole r xs b =
+      let P : Outcome Reading → Type 0 = λ c. c .answer .answer ≡ Pending → c .answer .used ≡ length xs in
+      cond-ind P (valid g) _ _
+      (λ e. cond-ind P (leb (capacityOf g) (length b)) _ _
+      (λ i. cond-ind P (leb (length xs) (greatestWord - r .position)) _ _
+      (λ j w. omega (arith, fold-whole xs (record { answer = Pending; reader = r; buffer = b }) w .position))
       (λ j w. let z : _≡_ {A = ℕ} 0 1 = cc in omega arith))
       (λ i w. let z : _≡_ {A = ℕ} 0 1 = cc in omega arith))
       (λ e w. let z : _≡_ {A = ℕ} 0 1 = cc in omega arith)

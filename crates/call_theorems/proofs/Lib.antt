@@ -1,1 +1,4 @@
 pub mod Verdicts
+pub mod OneCall
+pub mod Simulation
+pub mod Streams

@@ -76,8 +76,9 @@ unfolding storedVerdict
 stored-gives g n b x =
     cond-ind Gives (ltb (capacityOf g) n) _ _ (λ e. refl) (λ e. cond-ind Gives (eqb x 0x0D) _ _ (λ f. judge-gives g (take n b)) (λ f. refl))
 
-abbrev answerGives : Answer → Bool
-answerGives (RefusedCall n) = true
+-- and a call that it refuses has a number
+abbrev pub answerGives : Answer → Bool
+answerGives (RefusedCall n) = leb 1 n
 answerGives Pending = true
 answerGives (Found s v) = readerGives v
 
@@ -103,10 +104,10 @@ unfolding fold
 fold-gives g t [] h = h
 fold-gives g t (x ∷ xs) h = fold-gives g _ xs (step-gives g (t .answer) (t .reader) (t .buffer) x h)
 
-abbrev Read : Outcome Reading → Type 0
+abbrev pub Read : Outcome Reading → Type 0
 Read o = answerGives (o .answer .answer) ≡ true
 
-read-gives : (g : Settings) (r : Reader) (xs b : List ℕ) → Read (readOf g r xs b)
+pub read-gives : (g : Settings) (r : Reader) (xs b : List ℕ) → Read (readOf g r xs b)
 unfolding readOf
 read-gives g r xs b =
     cond-ind Read (valid g) _ _
