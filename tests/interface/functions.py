@@ -15,9 +15,9 @@ Written by `tests/documents --write`; the gate compares. {functions} public func
 
 No function has a `requires`. The contract of each is an equation: its result, and what the lent memory named here holds after
 the call, is what the cited definition gives for the inputs and the memory before. So a contract allows one result and one
-content; theorem T-52 of [THEOREMS.md](THEOREMS.md) says it of each function. Of a part that is returned the content is fixed, not
-where it lies (DECISIONS.md K-1). `settings.valid` is the definition `valid` in crates/settings/specs, `lists::part_of` a function
-of crates/lists/src.
+content; theorem T-52 of [THEOREMS.md](THEOREMS.md) says it of each function. Of a part that is handed back the address is fixed
+as the bytes are (DECISIONS.md K-1). `settings.valid` is the definition `valid` in crates/settings/specs, `lists::part_of` a
+function of crates/lists/src.
 """
 
 EDITS = """
@@ -40,8 +40,13 @@ def imports_of(text):
 
 
 def cited_in(formula, text):
-    """The definitions on the right side of a contract, as crate.name; the toolchain's own where there is no other."""
-    right = re.sub(r"_≡_ \{A = .*?\} \(record \{.*?\}\)", "", formula)
+    """The definitions that the equations of a contract cite."""
+    return list(dict.fromkeys(name for equation in formula.split(" × ") for name in cited_by(equation, text)))
+
+
+def cited_by(equation, text):
+    """The definitions on the right side of an equation, as crate.name; the toolchain's own where there is no other."""
+    right = re.sub(r"_≡_ \{A = .*?\} \(record \{.*?\}\)", "", equation)
     right = right.partition("≡")[2] or right
     crates = imports_of(text)
     names = list(dict.fromkeys(re.findall(r"[\w-]+", right)))

@@ -4,12 +4,15 @@ use settings::Settings;
 ghost use mathlib.Core.Path.{_≡_};
 ghost use lib.Dec.{leb, ltb};
 ghost use lib.ListN.{length};
-ghost use Rattle.settings.specs.Settings.{capacityOf};
+ghost use denote.Ref.{ptr};
+ghost use Rattle.lists.specs.Bytes.{partAddress};
+ghost use Rattle.settings.specs.Settings.{capacityOf, dataOffsetOf};
 ghost use Rattle.block.specs.Content.{contentOf};
 
-// The data of a block that was found, as the part of the lent buffer that holds it; empty where the block was refused.
+// The data of a block that was found, as the part of the lent buffer that holds it; empty, and at the same address, where the
+// block was refused.
 pub fn block_content(settings: Settings, verdict: Verdict, buffer: &[u8]) -> &[u8]
-    ensures { λ r. ⌜ now r ≡ contentOf settings verdict (now (buffer .entry)) ⌝ }
+    ensures { λ r. ⌜ (now r ≡ contentOf settings verdict (now (buffer .entry))) × (ptr r ≡ partAddress (buffer .entry) (dataOffsetOf settings)) ⌝ }
 {
     let offset = settings.data_offset();
     let size = verdict.data_length();

@@ -1,5 +1,5 @@
-// Document 01, 'Cases by hand', the others that concern blocks: data of D and D + 1 bytes, byte 7F, empty input. A line
-// for each: what was tried, and the numbers that came.
+// Document 01, 'Cases by hand', the others that concern blocks: data of D and D + 1 bytes, byte 7F, empty input; and the data
+// of an accepted block as the part of the buffer that holds it. A line for each: what was tried, and what came.
 use crate::print::print_number;
 use crate::print::print_text;
 use refusal::Written;
@@ -44,7 +44,11 @@ fn print_reading(settings: Settings, part: &[u8]) {
     match answer {
         Answer::Refused(number) => print_number(number),
         Answer::Pending => print_text(b" pending"),
-        Answer::Found(_, verdict) => print_number(verdict.number()),
+        Answer::Found(_, verdict) => {
+            print_number(verdict.number());
+            print_text(b" ");
+            print_text(block::block_content(settings, verdict, &buffer));
+        }
     }
     print_number(reading.used as u64);
     print_text(b"\n");
@@ -71,6 +75,10 @@ fn run_cases(settings: Settings) {
     print_text(b"\n");
     print_text(b"empty input, read:");
     print_reading(settings, b"");
+    print_text(b"data AB, read:");
+    print_reading(settings, b"\x0bD23\rAB00007064\x1c\r");
+    print_text(b"empty data, read:");
+    print_reading(settings, b"\x0bD23\r00005067\x1c\r");
 }
 
 pub(crate) fn run() {

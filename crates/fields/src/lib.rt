@@ -2,6 +2,8 @@
 ghost use mathlib.Core.Path.{_≡_};
 ghost use Prim.Native.Nat.{_+_};
 ghost use lib.ListN.{drop};
+ghost use denote.Ref.{ptr};
+ghost use Rattle.lists.specs.Bytes.{partAddress};
 ghost use Rattle.fields.specs.Fields.{fieldLength, fieldStart, fieldOf, bytesOf};
 
 // The field separator of document 01.
@@ -66,7 +68,7 @@ pub fn find_field(message: &[u8], from: usize, separator: u8, count: usize) -> F
 
 // The bytes of a field, as the part of the message that holds them.
 pub fn field_content(message: &[u8], field: Field) -> &[u8]
-    ensures { λ r. ⌜ now r ≡ bytesOf field (now (message .entry)) ⌝ }
+    ensures { λ r. ⌜ (now r ≡ bytesOf field (now (message .entry))) × (ptr r ≡ partAddress (message .entry) (field .start)) ⌝ }
 {
     lists::part_of(message, field.start, field.length)
 }

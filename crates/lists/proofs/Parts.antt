@@ -3,12 +3,13 @@ use mathlib.Core.Path.{_≡_, sym, ap, _∙_}
 use mathlib.Core.List.{List, [], _∷_, _++_}
 use Prim.Native.Nat.{ℕ, _+_, _-_, _≤_, _<_, min}
 use native.Mathlib.Numerals.{add-one}
-use native.Mathlib.Nat.{min-eq-left, min-eq-right, add-sub-cancel-left}
+use native.Mathlib.Nat.{add-comm, min-eq-left, min-eq-right, add-sub-cancel-left}
 use native.Mathlib.Decide.{decLe}
 use native.Mathlib.Omega.{arith}
 use lib.ListN.{length, take, drop, getD, set, drop-of-length-le, length-drop}
 use lib.Seq.{drop-cons, take-suc, append-snoc, set-at, length-take-le, take-length, drop-length, take-all, take-nil}
-use Rattle.lists.specs.Bytes.{overwritten}
+use denote.Ref.{RefT, ptr, now}
+use Rattle.lists.specs.Bytes.{overwritten, partAddress}
 
 -- the bytes from i on are the byte at i and those after it
 pub drop-more : (s : List ℕ) (i : ℕ) → i < length s → drop i s ≡ getD s i 0 ∷ drop (i + 1) s
@@ -58,3 +59,7 @@ part-there s o n f k e h =
     let part : take k (drop f s) ≡ take n (drop f s) =
     ap (λ (m : ℕ). take m (drop f s)) (h ∙ ap (λ (m : ℕ). min n m) (sym (length-drop f s))) ∙ take-least (drop f s) n in
     rw (add-sub-cancel-left f k) (part ∙ ap (λ (l : List ℕ). take n l) (ap (λ (m : ℕ). drop m s) e ∙ drop-least s o))
+
+-- and its address
+pub part-address : (s : RefT (List ℕ)) (o f : ℕ) → f ≡ min o (length (now s)) → (ptr s .0, f + ptr s .1) ≡ partAddress s o
+part-address s o f e = ap (λ (n : ℕ). (ptr s .0, n)) (add-comm f (ptr s .1) ∙ ap (λ (n : ℕ). ptr s .1 + n) e)

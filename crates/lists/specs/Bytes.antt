@@ -1,9 +1,10 @@
 -- Bytes searched, and bytes written over others.
 use mathlib.Core.List.{List, [], _∷_, _++_}
 use mathlib.Core.Bool.{Bool, true, false, cond, _&&_, _||_}
-use Prim.Native.Nat.{ℕ, suc, _+_}
+use Prim.Native.Nat.{ℕ, suc, _+_, min}
 use lib.ListN.{length, take, drop}
 use lib.Dec.{leb, eqb}
+use denote.Ref.{RefT, ptr, now}
 use Prim.Native.Char.{Char, code}
 use Prim.Native.String.{String, [] as nil, _∷_ as _then_}
 
@@ -49,3 +50,7 @@ overwritten target source = take (length target) source ++ drop (length source) 
 -- bytes or words with others written over their beginning, if there are so many; otherwise as they were
 unfoldable pub over : List ℕ → List ℕ → List ℕ
 over l ws = cond (leb (length ws) (length l)) (ws ++ drop (length ws) l) l
+
+-- the address of the part of s that begins `start` bytes after it: a block of memory, and an offset in it. A part that would begin past the end begins there, so that an empty part has one address too.
+abbrev pub partAddress : RefT (List ℕ) → ℕ → ℕ × ℕ
+partAddress s start = (ptr s .0, ptr s .1 + min start (length (now s)))

@@ -1,9 +1,6 @@
 -- The public functions of the crate block. Written by tests/interface/uniqueness --write.
 use mathlib.Core.Path.{refl, sym, _∙_}
-use mathlib.Core.List.{List}
-use Prim.Native.Nat.{ℕ}
-use denote.Ref.{now}
-use Rattle.uniqueness.specs.Unique.{Unique, UniqueContent}
+use Rattle.uniqueness.specs.Unique.{Unique, UniqueBy, SamePart}
 use Rattle.block.proofs.block_content as block-content-contract
 use Rattle.block.proofs.block_content.Reads as block-content-reads
 use Rattle.block.proofs.is_long as is-long-contract
@@ -17,11 +14,11 @@ use Rattle.block.proofs.block_checksum.Reads as block-checksum-reads
 use Rattle.block.proofs.judge_block as judge-block-contract
 use Rattle.block.proofs.judge_block.Reads as judge-block-reads
 
-pub block-content : UniqueContent block-content-contract.ended (λ M. block-content-contract.clauses {M = M}) (List ℕ) (λ κs z. now z)
+pub block-content : UniqueBy block-content-contract.ended (λ M. block-content-contract.clauses {M = M}) (λ κs. SamePart)
 block-content = record {
   holds = block-content-reads.Learnt;
   says = λ M 𝓤 H A mem run. refl;
-  one = λ κs a z z′ ws ws′ h h′. (h ∙ sym h′, refl);
+  one = λ κs a z z′ ws ws′ h h′. ((h .1 ∙ sym (h′ .1), h .0 ∙ sym (h′ .0)), refl);
 }
 
 pub is-long : Unique is-long-contract.ended (λ M. is-long-contract.clauses {M = M})

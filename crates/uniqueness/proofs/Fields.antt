@@ -1,9 +1,6 @@
 -- The public functions of the crate fields. Written by tests/interface/uniqueness --write.
 use mathlib.Core.Path.{refl, sym, _∙_}
-use mathlib.Core.List.{List}
-use Prim.Native.Nat.{ℕ}
-use denote.Ref.{now}
-use Rattle.uniqueness.specs.Unique.{Unique, UniqueContent}
+use Rattle.uniqueness.specs.Unique.{Unique, UniqueBy, SamePart}
 use Rattle.fields.proofs.field_end as field-end-contract
 use Rattle.fields.proofs.field_end.Reads as field-end-reads
 use Rattle.fields.proofs.find_field as find-field-contract
@@ -25,9 +22,9 @@ find-field = record {
   one = λ κs a z z′ ws ws′ h h′. (h ∙ sym h′, refl);
 }
 
-pub field-content : UniqueContent field-content-contract.ended (λ M. field-content-contract.clauses {M = M}) (List ℕ) (λ κs z. now z)
+pub field-content : UniqueBy field-content-contract.ended (λ M. field-content-contract.clauses {M = M}) (λ κs. SamePart)
 field-content = record {
   holds = field-content-reads.Learnt;
   says = λ M 𝓤 H A mem run. refl;
-  one = λ κs a z z′ ws ws′ h h′. (h ∙ sym h′, refl);
+  one = λ κs a z z′ ws ws′ h h′. ((h .1 ∙ sym (h′ .1), h .0 ∙ sym (h′ .0)), refl);
 }

@@ -1,9 +1,6 @@
 -- The public functions of the crate lists. Written by tests/interface/uniqueness --write.
 use mathlib.Core.Path.{refl, sym, _∙_}
-use mathlib.Core.List.{List}
-use Prim.Native.Nat.{ℕ}
-use denote.Ref.{now}
-use Rattle.uniqueness.specs.Unique.{Unique, UniqueContent}
+use Rattle.uniqueness.specs.Unique.{Unique, UniqueBy, SamePart}
 use Rattle.uniqueness.proofs.Once.{once}
 use Rattle.lists.proofs.find_stop as find-stop-contract
 use Rattle.lists.proofs.find_stop.Reads as find-stop-reads
@@ -26,9 +23,9 @@ copy-bytes = record {
   one = λ κs a z z′ ws ws′ h h′. once h h′ (λ y. tt) (λ y. (y, (tt, tt)));
 }
 
-pub part-of : UniqueContent part-of-contract.ended (λ M. part-of-contract.clauses {M = M}) (List ℕ) (λ κs z. now z)
+pub part-of : UniqueBy part-of-contract.ended (λ M. part-of-contract.clauses {M = M}) (λ κs. SamePart)
 part-of = record {
   holds = part-of-reads.Learnt;
   says = λ M 𝓤 H A mem run. refl;
-  one = λ κs a z z′ ws ws′ h h′. (h ∙ sym h′, refl);
+  one = λ κs a z z′ ws ws′ h h′. ((h .1 ∙ sym (h′ .1), h .0 ∙ sym (h′ .0)), refl);
 }

@@ -1,6 +1,6 @@
 -- `lists::part_of` meets its contract.
 use borrow.Author.Needs.{needs}
-use Rattle.lists.proofs.Parts.{part-there}
+use Rattle.lists.proofs.Parts.{part-there, part-address}
 use Rattle.lists.proofs.part_of.Statement.{statement}
 use Rattle.lists.proofs.part_of.Tie as tie
 
@@ -28,10 +28,12 @@ part-result-end c = search needs
 returns : tie.Need-returns
 returns c =
     let called = c .before .before in
-    let given = called .before .before .args in
-    part-there (given .s .now) (given .start) (given .size) (called .smaller .result) (c .before .smaller2 .result)
-    (called .smaller .ensures)
-    (c .before .smaller2 .ensures)
+    let given = called .before .before .args in (
+      part-there (given .s .now) (given .start) (given .size) (called .smaller .result) (c .before .smaller2 .result)
+          (called .smaller .ensures)
+          (c .before .smaller2 .ensures),
+      part-address (given .s) (given .start) (called .smaller .result) (called .smaller .ensures),
+    )
 
 pub part-of-spec : {M : Type 1} → statement M
 part-of-spec =

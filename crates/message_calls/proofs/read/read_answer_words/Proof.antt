@@ -39,7 +39,7 @@ same-length : tie.Need-same-length
 same-length c = search needs
 
 returns-3 : tie.Need-returns-3
-returns-3 c = rw (c .before .before .write-acknowledgment .ensures, c .before .before .before .before .read-number .ensures, c .before .before .before .before .before .field-content2 .ensures, c .before .before .before .before .before .before .read-code .ensures, c .before .before .before .before .before .before .before .field-content .ensures) (answer-as (c .before .before .before .before .before .before .before .before .before .before .before .before .before .before .before .args .message .now) (c .before .before .before .before .before .before .before .before .before .before .before .before .before .before .before .args .words .now) _ (c .before .before .before .before .before .before .before .before .before .before .before .before .if1 .left) (sym (c .before .before .before .before .before .before .before .before .before .before .before .read-acknowledgment .ensures) ∙ c .before .before .before .before .before .before .before .before .before .code .given .1))
+returns-3 c = rw (c .before .before .write-acknowledgment .ensures, c .before .before .before .before .read-number .ensures, c .before .before .before .before .before .field-content2 .ensures .0, c .before .before .before .before .before .before .read-code .ensures, c .before .before .before .before .before .before .before .field-content .ensures .0) (answer-as (c .before .before .before .before .before .before .before .before .before .before .before .before .before .before .before .args .message .now) (c .before .before .before .before .before .before .before .before .before .before .before .before .before .before .before .args .words .now) _ (c .before .before .before .before .before .before .before .before .before .before .before .before .if1 .left) (sym (c .before .before .before .before .before .before .before .before .before .before .before .read-acknowledgment .ensures) ∙ c .before .before .before .before .before .before .before .before .before .code .given .1))
 
 pub read-answer-words-spec : {M : Type 1} → statement M
 read-answer-words-spec =

@@ -33,7 +33,7 @@ same-length : tie.Need-same-length
 same-length c = search needs
 
 returns-3 : tie.Need-returns-3
-returns-3 c = rw (c .before .before .write-header .ensures, c .before .before .before .before .read-number .ensures, c .before .before .before .before .before .field-content .ensures) (header-as (c .before .before .before .before .before .before .before .before .before .before .before .before .before .args .message .now) (c .before .before .before .before .before .before .before .before .before .before .before .before .before .args .words .now) _ (c .before .before .before .before .before .before .before .before .before .before .if1 .left) (sym (c .before .before .before .before .before .before .before .before .before .read-header .ensures) ∙ c .before .before .before .before .before .before .before .control-id .given .1))
+returns-3 c = rw (c .before .before .write-header .ensures, c .before .before .before .before .read-number .ensures, c .before .before .before .before .before .field-content .ensures .0) (header-as (c .before .before .before .before .before .before .before .before .before .before .before .before .before .args .message .now) (c .before .before .before .before .before .before .before .before .before .before .before .before .before .args .words .now) _ (c .before .before .before .before .before .before .before .before .before .before .if1 .left) (sym (c .before .before .before .before .before .before .before .before .before .read-header .ensures) ∙ c .before .before .before .before .before .before .before .control-id .given .1))
 
 pub read-header-words-spec : {M : Type 1} → statement M
 read-header-words-spec =

@@ -40,7 +40,7 @@ returns-2 c =
     c .refused-by2 .ensures
     ∙ rw (← (read .read-header .ensures), known .control-id .given .1)
     (header-forbidden (a .kind) (a .application) (a .expected) (a .content .now) (known .control-id .given .0 .0) (known .control-id .given .0 .1 .0)
-    (ap allAllowed (sym (looked .before .field-content .ensures)) ∙ sym (looked .are-allowed .ensures) ∙ not-true _ (c .before .if1 .taken)))
+    (ap allAllowed (sym (looked .before .field-content .ensures .0)) ∙ sym (looked .are-allowed .ensures) ∙ not-true _ (c .before .if1 .taken)))
 
 field-content-requires-2 : tie.Need-field-content-requires-2
 field-content-requires-2 c κs = search needs
@@ -58,9 +58,9 @@ returns-3 c =
     let known = looked .before .before .before in
     let read = known .before .before in
     let a = read .before .before .args in
-    rw (c .table-row .ensures, c .before .read-number .ensures, c .before .before .field-content2 .ensures, ← (read .read-header .ensures), known .control-id .given .1)
+    rw (c .table-row .ensures, c .before .read-number .ensures, c .before .before .field-content2 .ensures .0, ← (read .read-header .ensures), known .control-id .given .1)
     (header-answers (a .kind) (a .application) (a .expected) (a .content .now) (known .control-id .given .0 .0) (known .control-id .given .0 .1 .0)
-    (ap allAllowed (sym (looked .before .field-content .ensures)) ∙ sym (looked .are-allowed .ensures) ∙ not-false _ (tested .if1 .left)))
+    (ap allAllowed (sym (looked .before .field-content .ensures .0)) ∙ sym (looked .are-allowed .ensures) ∙ not-false _ (tested .if1 .left)))
 
 pub decide-data-spec : {M : Type 1} → statement M
 decide-data-spec =

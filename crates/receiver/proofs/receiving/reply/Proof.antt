@@ -29,7 +29,7 @@ write-answer-requires : tie.Need-write-answer-requires
 write-answer-requires c κs =
     let known = c .before .before .before .before in
     let start = known .before .before .before .before in
-    (start .pre .0, rw (c .before .field-content .ensures) (rw (known .decision3 .given .1) at (start .pre .1)))
+    (start .pre .0, rw (c .before .field-content .ensures .0) (rw (known .decision3 .given .1) at (start .pre .1)))
 
 returns : tie.Need-returns
 returns c = rw (c .before .before .decision .given .1, c .nothing-new .ensures)
@@ -56,7 +56,7 @@ returns-3 c =
     let a = known .before .before .before .before .args in
     rw (known .decision3 .given .1)
     (replied-as 0 (known .decision3 .given .0 .1 .0 .persisted) (wrote .write-answer .result) _ _ (a .start) (a .buffer .now)
-    (rw (read .field-content .ensures) at (wrote .write-answer .ensures)))
+    (rw (read .field-content .ensures .0) at (wrote .write-answer .ensures)))
 
 pub reply-spec : {M : Type 1} → statement M
 reply-spec =

@@ -60,7 +60,7 @@ returns-3 c =
     let at-read-acknowledgment = at-code .before .before in
     let parsed = sym (at-read-acknowledgment .read-acknowledgment .ensures) ∙ at-code .code .given .1 in
     let waits = sym (at-waiting-message .waiting-message .ensures) ∙ at-number .number .given .1 in
-    let other = rw (at-field-content .field-content .ensures) at (failed (at-is-text .is-text .ensures) (c .before .if1 .taken)) in
+    let other = rw (at-field-content .field-content .ensures .0) at (failed (at-is-text .is-text .ensures) (c .before .if1 .taken)) in
     c .act2 .ensures ∙ rw (parsed, waits) (unmet _ _ _ other)
 
 field-content-requires-2 : tie.Need-field-content-requires-2
@@ -92,9 +92,9 @@ returns-4 c =
     let at-read-acknowledgment = at-code .before .before in
     let parsed = sym (at-read-acknowledgment .read-acknowledgment .ensures) ∙ at-code .code .given .1 in
     let waits = sym (at-waiting-message .waiting-message .ensures) ∙ at-number .number .given .1 in
-    let same = rw (at-field-content .field-content .ensures) at (passed (at-is-text .is-text .ensures) (at-if1 .if1 .left)) in
+    let same = rw (at-field-content .field-content .ensures .0) at (passed (at-is-text .is-text .ensures) (at-if1 .if1 .left)) in
     c .answer .ensures
-    ∙ rw (at-read-code .read-code .ensures, at-field-content2 .field-content2 .ensures, c .before .read-number .ensures, at-field-content3 .field-content3 .ensures, parsed, waits) (met _ _ _ same)
+    ∙ rw (at-read-code .read-code .ensures, at-field-content2 .field-content2 .ensures .0, c .before .read-number .ensures, at-field-content3 .field-content3 .ensures .0, parsed, waits) (met _ _ _ same)
 
 pub read-data-spec : {M : Type 1} → statement M
 read-data-spec =

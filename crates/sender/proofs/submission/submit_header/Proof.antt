@@ -53,7 +53,7 @@ returns-2 c =
     let at-control-id = at-field-content .before .before .before in
     let at-read-header = at-control-id .before .before in
     let other =
-    rw (at-is-number .is-number .ensures, at-is-text .is-text .ensures, at-field-content2 .field-content2 .ensures, at-read-number .read-number .ensures, at-field-content .field-content .ensures)
+    rw (at-is-number .is-number .ensures, at-is-text .is-text .ensures, at-field-content2 .field-content2 .ensures .0, at-read-number .read-number .ensures, at-field-content .field-content .ensures .0)
     at (not-true (at-is-number .is-number .result && at-is-text .is-text .result) (c .before .if1 .taken)) in
     c .refuse2 .ensures ∙ rw (sym (at-read-header .read-header .ensures) ∙ at-control-id .control-id .given .1) (unmet _ _ _ other)
 
@@ -70,7 +70,7 @@ returns-3 c =
     let at-control-id = at-field-content .before .before .before in
     let at-read-header = at-control-id .before .before in
     let next =
-    rw (at-is-number .is-number .ensures, at-is-text .is-text .ensures, at-field-content2 .field-content2 .ensures, at-read-number .read-number .ensures, at-field-content .field-content .ensures)
+    rw (at-is-number .is-number .ensures, at-is-text .is-text .ensures, at-field-content2 .field-content2 .ensures .0, at-read-number .read-number .ensures, at-field-content .field-content .ensures .0)
     at (not-false (at-is-number .is-number .result && at-is-text .is-text .result) (c .before .if1 .left)) in
     c .take .ensures ∙ rw (sym (at-read-header .read-header .ensures) ∙ at-control-id .control-id .given .1) (met _ _ _ next)
 
