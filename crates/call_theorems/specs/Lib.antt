@@ -1,2 +1,4 @@
 pub mod Verdicts
 pub mod Reading
+pub mod Driver
+pub mod DriversPromise

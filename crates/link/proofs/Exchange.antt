@@ -1,6 +1,6 @@
 -- One exchange on a good line: a message is written, read, stored and answered, and its answer is read.
 use mathlib.Core.Path.{_≡_, refl, ap, _∙_}
-use mathlib.Core.List.{List, [], _∷_}
+use mathlib.Core.List.{List, [], _∷_, append-nil}
 use mathlib.Core.Bool.{Bool, true, false, cond}
 use Prim.Native.Nat.{ℕ, zero, suc, _+_}
 use Prim.Native.Char.{code}
@@ -43,7 +43,7 @@ use Rattle.link.proofs.Receiving.{received}
 use Rattle.link.proofs.RequestsRead.{reply-is}
 use Rattle.link.proofs.AnswersRead.{read-own}
 use Rattle.link.proofs.Bytes.{alone}
-use Rattle.link.proofs.Runs.{Reaches, act, join, to, readerThrough, verdictsOf, read-requests, read-answers, through-mode}
+use Rattle.link.proofs.Runs.{Reaches, act, join, to, from, readerThrough, verdictsOf, read-requests, read-answers, through-mode}
 
 flag-same : (b : Bool) → sameFlag b b ≡ true
 flag-same true = refl
@@ -139,8 +139,9 @@ module _ (l : Link) (rd : Ready l) where
         let end = line (readerThrough l (own .reader) (blockOf (l .settings) (code "D") answer)) [] in
         let one = accepted (own .reader .offset) (code "D") answer in
         join l
-        (to l (read-answers l (blockOf (l .settings) (code "D") answer) (own .reader) s (s .persisted) [] [] h e b)
-        (ap (λ (ws : List Judged). link (heard ws h) e b end) (block-says answer answerAble own)))
+        (from l (ap (λ (bs : List ℕ). link (heard [] h) e b (line (own .reader) bs)) (append-nil block))
+        (to l (read-answers l (blockOf (l .settings) (code "D") answer) [] (own .reader) s (s .persisted) [] [] h e b)
+        (ap (λ (ws : List Judged). link (heard ws h) e b end) (block-says answer answerAble own))))
         (join l
         (to l (act l (senderActs 0) (link (heard (one ∷ []) h) e b end))
         (ap (λ (z : Acted). link (actedEnd (heard (one ∷ []) h) [] z) e b end)
@@ -200,8 +201,9 @@ module _ (l : Link) (rd : Ready l) where
 
     step-2 : Reaches l (at (receiving x x [] []) requestBlock (far .reader) []) (at (receiving x x [] (one ∷ [])) [] (far' .reader) [])
     step-2 =
-        to l (read-requests l requestBlock (far .reader) (sendingAt s [] h) x x [] [] (line (own .reader) []))
-        (ap (λ (ws : List Judged). at (receiving x x [] ws) [] (far' .reader) []) (block-says request able far))
+        from l (ap (λ (xs : List ℕ). at (receiving x x [] []) xs (far .reader) []) (append-nil requestBlock))
+        (to l (read-requests l requestBlock [] (far .reader) (sendingAt s [] h) x x [] [] (line (own .reader) []))
+        (ap (λ (ws : List Judged). at (receiving x x [] ws) [] (far' .reader) []) (block-says request able far)))
 
     -- acted on
     outcomeOf : Row → Outcome Received

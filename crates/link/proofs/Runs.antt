@@ -1,5 +1,5 @@
 -- Runs that are made of others, and bytes that are read one after another.
-use mathlib.Core.Path.{_≡_, refl, sym, ap, _∙_}
+use mathlib.Core.Path.{_≡_, refl, sym, ap, _∙_, subst}
 use mathlib.Core.List.{List, [], _∷_, _++_, append-assoc, append-nil}
 use Prim.Native.Nat.{ℕ}
 use Rattle.numbers.specs.declared.SequenceNumber.{SequenceNumber}
@@ -49,24 +49,28 @@ module _ (l : Link) where
   abbrev pub verdictsOf : Reader → List ℕ → List Judged
   verdictsOf r xs = run (l .settings) (r .offset) (r .mode) xs
 
-  -- the receiver reads all bytes on its line
-  pub read-requests : (xs : List ℕ) (r : Reader) (s : SendingEnd) (v p : Stored) (bs : List (List ℕ)) (ws : List Judged) (b : Line)
-      → Reaches l (link s (receiving v p bs ws) (line r xs) b) (link s (receiving v p bs (ws ++ verdictsOf r xs)) (line (readerThrough r xs) []) b)
+  -- the receiver reads the first bytes on its line
+  pub read-requests : (xs ys : List ℕ) (r : Reader) (s : SendingEnd) (v p : Stored) (bs : List (List ℕ)) (ws : List Judged) (b : Line)
+      → Reaches l (link s (receiving v p bs ws) (line r (xs ++ ys)) b) (link s (receiving v p bs (ws ++ verdictsOf r xs)) (line (readerThrough r xs) ys) b)
   unfolding run
-  read-requests [] r s v p bs ws b = to (stay (link s (receiving v p bs ws) (line r []) b)) (ap (λ (us : List Judged). link s (receiving v p bs us) (line r []) b) (sym (append-nil ws)))
-  read-requests (x ∷ xs) r s v p bs ws b =
+  read-requests [] ys r s v p bs ws b = to (stay (link s (receiving v p bs ws) (line r ys) b)) (ap (λ (us : List Judged). link s (receiving v p bs us) (line r ys) b) (sym (append-nil ws)))
+  read-requests (x ∷ xs) ys r s v p bs ws b =
       let us = readsByte (l .settings) r x .says in
       let k = readerAfter (l .settings) r x in
-      join (act receiverReads (link s (receiving v p bs ws) (line r (x ∷ xs)) b))
-      (to (read-requests xs k s v p bs (ws ++ us) b) (ap (λ (z : List Judged). link s (receiving v p bs z) (line (readerThrough k xs) []) b) (append-assoc ws us (verdictsOf k xs))))
+      join (act receiverReads (link s (receiving v p bs ws) (line r (x ∷ xs ++ ys)) b))
+      (to (read-requests xs ys k s v p bs (ws ++ us) b) (ap (λ (z : List Judged). link s (receiving v p bs z) (line (readerThrough k xs) ys) b) (append-assoc ws us (verdictsOf k xs))))
 
-  -- the sender reads all bytes on its line
-  pub read-answers : (xs : List ℕ) (r : Reader) (s : Sender) (p : Persisted) (ns : List SequenceNumber) (ws : List Judged) (h : List Entry) (e : ReceivingEnd) (b : Line)
-      → Reaches l (link (sending s p ns ws h) e b (line r xs)) (link (sending s p ns (ws ++ verdictsOf r xs) h) e b (line (readerThrough r xs) []))
+  -- the sender reads the first bytes on its line
+  pub read-answers : (xs ys : List ℕ) (r : Reader) (s : Sender) (p : Persisted) (ns : List SequenceNumber) (ws : List Judged) (h : List Entry) (e : ReceivingEnd) (b : Line)
+      → Reaches l (link (sending s p ns ws h) e b (line r (xs ++ ys))) (link (sending s p ns (ws ++ verdictsOf r xs) h) e b (line (readerThrough r xs) ys))
   unfolding run
-  read-answers [] r s p ns ws h e b = to (stay (link (sending s p ns ws h) e b (line r []))) (ap (λ (us : List Judged). link (sending s p ns us h) e b (line r [])) (sym (append-nil ws)))
-  read-answers (x ∷ xs) r s p ns ws h e b =
+  read-answers [] ys r s p ns ws h e b = to (stay (link (sending s p ns ws h) e b (line r ys))) (ap (λ (us : List Judged). link (sending s p ns us h) e b (line r ys)) (sym (append-nil ws)))
+  read-answers (x ∷ xs) ys r s p ns ws h e b =
       let us = readsByte (l .settings) r x .says in
       let k = readerAfter (l .settings) r x in
-      join (act senderReads (link (sending s p ns ws h) e b (line r (x ∷ xs))))
-      (to (read-answers xs k s p ns (ws ++ us) h e b) (ap (λ (z : List Judged). link (sending s p ns z h) e b (line (readerThrough k xs) [])) (append-assoc ws us (verdictsOf k xs))))
+      join (act senderReads (link (sending s p ns ws h) e b (line r (x ∷ xs ++ ys))))
+      (to (read-answers xs ys k s p ns (ws ++ us) h e b) (ap (λ (z : List Judged). link (sending s p ns z h) e b (line (readerThrough k xs) ys)) (append-assoc ws us (verdictsOf k xs))))
+
+  -- a line that is written otherwise
+  pub from : {x y z : System} → y ≡ x → Reaches l y z → Reaches l x z
+  from {x} {y} {z} e r = subst (λ (k : System). Reaches l k z) e r

@@ -44,7 +44,7 @@ good-waiting Querying = refl
 good-waiting Sending = refl
 
 -- whatever stands behind the seven words
-words-read : (s : Sender) (rest : List ℕ) → senderIn (senderWords s ++ rest) ≡ Known s
+pub words-read : (s : Sender) (rest : List ℕ) → senderIn (senderWords s ++ rest) ≡ Known s
 unfolding senderIn
 words-read s rest =
     let p = s .persisted in

@@ -1,0 +1,319 @@
+-- include/giamuvich.h: two drivers that run a link by the C functions and keep their duties. All that they have is words and bytes: what they lend to a call, what they
+-- store and restore, what a report told them, and a verdict handed on as its number, its type and its data.
+use mathlib.Core.List.{List, [], _∷_, _++_}
+use mathlib.Core.Bool.{Bool, true, false, cond, not, _&&_}
+use Prim.Native.Nat.{ℕ}
+use Prim.Native.Char.{code}
+use lib.ListN.{length, take, drop, getD}
+use lib.Dec.{leb, eqb}
+use Rattle.lists.specs.Bytes.{same, over}
+use Rattle.lists.specs.Outcome.{Called, called}
+use Rattle.settings.specs.Settings.{capacityOf, hybridOf, minimalOf, linkOf}
+use Rattle.settings.specs.declared.Settings.{Settings}
+use Rattle.settings.specs.declared.Made.{Made}
+use Rattle.block_calls.specs.ReadCalls.{freshReaderCall, readCall}
+use Rattle.block_calls.specs.WriteCalls.{writeCall}
+use Rattle.message_calls.specs.MessageCalls.{minusOne}
+use Rattle.message_calls.specs.ControlCalls.{controlBlockCall}
+use Rattle.sender_calls.specs.SenderCalls.{freshCall, openCall, endedCall, resetCall, timerCall, blockCall, submitCall}
+use Rattle.receiver_calls.specs.ReceiverCalls.{receiveCall}
+use Rattle.link.specs.Duties.{oneAt, othersAt}
+use Rattle.link.specs.Line.{Reader, Line, line, emptyLine, readerAfter, damages, disorders}
+use Rattle.link.specs.System.{Link}
+use Rattle.call_theorems.specs.Reading.{Shown, foundBlock, usedBytes, shownBy}
+
+-- ---- what is passed
+-- the numbers of the block settings: SB, EB and D of the gmv_hybrid_ functions, D of the gmv_minimal_ ones
+pub data Numbers : Type 0 where
+  hybrid : ℕ → ℕ → ℕ → Numbers
+  minimal : ℕ → Numbers
+
+abbrev pub madeOf : Numbers → Made
+madeOf (hybrid sb eb d) = hybridOf sb eb d
+madeOf (minimal d) = minimalOf d
+
+-- a link, the numbers of its settings, and the letters of its control messages' type
+pub record Passed : Type 0 where
+  pub link : Link
+  pub numbers : Numbers
+  pub letters : List ℕ
+
+-- ---- what a driver has
+-- for a reader: GMV_READER words, the buffer, GMV_VERDICT words
+pub record ReaderMemory : Type 0 where
+  pub state : List ℕ
+  pub buffer : List ℕ
+  pub verdict : List ℕ
+
+abbrev pub readerMemory : List ℕ → List ℕ → List ℕ → ReaderMemory
+readerMemory s b v = record { state = s; buffer = b; verdict = v }
+
+-- a message that a report named: GMV_ACT_SEND, GMV_ACT_SEND_NUMBER
+pub record Named : Type 0 where
+  pub kind : ℕ
+  pub number : ℕ
+
+-- in memory at the sender's end: GMV_SENDER and GMV_ACT words, a reader's, and a buffer and report words for blocks
+pub record SenderMemory : Type 0 where
+  pub state : List ℕ
+  pub report : List ℕ
+  pub reader : ReaderMemory
+  pub block : List ℕ
+  pub written : List ℕ
+
+-- and what it stores: the persisted words; the messages named and not yet written, the verdicts not yet acted on
+pub record SenderEnd : Type 0 where
+  pub memory : SenderMemory
+  pub stored : List ℕ
+  pub named : List Named
+  pub arrived : List Shown
+
+-- in memory at the receiver's end: GMV_RECEIVER and GMV_RECEIVED words, a reader's, and a buffer for replies
+pub record ReceiverMemory : Type 0 where
+  pub state : List ℕ
+  pub report : List ℕ
+  pub reader : ReaderMemory
+  pub reply : List ℕ
+
+-- and the transactions, as held and as stored; the stored word; the replies not yet sent, the verdicts not yet acted on
+pub record ReceiverEnd : Type 0 where
+  pub memory : ReceiverMemory
+  pub has : List (List ℕ)
+  pub stored : List ℕ
+  pub «stored_has» : List (List ℕ)
+  pub pending : List (List ℕ)
+  pub arrived : List Shown
+
+-- both, and the lines: of these the definition knows where the reader stands in what was sent
+pub record Drivers : Type 0 where
+  pub sender : SenderEnd
+  pub receiver : ReceiverEnd
+  pub forward : Line
+  pub back : Line
+
+abbrev pub senderMemory : List ℕ → List ℕ → ReaderMemory → List ℕ → List ℕ → SenderMemory
+senderMemory s p r b w = record { state = s; report = p; reader = r; block = b; written = w }
+
+abbrev pub senderEnd : SenderMemory → List ℕ → List Named → List Shown → SenderEnd
+senderEnd m d ns ws = record { memory = m; stored = d; named = ns; arrived = ws }
+
+abbrev pub receiverMemory : List ℕ → List ℕ → ReaderMemory → List ℕ → ReceiverMemory
+receiverMemory s p r b = record { state = s; report = p; reader = r; reply = b }
+
+abbrev pub receiverEnd : ReceiverMemory → List (List ℕ) → List ℕ → List (List ℕ) → List (List ℕ) → List Shown → ReceiverEnd
+receiverEnd m ts d us bs ws = record { memory = m; has = ts; stored = d; «stored_has» = us; pending = bs; arrived = ws }
+
+abbrev pub drivers : SenderEnd → ReceiverEnd → Line → Line → Drivers
+drivers s e x b = record { sender = s; receiver = e; forward = x; back = b }
+
+-- ---- enough memory, of any content
+abbrev pub enoughToRead : Settings → ReaderMemory → Bool
+enoughToRead g m = leb 4 (length (m .state)) && (leb (capacityOf g) (length (m .buffer)) && leb 8 (length (m .verdict)))
+
+abbrev pub enoughToSend : Settings → SenderMemory → Bool
+enoughToSend g m = leb 7 (length (m .state)) && (leb 8 (length (m .report)) && enoughToRead g (m .reader))
+
+abbrev pub enoughToReceive : Settings → ReceiverMemory → Bool
+enoughToReceive g m = leb 1 (length (m .state)) && (leb 3 (length (m .report)) && enoughToRead g (m .reader))
+
+-- ---- reading
+-- gmv_reader_fresh
+abbrev pub freshReader : ReaderMemory → ReaderMemory
+freshReader m = readerMemory (freshReaderCall (m .state) .state) (m .buffer) (m .verdict)
+
+-- gmv_hybrid_read or gmv_minimal_read, of at most n of the bytes that came
+abbrev pub readBytes : Numbers → ℕ → ReaderMemory → Line → Called
+readBytes k n m x = readCall (madeOf k) (m .state) (take n (x .bytes)) (m .buffer) (m .verdict)
+
+abbrev pub afterReading : Called → ReaderMemory
+afterReading c = readerMemory (c .state) (c .buffer) (c .report)
+
+abbrev pub newVerdict : Called → List Shown
+newVerdict c = cond (foundBlock c) (shownBy c ∷ []) []
+
+unfoldable pub readerPast : Settings → Reader → List ℕ → Reader
+readerPast g r [] = r
+readerPast g r (x ∷ xs) = readerPast g (readerAfter g r x) xs
+
+abbrev pub linePast : Settings → ℕ → Line → Line
+linePast g n x = line (readerPast g (x .reader) (take n (x .bytes))) (drop n (x .bytes))
+
+-- ---- the sender's end
+-- what a report names, if the call was done
+abbrev pub namedBy : Called → List Named
+namedBy c = cond (eqb (c .number) 0 && not (eqb (getD (c .report) 0 0) 0)) (record { kind = getD (c .report) 0 0; number = getD (c .report) 1 0 } ∷ []) []
+
+-- GMV_SENDER_WAITING is 0 where no circuit is open: what was named is dropped then
+abbrev pub namedThen : List Named → Called → List Named
+namedThen ns c = cond (eqb (getD (c .state) 5 0) 0) [] (ns ++ namedBy c)
+
+abbrev pub withCall : SenderMemory → Called → SenderMemory
+withCall m c = senderMemory (c .state) (c .report) (m .reader) (m .block) (m .written)
+
+abbrev pub senderCalled : SenderEnd → List Shown → Called → SenderEnd
+senderCalled e ws c = senderEnd (withCall (e .memory) c) (e .stored) (namedThen (e .named) c) ws
+
+abbrev pub bySender : Drivers → List Shown → Called → Drivers
+bySender x ws c = drivers (senderCalled (x .sender) ws c) (x .receiver) (x .forward) (x .back)
+
+-- a new circuit: the lines are empty, both readers fresh, and what was read, named or still to be sent on the earlier one is dropped
+abbrev pub openedBy : Drivers → Called → Drivers
+openedBy x c =
+    let m = x .sender .memory in
+    let n = x .receiver .memory in
+    let e = x .receiver in
+    drivers (senderEnd (senderMemory (c .state) (c .report) (freshReader (m .reader)) (m .block) (m .written)) (x .sender .stored) (namedBy c) [])
+    (receiverEnd (receiverMemory (n .state) (n .report) (freshReader (n .reader)) (n .reply)) (e .has) (e .stored) (e .«stored_has») [] []) emptyLine emptyLine
+
+-- the block of a message named: gmv_*_control_block for -1 and 0, gmv_*_write for a transaction, from an offset of the buffer on
+abbrev pub blockOfNamed : Passed → ℕ → SenderMemory → Named → Called
+blockOfNamed k start m v =
+    cond (eqb (v .kind) 1) (controlBlockCall (linkOf (madeOf (k .numbers))) (k .letters) minusOne (m .block) start (m .written))
+    (cond (eqb (v .kind) 2) (controlBlockCall (linkOf (madeOf (k .numbers))) (k .letters) 0 (m .block) start (m .written))
+    (writeCall (madeOf (k .numbers)) (code "D") (k .link .log (v .number)) (m .block) start (m .written)))
+
+-- it goes out once it could be written and the persisted words are stored
+abbrev pub sentBy : Drivers → ℕ → List Named → Called → Drivers
+sentBy x start ns c =
+    let e = x .sender in
+    let m = x .sender .memory in
+    cond (eqb (c .number) 0 && same (take 5 (m .state)) (e .stored))
+    (drivers (senderEnd (senderMemory (m .state) (m .report) (m .reader) (c .buffer) (c .report)) (e .stored) ns (e .arrived)) (x .receiver)
+    (line (x .forward .reader) (x .forward .bytes ++ take (getD (c .report) 0 0) (drop start (c .buffer)))) (x .back)) x
+
+abbrev pub oldestSent : Passed → ℕ → Drivers → List Named → Drivers
+oldestSent k start x [] = x
+oldestSent k start x (v ∷ ns) = sentBy x start ns (blockOfNamed k start (x .sender .memory) v)
+
+abbrev pub answerRead : Passed → Drivers → Called → Drivers
+answerRead k x c =
+    let e = x .sender in
+    let m = x .sender .memory in
+    cond (eqb (c .number) 0)
+    (drivers (senderEnd (senderMemory (m .state) (m .report) (afterReading c) (m .block) (m .written)) (e .stored) (e .named) (e .arrived ++ newVerdict c)) (x .receiver)
+    (x .forward) (linePast (k .link .settings) (usedBytes c) (x .back))) x
+
+abbrev pub verdictTaken : Passed → Drivers → List Shown → List Shown → Drivers
+verdictTaken k x [] ws = x
+verdictTaken k x (w ∷ none) ws =
+    bySender x ws (blockCall (k .link .resends) (w .number) (w .type) (w .content) (x .sender .memory .state) (x .sender .memory .report))
+
+-- the stored words, and 0 for the two others
+abbrev pub restoredWords : SenderEnd → List ℕ → List ℕ
+restoredWords e s = over s (e .stored ++ 0 ∷ 0 ∷ [])
+
+-- ---- the receiver's end
+abbrev pub replyBy : ℕ → Called → List (List ℕ)
+replyBy start c = cond (eqb (getD (c .report) 1 0) 0) [] (take (getD (c .report) 1 0) (drop start (c .buffer)) ∷ [])
+
+-- GMV_RECEIVED_TRANSACTION is 0 where there is none
+abbrev pub withTransaction : List (List ℕ) → List ℕ → Called → List (List ℕ)
+withTransaction ts d c = cond (eqb (getD (c .report) 0 0) 0) ts (ts ++ d ∷ [])
+
+abbrev pub requestRead : Passed → Drivers → Called → Drivers
+requestRead k x c =
+    let e = x .receiver in
+    let m = x .receiver .memory in
+    cond (eqb (c .number) 0)
+    (drivers (x .sender) (receiverEnd (receiverMemory (m .state) (m .report) (afterReading c) (m .reply)) (e .has) (e .stored) (e .«stored_has») (e .pending) (e .arrived ++ newVerdict c))
+    (linePast (k .link .settings) (usedBytes c) (x .forward)) (x .back)) x
+
+-- gmv_*_receive: a call that is refused changes nothing, and the block may be offered again
+abbrev pub receivedBy : Drivers → ℕ → List ℕ → List Shown → Called → Drivers
+receivedBy x start d ws c =
+    let e = x .receiver in
+    cond (eqb (c .number) 0)
+    (drivers (x .sender) (receiverEnd (receiverMemory (c .state) (c .report) (e .memory .reader) (c .buffer)) (withTransaction (e .has) d c) (e .stored) (e .«stored_has»)
+    (e .pending ++ replyBy start c) ws) (x .forward) (x .back)) x
+
+abbrev pub requestTaken : Passed → ℕ → ℕ → Drivers → List Shown → Drivers
+requestTaken k application start x [] = x
+requestTaken k application start x (w ∷ ws) =
+    let m = x .receiver .memory in
+    receivedBy x start (w .content) ws
+    (receiveCall (linkOf (madeOf (k .numbers))) application (m .state) (w .number) (w .type) (w .content) (m .reply) start (m .report))
+
+-- the oldest reply goes out once the word and the transactions are stored
+abbrev pub replySent : Drivers → List (List ℕ) → Drivers
+replySent x [] = x
+replySent x (b ∷ bs) =
+    let e = x .receiver in
+    cond (same (take 1 (e .memory .state)) (e .stored) && eqb (length (e .has)) (length (e .«stored_has»)))
+    (drivers (x .sender) (receiverEnd (e .memory) (e .has) (e .stored) (e .«stored_has») bs (e .arrived)) (x .forward) (line (x .back .reader) (x .back .bytes ++ b))) x
+
+-- ---- the acts, in any order
+pub data DriverAct : Type 0 where
+  opens ends resets timer : DriverAct
+  submits : ℕ → List ℕ → DriverAct
+  stores restores receiverStores receiverRestores replies : DriverAct
+  -- at an offset of the buffer for blocks; at most so many bytes; which verdict
+  sends reads takes drops : ℕ → DriverAct
+  receiverReads receiverDrops : ℕ → DriverAct
+  -- the application's verdict, and the reply's offset
+  receives : ℕ → ℕ → DriverAct
+  -- the memory is new, of any content
+  crashes : SenderMemory → DriverAct
+  receiverCrashes : ReceiverMemory → DriverAct
+  damagesForward damagesBack : List ℕ → DriverAct
+
+abbrev pub afterDriver : Passed → DriverAct → Drivers → Drivers
+afterDriver k opens x =
+    let c = openCall (x .sender .memory .state) (x .sender .memory .report) in
+    cond (eqb (c .number) 0) (openedBy x c) (bySender x (x .sender .arrived) c)
+afterDriver k ends x = bySender x (x .sender .arrived) (endedCall (x .sender .memory .state) (x .sender .memory .report))
+afterDriver k resets x = bySender x (x .sender .arrived) (resetCall (x .sender .memory .state) (x .sender .memory .report))
+afterDriver k timer x = bySender x (x .sender .arrived) (timerCall (k .link .resends) (x .sender .memory .state) (x .sender .memory .report))
+afterDriver k (submits limit d) x = bySender x (x .sender .arrived) (submitCall limit d (x .sender .memory .state) (x .sender .memory .report))
+afterDriver k stores x =
+    let e = x .sender in
+    drivers (senderEnd (e .memory) (take 5 (e .memory .state)) (e .named) (e .arrived)) (x .receiver) (x .forward) (x .back)
+-- storing failed: the driver goes on from what is stored
+afterDriver k restores x =
+    let e = x .sender in
+    let m = x .sender .memory in
+    drivers (senderEnd (senderMemory (restoredWords e (m .state)) (m .report) (m .reader) (m .block) (m .written)) (e .stored) [] (e .arrived)) (x .receiver) (x .forward) (x .back)
+afterDriver k (sends start) x = oldestSent k start x (x .sender .named)
+afterDriver k (reads n) x = answerRead k x (readBytes (k .numbers) n (x .sender .memory .reader) (x .back))
+afterDriver k (takes n) x = verdictTaken k x (oneAt n (x .sender .arrived)) (othersAt n (x .sender .arrived))
+afterDriver k (drops n) x =
+    let e = x .sender in
+    drivers (senderEnd (e .memory) (e .stored) (e .named) (othersAt n (e .arrived))) (x .receiver) (x .forward) (x .back)
+afterDriver k (crashes m) x =
+    let e = x .sender in
+    cond (enoughToSend (k .link .settings) m)
+    (drivers (senderEnd (senderMemory (restoredWords e (m .state)) (m .report) (freshReader (m .reader)) (m .block) (m .written)) (e .stored) [] []) (x .receiver)
+    (line (x .forward .reader) []) emptyLine) x
+afterDriver k (receiverReads n) x = requestRead k x (readBytes (k .numbers) n (x .receiver .memory .reader) (x .forward))
+afterDriver k (receives application start) x = requestTaken k application start x (x .receiver .arrived)
+afterDriver k (receiverDrops n) x =
+    let e = x .receiver in
+    drivers (x .sender) (receiverEnd (e .memory) (e .has) (e .stored) (e .«stored_has») (e .pending) (othersAt n (e .arrived))) (x .forward) (x .back)
+afterDriver k receiverStores x =
+    let e = x .receiver in
+    drivers (x .sender) (receiverEnd (e .memory) (e .has) (take 1 (e .memory .state)) (e .has) (e .pending) (e .arrived)) (x .forward) (x .back)
+afterDriver k replies x = replySent x (x .receiver .pending)
+-- storing failed: on the same circuit, and no reply that was owed goes out
+afterDriver k receiverRestores x =
+    let e = x .receiver in
+    let m = x .receiver .memory in
+    drivers (x .sender) (receiverEnd (receiverMemory (over (m .state) (e .stored)) (m .report) (m .reader) (m .reply)) (e .«stored_has») (e .stored) (e .«stored_has») [] (e .arrived))
+    (x .forward) (x .back)
+afterDriver k (receiverCrashes m) x =
+    let e = x .receiver in
+    cond (enoughToReceive (k .link .settings) m)
+    (drivers (x .sender) (receiverEnd (receiverMemory (over (m .state) (e .stored)) (m .report) (freshReader (m .reader)) (m .reply)) (e .«stored_has») (e .stored) (e .«stored_has») [] [])
+    emptyLine (line (x .back .reader) [])) x
+afterDriver k (damagesForward xs) x = cond (damages (k .link .settings) (x .forward) xs) (drivers (x .sender) (x .receiver) (line (x .forward .reader) xs) (x .back)) x
+afterDriver k (damagesBack xs) x = cond (disorders (k .link .settings) (x .back) xs) (drivers (x .sender) (x .receiver) (x .forward) (line (x .back .reader) xs)) x
+
+-- a run, the newest act first
+unfoldable pub drivenBy : Passed → Drivers → List DriverAct → Drivers
+drivenBy k x [] = x
+drivenBy k x (a ∷ ds) = afterDriver k a (drivenBy k x ds)
+
+-- ---- a tenancy begins: gmv_sender_fresh, whose words are stored; a receiver whose word is stored, with none of the log; gmv_reader_fresh at both ends
+abbrev pub tenancyOf : Passed → SenderMemory → ReceiverMemory → ℕ → Drivers
+tenancyOf k m n e =
+    let s = freshCall (k .link .first) (m .state) .state in
+    drivers (senderEnd (senderMemory s (m .report) (freshReader (m .reader)) (m .block) (m .written)) (take 5 s) [] [])
+    (receiverEnd (receiverMemory (over (n .state) (e ∷ [])) (n .report) (freshReader (n .reader)) (n .reply)) [] (e ∷ []) [] [] []) emptyLine emptyLine
