@@ -360,9 +360,10 @@ uint64_t gmv_control_write(const uint8_t *type, size_t type_length, uint64_t num
 /* ---- The two ends of a link ----
  *
  * A line carries the blocks of one sender and the replies of one receiver. It may lose and damage
- * them, but keeps their order and brings none twice. A circuit is one connection of the line. A
- * tenancy is one sender with its log, from gmv_sender_fresh on, over as many circuits as it takes.
- * Persisted is what a crash and a power cut leave (HOST-34).
+ * them. The sender's blocks come in their order and none twice (HOST-30); replies may come in any
+ * order, and again, while their circuit lasts. A circuit is one connection of the line. A tenancy is
+ * one sender with its log, from gmv_sender_fresh on, over as many circuits as it takes. Persisted is
+ * what a crash and a power cut leave (HOST-34).
  *
  * The driver's duties at both ends, besides memory. They are needed so that each transaction is stored
  * once and in order: docs/LINK.md has the theorem. Each is said here in short; docs/HOST.md has it
@@ -375,8 +376,9 @@ uint64_t gmv_control_write(const uint8_t *type, size_t type_length, uint64_t num
  *   HOST-12  at each new circuit the reader starts afresh (gmv_reader_fresh),
  *   HOST-31  replies not yet sent, sends not yet written and blocks not yet acted on are dropped with
  *            their circuit, and by a crash,
- *   HOST-35  a call changes the state in memory: a driver that cannot persist it sends nothing more,
- *            ends the circuit and goes on from what is persisted, as after a crash,
+ *   HOST-35  a call changes the state in memory: a driver that cannot persist it drops every reply not
+ *            yet sent and every send not yet written, and goes on from what is persisted; a sender's
+ *            circuit is over then, a receiver may go on on the same one,
  *   HOST-36  what is found at a start, the log too, is made durable before anything rests on it,
  *   HOST-39  each tenant begins with a new sender (gmv_sender_fresh) and a log of its own. */
 
@@ -386,8 +388,8 @@ uint64_t gmv_control_write(const uint8_t *type, size_t type_length, uint64_t num
  *   HOST-15, HOST-16  the state and the transaction named in the report are persisted, as one act,
  *            before the reply goes out,
  *   HOST-17  and before the next block is decided,
- *   HOST-18  blocks are offered in the order in which they were read; a refused one is offered again
- *            first, or dropped,
+ *   HOST-18  blocks are offered in the order in which they were read; one whose call was refused, or
+ *            whose change could not be persisted, is offered again first, or dropped,
  *   HOST-2   the reply buffer is not the reader's buffer: the data of the block still lies in that. */
 
 /* The words of a receiver's state. All of it is persisted. */
@@ -470,7 +472,8 @@ uint64_t gmv_minimal_receive(uint64_t data_limit,
  *   HOST-22  what a report names is sent at once, in the order named, each block whole,
  *   HOST-23  before the first circuit is opened the control block is written once, to try it: a bad
  *            type is refused only there (1),
- *   HOST-24  each block that the reader finds on an open circuit is reported, a refused one too,
+ *   HOST-24  each block that the reader finds on an open circuit is reported, a refused one too, in
+ *            any order,
  *   HOST-41  the timer runs anew from each send that a report names, as long as something waits,
  *   HOST-32  after GMV_EVENT_ABANDONED and GMV_EVENT_FROZE the circuit has ended for the sender: the
  *            driver closes the line, and does not call gmv_sender_ended (it would answer 11),
