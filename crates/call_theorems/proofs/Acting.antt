@@ -54,12 +54,12 @@ module _ (s : Sender) (valid : validSender s ≡ true) (st p : List ℕ) (b : Be
   written a = go (eqb (actOf a s .refusal) 0) refl
     where
       go : (z : Bool) → eqb (actOf a s .refusal) 0 ≡ z → Does s st p (actOf a s) (actWritten st p (actOf a s))
-      go true z = done (rw z)
+      go true z = done (eqb-true (actOf a s .refusal) 0 z) (rw z)
       go false z =
           let n = some-number (actOf a s .refusal) z in
           let same = step-refused (steps s valid a) n in
           let is : actWritten st p (actOf a s) ≡ called (actOf a s .refusal) st [] (over p (actWords (actOf a s))) = rw z in
-          subst (Does s st p (actOf a s)) (sym is) (refused n refl (report-length (actOf a s) st p h) (same .0) (same .1))
+          subst (Does s st p (actOf a s)) (sym is) (refused n refl refl (report-length (actOf a s) st p h) (same .0) (same .1))
 
   -- a call that is the act a
   does : (a : Act) (f : Sender → Acted) → f s ≡ actOf a s → Does s st p (actOf a s) (senderCall f st p)
@@ -85,13 +85,17 @@ module _ (s : Sender) (valid : validSender s ≡ true) (st p : List ℕ) (b : Be
   unfolding submitOf
   limit-refused limit d z = rw z
 
+  limit-setting : (limit : ℕ) (d : List ℕ) → validLinkLimit limit ≡ false → submitOf limit s d .refusal ≡ 1
+  unfolding submitOf
+  limit-setting limit d z = rw z
+
   pub submit-does : (limit : ℕ) (d : List ℕ) → Does s st p (submitOf limit s d) (submitCall limit d st p)
   unfolding submitCall
   submit-does limit d = go (validLinkLimit limit) refl
     where
       go : (z : Bool) → validLinkLimit limit ≡ z → Does s st p (submitOf limit s d) (cond z (senderCall (λ (k : Sender). submitOf limit k d) st p) (called 1 st [] p))
       go true z = does (submit limit d) (λ (k : Sender). submitOf limit k d) refl
-      go false z = let same = step-refused (steps s valid (submit limit d)) (limit-refused limit d z) in refused refl refl refl (same .0) (same .1)
+      go false z = let same = step-refused (steps s valid (submit limit d)) (limit-refused limit d z) in refused (limit-refused limit d z) (sym (limit-setting limit d z)) refl refl (same .0) (same .1)
 
   pub block-does : (r : ℕ) → r ≤ 99 → (v : Verdict) (d : List ℕ) → readerGives v ≡ true → Does s st p (blockReadOf r s v d) (blockCall r (numberOf v) (typeOf v) d st p)
   unfolding blockCall

@@ -5,3 +5,6 @@ pub mod Streams
 pub mod Shows
 pub mod Acting
 pub mod Taking
+pub mod Driving
+pub mod Writing
+pub mod SenderDriving

@@ -89,8 +89,8 @@ behind-length {ws} {st} b = let e : length st ≡ length ws + length (b .rest) =
 
 -- ---- a call of an act of the sender: it was done, or it was refused and left the state
 pub data Does (s : Sender) (st p : List ℕ) (a : Acted) (c : Called) : Type 0 where
-  done : c ≡ called 0 (over st (senderWords (a .sender))) [] (over p (actWords a)) → Does s st p a c
-  refused : leb 1 (c .number) ≡ true → c .state ≡ st → length (c .report) ≡ length p → a .sender ≡ s → a .send ≡ Nothing → Does s st p a c
+  done : a .refusal ≡ 0 → c ≡ called 0 (over st (senderWords (a .sender))) [] (over p (actWords a)) → Does s st p a c
+  refused : leb 1 (a .refusal) ≡ true → c .number ≡ a .refusal → c .state ≡ st → length (c .report) ≡ length p → a .sender ≡ s → a .send ≡ Nothing → Does s st p a c
 
 -- what the report names
 eight : (a : Acted) → length (actWords a) ≡ 8
@@ -154,7 +154,7 @@ module _ (g : Settings) (e : SenderEnd) (y : SendingEnd) (x : Line) (i : SenderS
   call-shows = go d
     where
       go : Does (y .sender) (e .memory .state) (e .memory .report) a c → SenderShows g (senderCalled e ws c) (actedEnd y vs a) x
-      go (done z) = subst (λ (k : Called). SenderShows g (senderCalled e ws k) (actedEnd y vs a) x) (sym z) done-shows
+      go (done o z) = subst (λ (k : Called). SenderShows g (senderCalled e ws k) (actedEnd y vs a) x) (sym z) done-shows
         where
           behind : Behind (senderWords (a .sender)) (over (e .memory .state) (senderWords (a .sender)))
           behind = over-behind (senderWords (a .sender)) (e .memory .state) (behind-length (i .state))
@@ -170,8 +170,8 @@ module _ (g : Settings) (e : SenderEnd) (y : SendingEnd) (x : Line) (i : SenderS
                 arrived = arrived;
                 reader = i .reader;
               }
-      go (refused n z l same none) =
-          let number : eqb (c .number) 0 ≡ false = ne-eqb (c .number) 0 (λ q. let k = leb-true 1 (c .number) n in omega arith) in
+      go (refused n o z l same none) =
+          let number : eqb (c .number) 0 ≡ false = ne-eqb (c .number) 0 (λ q. let k = leb-true 1 (a .refusal) n in omega arith) in
           record {
             state = subst (λ (t : List ℕ). Behind (senderWords (a .sender)) t) (sym z) (subst (λ (k : Sender). Behind (senderWords k) (e .memory .state)) (sym same) (i .state));
             report = let k = i .report in omega arith;

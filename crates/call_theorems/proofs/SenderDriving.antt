@@ -1,0 +1,290 @@
+-- The sender's driver sends, reads, acts on verdicts and crashes: each is a run of the link.
+use mathlib.Core.Path.{_≡_, refl, sym, ap, _∙_, subst}
+use mathlib.Core.List.{List, [], _∷_, _++_}
+use mathlib.Core.Bool.{Bool, true, false, cond, not, _&&_, _||_}
+use Prim.Native.Nat.{ℕ, zero, suc, _+_, _≤_}
+use Prim.Native.Char.{code}
+use native.Mathlib.Omega.{arith}
+use lib.ListN.{length, take, drop, getD, take-append-drop}
+use lib.Dec.{leb, eqb}
+use borrow.Author.Tests.{leb-true, eq-eqb}
+use Rattle.lists.specs.Bytes.{same, over}
+use Rattle.lists.specs.Outcome.{Called}
+use Rattle.lists.proofs.Tests.{and-left, and-right}
+use Rattle.lists.proofs.Same.{same-is}
+use Rattle.settings.specs.Settings.{capacityOf}
+use Rattle.settings.specs.declared.Settings.{Settings}
+use Rattle.block.specs.Format.{blockOf}
+use Rattle.numbers.specs.declared.SequenceNumber.{SequenceNumber}
+use Rattle.stream.specs.Stream.{Judged}
+use Rattle.sender.specs.Sender.{blockReadOf}
+use Rattle.sender.specs.declared.Persisted.{Persisted}
+use Rattle.sender_calls.specs.SenderCalls.{flagWord, persistedWords, senderWords, blockCall}
+use Rattle.link.specs.Duties.{every, oneAt, othersAt}
+use Rattle.link.specs.Line.{Reader, Line, line, emptyLine, readerAfter}
+use Rattle.link.specs.System.{Link, System, sending, link, requestOf, sameFlag, samePersisted, requestWritten, answerTaken, senderActed}
+use Rattle.link.specs.System.{senderWrites, senderActs, senderDiscards, senderCrashes, afterAct}
+use Rattle.link.specs.Promise.{Ready}
+use Rattle.link.proofs.Queues.{All, all-head, all-right, Each, each-none, each-more, Front, front, each-front}
+use Rattle.link.proofs.Messages.{Nameable, request-writable}
+use Rattle.link.proofs.RequestsRead.{all-nameable}
+use Rattle.link.proofs.Invariant.{Inv}
+use Rattle.link.proofs.Runs.{Reaches, to, from, read-answers, readerThrough}
+use Rattle.call_theorems.specs.Reading.{Shown, shown, usedBytes}
+use Rattle.call_theorems.specs.Driver.{Passed, madeOf, Named, ReaderMemory, SenderMemory, Drivers, drivers, senderEnd, senderMemory, enoughToRead, enoughToSend, readerPast, linePast, afterReading, freshReader}
+use Rattle.call_theorems.specs.Driver.{readBytes, newVerdict, blockOfNamed, sentBy, oldestSent, answerRead, verdictTaken, bySender, afterDriver, sends, reads, takes, drops, crashes}
+use Rattle.call_theorems.specs.DriversPromise.{Agrees}
+use Rattle.call_theorems.proofs.Shows.{SameSend, SameVerdict, StandsOn, SenderShows, Shows, behind-length}
+use Rattle.call_theorems.proofs.Acting.{block-does}
+use Rattle.call_theorems.proofs.Taking.{Took, brought, read-took}
+use Rattle.call_theorems.proofs.Writing.{named-written}
+use Rattle.call_theorems.proofs.Driving.{Goes, stays, by-act, settings-valid, fresh-on, by-call, restored}
+
+-- ---- the persisted words are stored
+flags-same : (a b : Bool) → flagWord a ≡ flagWord b → sameFlag a b ≡ true
+flags-same true true e = refl
+flags-same true false e = absurd (omega (arith, e))
+flags-same false true e = absurd (omega (arith, e))
+flags-same false false e = refl
+
+words-same : (p q : Persisted) → persistedWords p ≡ persistedWords q → samePersisted p q ≡ true
+words-same p q e =
+    rw (
+      eq-eqb (p .first) (q .first) (ap (λ (l : List ℕ). getD l 0 0) e),
+      eq-eqb (p .delivered) (q .delivered) (ap (λ (l : List ℕ). getD l 1 0) e),
+      eq-eqb (p .last) (q .last) (ap (λ (l : List ℕ). getD l 2 0) e),
+      flags-same (p .resynchronized) (q .resynchronized) (ap (λ (l : List ℕ). getD l 3 0) e),
+      flags-same (p .frozen) (q .frozen) (ap (λ (l : List ℕ). getD l 4 0) e),
+    )
+
+-- ---- one of a list, and the others
+pub each-one : {A B : Type 0} {R : A → B → Type 0} (n : ℕ) {xs : List A} {ys : List B} → Each R xs ys → Each R (oneAt n xs) (oneAt n ys)
+unfolding oneAt
+each-one n each-none = each-none
+each-one zero (each-more p ps) = each-more p each-none
+each-one (suc n) (each-more p ps) = each-one n ps
+
+pub each-others : {A B : Type 0} {R : A → B → Type 0} (n : ℕ) {xs : List A} {ys : List B} → Each R xs ys → Each R (othersAt n xs) (othersAt n ys)
+unfolding othersAt
+each-others n each-none = each-none
+each-others zero (each-more p ps) = ps
+each-others (suc n) (each-more p ps) = each-more p (each-others n ps)
+
+pub each-both : {A B : Type 0} {R : A → B → Type 0} {xs us : List A} {ys vs : List B} → Each R xs ys → Each R us vs → Each R (xs ++ us) (ys ++ vs)
+each-both each-none q = q
+each-both (each-more p ps) q = each-more p (each-both ps q)
+
+pub past-through : (l : Link) (xs : List ℕ) (r : Reader) → readerThrough l r xs ≡ readerPast (l .settings) r xs
+unfolding readerPast
+past-through l [] r = refl
+past-through l (x ∷ xs) r = past-through l xs (readerAfter (l .settings) r x)
+
+module _ (k : Passed) (ag : Agrees k) (rd : Ready (k .link)) (x : Drivers) (y : System) (i : Inv (k .link) y) (h : Shows (k .link) x y) where
+  abbrev l : Link
+  l = k .link
+
+  abbrev g : Settings
+  g = k .link .settings
+
+  -- ---- sending
+  module _ (start : ℕ) (n : Named) (ns : List Named) (v : SequenceNumber) (vs : List SequenceNumber) (queue : y .sending .named ≡ v ∷ vs) (is : SameSend n v) (rest : Each SameSend ns vs) where
+    abbrev call : Called
+    call = blockOfNamed k start (x .sender .memory) n
+
+    nameable : Nameable (l .first) v
+    nameable = all-head (all-right (i .way .forward) (v ∷ vs) (subst (λ (ms : List SequenceNumber). All (Nameable (l .first)) (i .way .forward ++ ms)) queue (all-nameable (i .core))))
+
+    abbrev sent : Drivers
+    sent =
+        let e = x .sender in
+        let m = x .sender .memory in
+        drivers (senderEnd (senderMemory (m .state) (m .report) (m .reader) (call .buffer) (call .report)) (e .stored) ns (e .arrived)) (x .receiver)
+        (line (x .forward .reader) (x .forward .bytes ++ take (getD (call .report) 0 0) (drop start (call .buffer)))) (x .back)
+
+    abbrev written : System
+    written =
+        link (sending (y .sending .sender) (y .sending .persisted) vs (y .sending .arrived) (y .sending .history)) (y .receiving)
+        (line (y .forward .reader) (y .forward .bytes ++ blockOf g (code "D") (requestOf l v))) (y .back)
+
+    written-is : samePersisted (y .sending .sender .persisted) (y .sending .persisted) ≡ true → afterAct every l (senderWrites 0) y ≡ written
+    unfolding oneAt othersAt
+    written-is s =
+        ap (λ (ms : List SequenceNumber). requestWritten every l y (oneAt 0 ms) (othersAt 0 ms)) queue
+        ∙ ap (λ (b : Bool). cond b written y) s
+
+    sent-shows : eqb (call .number) 0 ≡ true → Shows l sent written
+    sent-shows d =
+        record {
+          sender = record { state = h .sender .state; report = h .sender .report; stored = h .sender .stored; named = rest; arrived = h .sender .arrived; reader = h .sender .reader };
+          receiver = record {
+            state = h .receiver .state;
+            report = h .receiver .report;
+            has = h .receiver .has;
+            stored = h .receiver .stored;
+            stored-has = h .receiver .stored-has;
+            pending = h .receiver .pending;
+            arrived = h .receiver .arrived;
+            reader = record { stands = h .receiver .reader .stands; within = h .receiver .reader .within };
+          };
+          forward =
+              ap (λ (bs : List ℕ). line (x .forward .reader) (x .forward .bytes ++ bs)) (named-written k ag rd start (x .sender .memory) n v is (request-writable l rd v nameable) d)
+              ∙ ap (λ (z : Line). line (z .reader) (z .bytes ++ blockOf g (code "D") (requestOf l v))) (h .forward);
+          back = h .back;
+        }
+
+    one-sent : (b : Bool) → (eqb (call .number) 0 && same (take 5 (x .sender .memory .state)) (x .sender .stored)) ≡ b → Goes l (cond b sent x) y
+    one-sent false e = stays l x y h
+    one-sent true e =
+        let done = and-left (eqb (call .number) 0) (same (take 5 (x .sender .memory .state)) (x .sender .stored)) e in
+        let words = same-is (take 5 (x .sender .memory .state)) (x .sender .stored) (and-right (eqb (call .number) 0) (same (take 5 (x .sender .memory .state)) (x .sender .stored)) e) in
+        let kept = words-same (y .sending .sender .persisted) (y .sending .persisted) (sym (ap (take 5) (h .sender .state .is)) ∙ words ∙ h .sender .stored) in
+        by-act l sent y (senderWrites 0) (subst (Shows l sent) (sym (written-is kept)) (sent-shows done))
+
+  pub sends-goes : (start : ℕ) → Goes l (afterDriver k (sends start) x) y
+  sends-goes start = go (x .sender .named) (h .sender .named)
+    where
+      named : (n : Named) (ns : List Named) → Front SameSend n ns (y .sending .named) → Goes l (oldestSent k start x (n ∷ ns)) y
+      named n ns (front v vs q is rest) = one-sent start n ns v vs q is rest (eqb (blockOfNamed k start (x .sender .memory) n .number) 0 && same (take 5 (x .sender .memory .state)) (x .sender .stored)) refl
+
+      go : (ns : List Named) → Each SameSend ns (y .sending .named) → Goes l (oldestSent k start x ns) y
+      go [] e = stays l x y h
+      go (n ∷ ns) e = named n ns (each-front e)
+
+  -- ---- reading
+  module _ (u : ℕ) where
+    abbrev readEnd : System
+    readEnd =
+        let e = y .sending in
+        link (sending (e .sender) (e .persisted) (e .named) (e .arrived ++ brought g u (y .back)) (e .history)) (y .receiving) (y .forward) (linePast g u (y .back))
+
+    answers-run : Reaches l y readEnd
+    answers-run =
+        let e = y .sending in
+        let b = y .back in
+        from l (ap (λ (bs : List ℕ). link e (y .receiving) (y .forward) (line (b .reader) bs)) (take-append-drop u (b .bytes)))
+        (to l (read-answers l (take u (b .bytes)) (drop u (b .bytes)) (b .reader) (e .sender) (e .persisted) (e .named) (e .arrived) (e .history) (y .receiving) (y .forward))
+        (ap (λ (r : Reader). link (sending (e .sender) (e .persisted) (e .named) (e .arrived ++ brought g u (y .back)) (e .history)) (y .receiving) (y .forward) (line r (drop u (b .bytes))))
+        (past-through l (take u (b .bytes)) (b .reader))))
+
+  module _ (n : ℕ) where
+    abbrev reading : Called
+    reading = readBytes (k .numbers) n (x .sender .memory .reader) (x .back)
+
+    abbrev used : ℕ
+    used = usedBytes reading
+
+    abbrev readBy : Drivers
+    readBy =
+        let e = x .sender in
+        let m = x .sender .memory in
+        drivers (senderEnd (senderMemory (m .state) (m .report) (afterReading reading) (m .block) (m .written)) (e .stored) (e .named) (e .arrived ++ newVerdict reading)) (x .receiver)
+        (x .forward) (linePast g used (x .back))
+
+    read-shows : Took g (x .back) reading → Shows l readBy (readEnd used)
+    read-shows t =
+        record {
+          sender = record {
+            state = h .sender .state;
+            report = h .sender .report;
+            stored = h .sender .stored;
+            named = h .sender .named;
+            arrived = each-both (h .sender .arrived) (subst (λ (z : Line). Each (SameVerdict g) (newVerdict reading) (brought g used z)) (h .back) (t .shows));
+            reader = t .stands;
+          };
+          receiver = h .receiver;
+          forward = h .forward;
+          back = ap (linePast g used) (h .back);
+        }
+
+    pub reads-goes : Goes l (afterDriver k (reads n) x) y
+    reads-goes = go (eqb (reading .number) 0) refl
+      where
+        go : (b : Bool) → eqb (reading .number) 0 ≡ b → Goes l (cond b readBy x) y
+        go false e = stays l x y h
+        go true e =
+            record {
+              end = readEnd used;
+              run = answers-run used;
+              shows = read-shows (read-took g (settings-valid k ag rd) (x .sender .memory .reader) (x .back) (h .sender .reader) n (madeOf (k .numbers)) (ag .settings) e);
+            }
+
+  -- ---- acting on a verdict
+  pub takes-goes : (n : ℕ) → Goes l (afterDriver k (takes n) x) y
+  takes-goes n = go (oneAt n (x .sender .arrived)) (oneAt n (y .sending .arrived)) refl (each-one n (h .sender .arrived))
+    where
+      by : (vs : List Judged) → oneAt n (y .sending .arrived) ≡ vs → afterAct every l (senderActs n) y ≡ answerTaken l y vs (othersAt n (y .sending .arrived))
+      by vs e = ap (λ (us : List Judged). answerTaken l y us (othersAt n (y .sending .arrived))) e
+
+      go : (ws : List Shown) (vs : List Judged) → oneAt n (y .sending .arrived) ≡ vs → Each (SameVerdict g) ws vs → Goes l (verdictTaken k x ws (othersAt n (x .sender .arrived))) y
+      go [] vs e each-none = stays l x y h
+      go (w ∷ ws) (v ∷ vs) e (each-more p ps) =
+          let s = y .sending .sender in
+          let st = x .sender .memory .state in
+          let r = x .sender .memory .report in
+          let a = blockReadOf (l .resends) s (v .verdict) (v .content) in
+          by-act l (verdictTaken k x (w ∷ ws) (othersAt n (x .sender .arrived))) y (senderActs n)
+          (subst (λ (z : System). Shows l (verdictTaken k x (w ∷ ws) (othersAt n (x .sender .arrived))) z) (sym (by (v ∷ vs) e))
+          (subst (λ (z : Shown). Shows l (bySender x (othersAt n (x .sender .arrived)) (blockCall (l .resends) (z .number) (z .type) (z .content) st r)) (senderActed y (othersAt n (y .sending .arrived)) a)) (sym (p .is))
+          (by-call k ag rd x y i h a (blockCall (l .resends) (shown g v .number) (shown g v .type) (v .content) st r) (othersAt n (x .sender .arrived)) (othersAt n (y .sending .arrived))
+          (block-does s (i .ends .valid) st r (h .sender .state) (h .sender .report) (l .resends) (rd .resends) (v .verdict) (v .content) (p .given))
+          (each-others n (h .sender .arrived)))))
+
+  pub drops-goes : (n : ℕ) → Goes l (afterDriver k (drops n) x) y
+  drops-goes n =
+      by-act l (afterDriver k (drops n) x) y (senderDiscards n)
+      (record {
+        sender = record {
+          state = h .sender .state;
+          report = h .sender .report;
+          stored = h .sender .stored;
+          named = h .sender .named;
+          arrived = each-others n (h .sender .arrived);
+          reader = h .sender .reader;
+        };
+        receiver = h .receiver;
+        forward = h .forward;
+        back = h .back;
+      })
+
+  -- ---- a crash: the memory is new
+  pub crashes-goes : (m : SenderMemory) → Goes l (afterDriver k (crashes m) x) y
+  crashes-goes m = go (enoughToSend g m) refl
+    where
+      go : (b : Bool) → enoughToSend g m ≡ b
+          → Goes l (cond b (drivers (senderEnd (senderMemory (over (m .state) (x .sender .stored ++ 0 ∷ 0 ∷ [])) (m .report) (freshReader (m .reader)) (m .block) (m .written)) (x .sender .stored) [] []) (x .receiver)
+          (line (x .forward .reader) []) emptyLine) x) y
+      go false e = stays l x y h
+      go true e =
+          let states = leb 7 (length (m .state)) in
+          let reports = leb 8 (length (m .report)) in
+          let r = m .reader in
+          let readers = leb 4 (length (r .state)) in
+          let buffers = leb (capacityOf g) (length (r .buffer)) in
+          let verdicts = leb 8 (length (r .verdict)) in
+          let rest = and-right states (reports && (readers && (buffers && verdicts))) e in
+          let read = and-right reports (readers && (buffers && verdicts)) rest in
+          let more = and-right readers (buffers && verdicts) read in
+          by-act l _ y senderCrashes
+          (record {
+            sender = record {
+              state = restored k ag rd x y i h (m .state) (leb-true 7 (length (m .state)) (and-left states (reports && (readers && (buffers && verdicts))) e));
+              report = leb-true 8 (length (m .report)) (and-left reports (readers && (buffers && verdicts)) rest);
+              stored = h .sender .stored;
+              named = each-none;
+              arrived = each-none;
+              reader = fresh-on k ag rd (m .reader) (leb-true 4 (length (r .state)) (and-left readers (buffers && verdicts) read))
+                  (leb-true (capacityOf g) (length (r .buffer)) (and-left buffers verdicts more)) (leb-true 8 (length (r .verdict)) (and-right buffers verdicts more));
+            };
+            receiver = record {
+              state = h .receiver .state;
+              report = h .receiver .report;
+              has = h .receiver .has;
+              stored = h .receiver .stored;
+              stored-has = h .receiver .stored-has;
+              pending = h .receiver .pending;
+              arrived = h .receiver .arrived;
+              reader = record { stands = h .receiver .reader .stands; within = h .receiver .reader .within };
+            };
+            forward = ap (λ (z : Line). line (z .reader) []) (h .forward);
+            back = refl;
+          })
