@@ -8,3 +8,5 @@ pub mod Taking
 pub mod Driving
 pub mod Writing
 pub mod SenderDriving
+pub mod ReceiverDriving
+pub mod Demand

@@ -1,6 +1,6 @@
--- Document 01, 'Receiver of sequence numbers': an act leaves a state that is one, and a refused act the state that it was given.
+-- Document 01, 'Receiver of sequence numbers': an act leaves a state that is one, and a transaction has a number of 1 or more.
 use mathlib.Core.Path.{_≡_, refl, sym, ap, _∙_}
-use mathlib.Core.Bool.{true, false}
+use mathlib.Core.Bool.{Bool, true, false, not}
 use mathlib.Core.List.{List}
 use Prim.Native.Nat.{ℕ, _+_, _≤_}
 use native.Mathlib.Omega.{arith}
@@ -29,6 +29,8 @@ use Rattle.receiver.specs.Receiver.{validExpected, stores, rowOf, refusedBy, he
 use Rattle.receiver.specs.declared.Application.{Application}
 use Rattle.receiver.specs.declared.Expected.{Expected}
 use Rattle.receiver.specs.declared.Expected.the-variants.{Unknown, Next}
+use Rattle.receiver.specs.declared.Transaction.{Transaction}
+use Rattle.receiver.specs.declared.Transaction.the-variants.{NoTransaction, Numbered}
 use Rattle.receiver.specs.declared.Row.{Row}
 use Rattle.receiver.specs.declared.Decision.{Decision}
 use Rattle.receiver.specs.declared.Decision.the-variants.{Drops, Naks, Answers}
@@ -112,3 +114,59 @@ module _ (g : Settings) (a : Application) (s : Expected) (x : Verdict) (d : List
       (λ (h : validExpected s ≡ false). v))
       (λ (f : leb (start + replySpace g) (length b) ≡ false). v))
       (λ (e : validLink g ≡ false). v)
+
+-- ---- a transaction has a number of 1 or more, so that 0 can stand for none
+abbrev pub some : Transaction → Bool
+some NoTransaction = true
+some (Numbered n) = not (eqb n 0)
+
+abbrev someRow : Row → Type 0
+someRow r = some (r .persisted .transaction) ≡ true
+
+abbrev decided : Decision → Bool
+decided (Drops n) = true
+decided (Naks n) = true
+decided (Answers id r) = some (r .persisted .transaction)
+
+abbrev Decided : Decision → Type 0
+Decided d = decided d ≡ true
+
+module _ (a : Application) where
+  row-some : (s : Expected) (f : NumberField) → someRow (rowOf a s f)
+  unfolding rowOf
+  row-some s Missing = refl
+  row-some s NotNumber = refl
+  row-some s (Present MinusOne) = refl
+  row-some Unknown (Present (Number n)) = cond-ind someRow (eqb n 0) _ _ (λ e. refl) (λ e. ap not e)
+  row-some (Next k) (Present (Number n)) = cond-ind someRow (eqb n 0) _ _ (λ e. refl) (λ e. cond-ind someRow (eqb n k) _ _ (λ f. ap not e) (λ f. refl))
+
+  refused-some : (k : Kind) (n : ℕ) → Decided (refusedBy k n)
+  refused-some Hybrid n = refl
+  refused-some Minimal n = refl
+
+  header-some : (k : Kind) (s : Expected) (d : List ℕ) (h : Header) → Decided (headerDecision k a s d h)
+  header-some k s d Unreadable = refused-some k 9
+  header-some k s d (Readable id seq) =
+      cond-ind Decided (allAllowed (bytesOf id d)) _ _ (λ e. row-some s (numberField greatestSent (bytesOf seq d))) (λ e. refused-some k 9)
+
+  decision-some : (k : Kind) (s : Expected) (x : Verdict) (d : List ℕ) → Decided (decisionOf k a s x d)
+  unfolding decisionOf
+  decision-some k s (Accepted t n) d = cond-ind Decided (isNak k t) _ _ (λ e. refl) (λ e. header-some k s d (headerOf d))
+  decision-some k s (Refused n i) d = refused-some k n
+
+abbrev pub Some : Outcome Received → Type 0
+Some o = some (o .answer .persisted .transaction) ≡ true
+
+replied-some : (g : Settings) (s : Expected) (d : List ℕ) (start : ℕ) (b : List ℕ) (x : Decision) → Decided x → Some (repliedOf g s d start b x)
+replied-some g s d start b (Drops n) h = refl
+replied-some g s d start b (Naks n) h = refl
+replied-some g s d start b (Answers id r) h = h
+
+pub receive-some : (g : Settings) (a : Application) (s : Expected) (x : Verdict) (d : List ℕ) (start : ℕ) (b : List ℕ) → Some (receiveOf g a s x d start b)
+unfolding receiveOf
+receive-some g a s x d start b =
+    cond-ind Some (validLink g) _ _
+    (λ e. cond-ind Some (leb (start + replySpace g) (length b)) _ _
+    (λ f. cond-ind Some (validExpected s) _ _ (λ h. replied-some g s d start b (decisionOf (g .kind) a s x d) (decision-some a (g .kind) s x d)) (λ h. refl))
+    (λ f. refl))
+    (λ e. refl)
