@@ -1,6 +1,6 @@
 -- Each C function of the sender, called with words that encode a sender, is the act on that sender.
 use mathlib.Core.Path.{_≡_, refl, sym, ap, _∙_, subst}
-use mathlib.Core.List.{List, [], _∷_, _++_}
+use mathlib.Core.List.{List, []}
 use mathlib.Core.Bool.{Bool, true, false, cond}
 use Prim.Native.Nat.{ℕ, _≤_}
 use native.Mathlib.Omega.{arith}
@@ -8,7 +8,7 @@ use lib.ListN.{length}
 use lib.Dec.{leb, eqb}
 use borrow.Author.Tests.{le-leb, eqb-true, eqb-false}
 use Rattle.lists.specs.Bytes.{over}
-use Rattle.lists.specs.Outcome.{Called, called}
+use Rattle.lists.specs.Outcome.{called}
 use Rattle.settings.specs.Settings.{validLinkLimit}
 use Rattle.refusal.specs.Refusal.{numberOf, typeOf}
 use Rattle.refusal.specs.declared.Verdict.{Verdict}
@@ -19,7 +19,6 @@ use Rattle.sender.specs.declared.NumberedMessage.the-variants.{Nothing}
 use Rattle.sender.specs.declared.Event.{Event}
 use Rattle.sender.specs.declared.Acted.{Acted}
 use Rattle.sender_calls.specs.SenderCalls.{senderWords, senderIn, actWords, actWritten, senderCall, openCall, endedCall, resetCall, timerCall, blockWith, blockCall, submitCall}
-use Rattle.sender_calls.specs.declared.Decoded.{Decoded}
 use Rattle.sender_calls.specs.declared.Decoded.the-variants.{Known}
 use Rattle.sender_calls.proofs.ReadBack.{words-read}
 use Rattle.words.specs.Words.{verdictFrom}

@@ -1,14 +1,12 @@
 -- Demand 3 of the C functions: every run of two drivers that call them is a run of the link, and so what they hold and have stored is as the demand says.
 use mathlib.Core.Path.{_≡_, refl, sym, ap, _∙_, subst}
-use mathlib.Core.List.{List, [], _∷_, _++_}
+use mathlib.Core.List.{List, [], _∷_}
 use mathlib.Core.Bool.{Bool, true, false, cond, _&&_}
 use Prim.Native.Nat.{ℕ, _≤_}
-use native.Mathlib.Omega.{arith}
 use lib.ListN.{length, take, getD}
 use lib.Dec.{leb, eqb}
 use borrow.Author.Tests.{le-leb, leb-true, eqb-true}
 use Rattle.lists.specs.Bytes.{over}
-use Rattle.lists.specs.Outcome.{Called, called}
 use Rattle.lists.proofs.Tests.{and-left, and-right}
 use Rattle.settings.specs.Settings.{capacityOf}
 use Rattle.settings.specs.declared.Settings.{Settings}
@@ -16,22 +14,20 @@ use Rattle.receiver.specs.Receiver.{validExpected}
 use Rattle.receiver.specs.declared.Expected.{Expected}
 use Rattle.receiver.specs.declared.Expected.the-variants.{Unknown, Next}
 use Rattle.receiver_calls.specs.ReceiverCalls.{expectedWord, expectedFrom}
-use Rattle.sender.specs.Sender.{validFirst, freshSender, senderOf}
-use Rattle.sender.specs.declared.SenderMade.{SenderMade}
-use Rattle.sender.specs.declared.SenderMade.the-variants.{Made}
-use Rattle.sender_calls.specs.SenderCalls.{flagWord, persistedWords, senderWords, freshWith, freshCall}
+use Rattle.sender.specs.Sender.{freshSender, senderOf}
+use Rattle.sender_calls.specs.SenderCalls.{flagWord, senderWords, freshCall}
 use Rattle.link.specs.Duties.{every}
 use Rattle.link.specs.Line.{Line, line, emptyLine, damages, disorders}
-use Rattle.link.specs.System.{Link, System, link, startOf, SystemAct, damagesForward as linkDamagesForward, damagesBack as linkDamagesBack, runOf, afterAct}
-use Rattle.link.specs.Promise.{Ready, Safe, Covers, transactions}
+use Rattle.link.specs.System.{Link, System, link, startOf, SystemAct, damagesForward as linkDamagesForward, damagesBack as linkDamagesBack, runOf}
+use Rattle.link.specs.Promise.{Ready, Safe, Covers}
 use Rattle.link.proofs.Queues.{each-none}
 use Rattle.link.proofs.Safety.{run-keeps, safety}
 use Rattle.link.proofs.Invariant.{Inv}
-use Rattle.link.proofs.Runs.{Reaches, join}
+use Rattle.link.proofs.Runs.{join}
 use Rattle.call_theorems.specs.Driver.{Passed, ReaderMemory, SenderMemory, ReceiverMemory, Drivers, drivers, freshReader, enoughToSend, enoughToReceive, DriverAct, afterDriver, drivenBy, tenancyOf}
 use Rattle.call_theorems.specs.Driver.{opens, ends, resets, timer, submits, stores, restores, receiverStores, receiverRestores, replies, sends, reads, takes, drops, receiverReads, receiverDrops}
 use Rattle.call_theorems.specs.Driver.{receives, crashes, receiverCrashes, damagesForward, damagesBack}
-use Rattle.call_theorems.specs.DriversPromise.{Agrees, DriversSafe, deliveredWord, frozenWord}
+use Rattle.call_theorems.specs.DriversPromise.{Agrees, DriversSafe}
 use Rattle.call_theorems.proofs.Shows.{Behind, StandsOn, Shows, over-behind}
 use Rattle.call_theorems.proofs.Driving.{Goes, stays, by-act, fresh-on, opens-goes, ends-goes, resets-goes, timer-goes, submits-goes, stores-goes, restores-goes}
 use Rattle.call_theorems.proofs.SenderDriving.{sends-goes, reads-goes, takes-goes, drops-goes, crashes-goes}

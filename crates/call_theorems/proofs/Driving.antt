@@ -1,47 +1,42 @@
 -- Each act of the drivers is some acts of the link, or none.
 use mathlib.Core.Path.{_≡_, refl, sym, ap, _∙_, subst}
 use mathlib.Core.List.{List, [], _∷_, _++_}
-use mathlib.Core.Bool.{Bool, true, false, cond, not, _&&_}
-use Prim.Native.Nat.{ℕ, zero, suc, _+_, _≤_}
+use mathlib.Core.Bool.{Bool, true, false, cond}
+use Prim.Native.Nat.{ℕ, _≤_}
 use Prim.Native.Char.{code}
 use native.Mathlib.Omega.{arith}
-use lib.ListN.{length, take, drop, getD, take-append-drop}
+use lib.ListN.{length, take}
 use lib.Dec.{leb, eqb}
-use borrow.Author.Tests.{le-leb, leb-true, eq-eqb, ne-eqb, eqb-true}
-use Rattle.lists.specs.Bytes.{same, over, greatestWord}
+use borrow.Author.Tests.{le-leb, leb-true, ne-eqb}
+use Rattle.lists.specs.Bytes.{same, over}
 use Rattle.lists.specs.Outcome.{Called, called}
-use Rattle.lists.proofs.Tests.{cond-ind, and-left, and-right}
-use Rattle.lists.proofs.Same.{same-is}
 use Rattle.settings.specs.Settings.{valid, capacityOf, linkOf}
 use Rattle.settings.specs.declared.Settings.{Settings}
-use Rattle.settings.specs.declared.Made.{Made}
 use Rattle.settings.specs.declared.Made.the-variants.{Valid}
-use Rattle.numbers.specs.declared.SequenceNumber.{SequenceNumber}
 use Rattle.stream.specs.Stream.{Judged, between}
 use Rattle.stream.specs.Scan.{fresh}
 use Rattle.block_calls.specs.ReaderWords.{readerWords}
 use Rattle.block_calls.specs.ReadCalls.{freshReaderCall}
-use Rattle.sender.specs.Sender.{openOf, endedOf, resetOf, timerOf, submitOf, blockReadOf}
+use Rattle.sender.specs.Sender.{openOf, endedOf, resetOf, timerOf, submitOf}
 use Rattle.sender.specs.declared.Acted.{Acted}
-use Rattle.sender_calls.specs.SenderCalls.{persistedWords, senderWords, openCall, endedCall, resetCall, timerCall, submitCall, actWords}
-use Rattle.link.specs.Duties.{every, oneAt, othersAt}
+use Rattle.sender_calls.specs.SenderCalls.{senderWords, openCall, endedCall, resetCall, timerCall, submitCall, actWords}
+use Rattle.link.specs.Duties.{every}
 use Rattle.link.specs.SenderActs.{afterCrash}
-use Rattle.link.specs.Line.{Reader, Line, line, emptyLine}
-use Rattle.link.specs.System.{Link, System, SendingEnd, sending, senderActed, newCircuit, circuitOpened, SystemAct, opens, ends, resets, timer, submits, senderPersists, senderRestores, senderCrashes, afterAct}
+use Rattle.link.specs.Line.{Reader, Line, emptyLine}
+use Rattle.link.specs.System.{Link, System, sending, senderActed, newCircuit, circuitOpened, SystemAct, opens, ends, resets, timer, submits, senderPersists, senderRestores, afterAct}
 use Rattle.link.specs.Promise.{Ready}
-use Rattle.link.proofs.Facts.{not-both}
-use Rattle.link.proofs.Queues.{Each, each-none, each-more}
+use Rattle.link.proofs.Queues.{Each, each-none}
 use Rattle.link.proofs.Messages.{link-valid, link-limit}
 use Rattle.link.proofs.Invariant.{Inv}
 use Rattle.link.proofs.Runs.{Reaches, stay, act}
 use Rattle.call_theorems.specs.Reading.{Shown, Taken, hybrid, minimal}
-use Rattle.call_theorems.specs.Driver.{Numbers, hybrid as hybridNumbers, minimal as minimalNumbers, Passed, madeOf, ReaderMemory, readerMemory, SenderMemory, Drivers, freshReader}
-use Rattle.call_theorems.specs.Driver.{bySender, openedBy, namedBy, DriverAct, afterDriver}
-use Rattle.call_theorems.specs.Driver.{opens as opensDriver, ends as endsDriver, resets as resetsDriver, timer as timerDriver, submits as submitsDriver, stores, restores, crashes}
+use Rattle.call_theorems.specs.Driver.{Numbers, hybrid as hybridNumbers, minimal as minimalNumbers, Passed, madeOf, ReaderMemory, Drivers, freshReader}
+use Rattle.call_theorems.specs.Driver.{bySender, openedBy, afterDriver}
+use Rattle.call_theorems.specs.Driver.{opens as opensDriver, ends as endsDriver, resets as resetsDriver, timer as timerDriver, submits as submitsDriver, stores, restores}
 use Rattle.call_theorems.specs.DriversPromise.{Agrees}
 use Rattle.call_theorems.proofs.Streams.{StandsAt, fresh-stands-at}
-use Rattle.call_theorems.proofs.Shows.{SameVerdict, Behind, StandsOn, SenderShows, ReceiverShows, Shows, over-behind, behind-length, Does, done, refused, named-is, report-length, call-shows}
-use Rattle.call_theorems.proofs.Acting.{open-does, ended-does, reset-does, timer-does, submit-does, block-does}
+use Rattle.call_theorems.proofs.Shows.{SameVerdict, Behind, StandsOn, Shows, over-behind, behind-length, Does, done, refused, named-is, report-length, call-shows}
+use Rattle.call_theorems.proofs.Acting.{open-does, ended-does, reset-does, timer-does, submit-does}
 
 -- from y the link comes to what the drivers have
 pub record Goes (l : Link) (x : Drivers) (y : System) : Type 0 where

@@ -10,3 +10,4 @@ pub mod Writing
 pub mod SenderDriving
 pub mod ReceiverDriving
 pub mod Demand
+pub mod DriversExample

@@ -6,7 +6,7 @@ use Prim.Native.Nat.{ℕ, _≤_}
 use native.Mathlib.Omega.{arith}
 use lib.ListN.{length, take, drop, getD, take-append-drop}
 use lib.Dec.{leb, eqb}
-use borrow.Author.Tests.{le-leb, leb-true, eq-eqb, ne-eqb}
+use borrow.Author.Tests.{le-leb, leb-true, eq-eqb}
 use Rattle.lists.specs.Bytes.{same, over}
 use Rattle.lists.specs.Outcome.{Outcome, Called, called}
 use Rattle.lists.proofs.Calls.{over-is}
@@ -30,20 +30,19 @@ use Rattle.receiver_calls.specs.declared.ApplicationMade.the-variants.{Unknown 
 use Rattle.receiver_calls.proofs.ReadBack.{expected-back}
 use Rattle.words.specs.Words.{verdictFrom}
 use Rattle.words.specs.declared.VerdictMade.{VerdictMade}
-use Rattle.words.specs.declared.VerdictMade.the-variants.{Known}
 use Rattle.link.specs.Duties.{every, oneAt, othersAt}
 use Rattle.link.specs.Line.{Reader, Line, line, emptyLine}
 use Rattle.link.specs.System.{Link, System, receiving, link, hasWith, repliesOf, receivedEnd, requestTaken as requestActed, sameExpected, sameStored, replyWritten, afterAct}
 use Rattle.link.specs.System.{receiverActs, receiverDiscards, receiverPersists, receiverWrites, receiverRestores, receiverCrashes as endCrashes}
 use Rattle.link.specs.Promise.{Ready}
 use Rattle.link.proofs.Facts.{not-both}
-use Rattle.link.proofs.Queues.{Each, each-none, each-more, Front, front, each-front}
+use Rattle.link.proofs.Queues.{Each, each-none, Front, front, each-front}
 use Rattle.link.proofs.ReceiverInvariant.{some, receive-some}
 use Rattle.link.proofs.Invariant.{Inv}
 use Rattle.link.proofs.Runs.{Reaches, to, from, read-requests}
 use Rattle.call_theorems.specs.Verdicts.{passedOn}
-use Rattle.call_theorems.specs.Reading.{Shown, shown, usedBytes}
-use Rattle.call_theorems.specs.Driver.{Passed, madeOf, ReaderMemory, ReceiverMemory, Drivers, drivers, receiverEnd, receiverMemory, enoughToReceive, freshReader, afterReading, linePast}
+use Rattle.call_theorems.specs.Reading.{Shown, usedBytes}
+use Rattle.call_theorems.specs.Driver.{Passed, madeOf, ReceiverMemory, Drivers, drivers, receiverEnd, receiverMemory, enoughToReceive, freshReader, afterReading, linePast}
 use Rattle.call_theorems.specs.Driver.{readBytes, newVerdict, withTransaction, replyBy, receivedBy, requestTaken, replySent, afterDriver, receiverReads, receives, receiverDrops, receiverStores, replies}
 use Rattle.call_theorems.specs.Driver.{receiverRestores as restoresReceiver, receiverCrashes}
 use Rattle.call_theorems.specs.DriversPromise.{Agrees}

@@ -1,8 +1,8 @@
 -- The sender's driver sends, reads, acts on verdicts and crashes: each is a run of the link.
 use mathlib.Core.Path.{_≡_, refl, sym, ap, _∙_, subst}
 use mathlib.Core.List.{List, [], _∷_, _++_}
-use mathlib.Core.Bool.{Bool, true, false, cond, not, _&&_, _||_}
-use Prim.Native.Nat.{ℕ, zero, suc, _+_, _≤_}
+use mathlib.Core.Bool.{Bool, true, false, cond, _&&_}
+use Prim.Native.Nat.{ℕ, zero, suc}
 use Prim.Native.Char.{code}
 use native.Mathlib.Omega.{arith}
 use lib.ListN.{length, take, drop, getD, take-append-drop}
@@ -19,7 +19,7 @@ use Rattle.numbers.specs.declared.SequenceNumber.{SequenceNumber}
 use Rattle.stream.specs.Stream.{Judged}
 use Rattle.sender.specs.Sender.{blockReadOf}
 use Rattle.sender.specs.declared.Persisted.{Persisted}
-use Rattle.sender_calls.specs.SenderCalls.{flagWord, persistedWords, senderWords, blockCall}
+use Rattle.sender_calls.specs.SenderCalls.{flagWord, persistedWords, blockCall}
 use Rattle.link.specs.Duties.{every, oneAt, othersAt}
 use Rattle.link.specs.Line.{Reader, Line, line, emptyLine, readerAfter}
 use Rattle.link.specs.System.{Link, System, sending, link, requestOf, sameFlag, samePersisted, requestWritten, answerTaken, senderActed}
@@ -31,10 +31,10 @@ use Rattle.link.proofs.RequestsRead.{all-nameable}
 use Rattle.link.proofs.Invariant.{Inv}
 use Rattle.link.proofs.Runs.{Reaches, to, from, read-answers, readerThrough}
 use Rattle.call_theorems.specs.Reading.{Shown, shown, usedBytes}
-use Rattle.call_theorems.specs.Driver.{Passed, madeOf, Named, ReaderMemory, SenderMemory, Drivers, drivers, senderEnd, senderMemory, enoughToRead, enoughToSend, readerPast, linePast, afterReading, freshReader}
-use Rattle.call_theorems.specs.Driver.{readBytes, newVerdict, blockOfNamed, sentBy, oldestSent, answerRead, verdictTaken, bySender, afterDriver, sends, reads, takes, drops, crashes}
+use Rattle.call_theorems.specs.Driver.{Passed, madeOf, Named, SenderMemory, Drivers, drivers, senderEnd, senderMemory, enoughToSend, readerPast, linePast, afterReading, freshReader}
+use Rattle.call_theorems.specs.Driver.{readBytes, newVerdict, blockOfNamed, oldestSent, verdictTaken, bySender, afterDriver, sends, reads, takes, drops, crashes}
 use Rattle.call_theorems.specs.DriversPromise.{Agrees}
-use Rattle.call_theorems.proofs.Shows.{SameSend, SameVerdict, StandsOn, SenderShows, Shows, behind-length}
+use Rattle.call_theorems.proofs.Shows.{SameSend, SameVerdict, Shows}
 use Rattle.call_theorems.proofs.Acting.{block-does}
 use Rattle.call_theorems.proofs.Taking.{Took, brought, read-took}
 use Rattle.call_theorems.proofs.Writing.{named-written}

@@ -4,20 +4,17 @@ use mathlib.Core.List.{List, [], _∷_, _++_}
 use mathlib.Core.Bool.{Bool, true, false, cond, not, _&&_}
 use Prim.Native.Nat.{ℕ, _+_, _≤_}
 use native.Mathlib.Omega.{arith}
-use lib.ListN.{length, length-append, take, drop, getD}
+use lib.ListN.{length, length-append, drop, getD}
 use lib.Dec.{leb, eqb}
-use borrow.Author.Tests.{le-leb, leb-true, eq-eqb, ne-eqb, eqb-true, eqb-false}
+use borrow.Author.Tests.{leb-true, ne-eqb}
 use Rattle.lists.specs.Bytes.{greatestWord, over}
 use Rattle.lists.specs.Outcome.{Called, called}
 use Rattle.lists.proofs.Calls.{over-is}
-use Rattle.lists.proofs.Tests.{cond-ind}
 use Rattle.settings.specs.declared.Settings.{Settings}
 use Rattle.numbers.specs.declared.SequenceNumber.{SequenceNumber}
 use Rattle.numbers.specs.declared.SequenceNumber.the-variants.{MinusOne, Number}
 use Rattle.stream.specs.Stream.{Judged}
-use Rattle.receiver.specs.declared.Expected.{Expected}
 use Rattle.sender.specs.Sender.{isOpen}
-use Rattle.sender.specs.declared.Persisted.{Persisted}
 use Rattle.sender.specs.declared.Waiting.{Waiting}
 use Rattle.sender.specs.declared.Waiting.the-variants.{Closed, Idle, Resynchronizing, Querying, Sending}
 use Rattle.sender.specs.declared.Sender.{Sender}
@@ -30,10 +27,10 @@ use Rattle.sender_calls.specs.SenderCalls.{waitingWord, persistedWords, senderW
 use Rattle.receiver_calls.specs.ReceiverCalls.{expectedWord}
 use Rattle.link.specs.Line.{Line}
 use Rattle.link.specs.System.{Link, System, SendingEnd, ReceivingEnd, sendsOf, namedAfter, actedEnd}
-use Rattle.link.proofs.Queues.{Each, each-none, each-more, each-end}
+use Rattle.link.proofs.Queues.{Each, each-none, each-more}
 use Rattle.call_theorems.specs.Verdicts.{readerGives}
 use Rattle.call_theorems.specs.Reading.{Shown, shown}
-use Rattle.call_theorems.specs.Driver.{Passed, ReaderMemory, Named, SenderMemory, SenderEnd, ReceiverEnd, Drivers, namedBy, namedThen, withCall, senderCalled}
+use Rattle.call_theorems.specs.Driver.{ReaderMemory, Named, SenderEnd, ReceiverEnd, Drivers, namedBy, senderCalled}
 use Rattle.call_theorems.proofs.OneCall.{over-length}
 use Rattle.call_theorems.proofs.Streams.{StandsAt}
 

@@ -2,40 +2,37 @@
 use mathlib.Core.Path.{_≡_, refl, sym, ap, _∙_, subst}
 use mathlib.Core.List.{List, [], _∷_}
 use mathlib.Core.Bool.{Bool, true, false, cond}
-use Prim.Native.Nat.{ℕ, suc, _+_, _≤_, _-_}
+use Prim.Native.Nat.{ℕ, _+_, _≤_, _-_}
 use native.Mathlib.Nat.{add-zero}
 use native.Mathlib.Omega.{arith}
-use lib.ListN.{length, take, drop, length-take}
+use lib.ListN.{length, take, length-take}
 use lib.Seq.{length-take-le, take-take}
 use lib.Dec.{leb, eqb}
-use borrow.Author.Tests.{le-leb, lt-leb, leb-true, leb-false, eqb-true}
+use borrow.Author.Tests.{le-leb, leb-true}
 use Rattle.lists.specs.Bytes.{greatestWord, over}
 use Rattle.lists.specs.Outcome.{Outcome, Called, called}
 use Rattle.settings.specs.Settings.{valid, capacityOf}
 use Rattle.settings.specs.declared.Settings.{Settings}
 use Rattle.settings.specs.declared.Made.{Made}
 use Rattle.settings.specs.declared.Made.the-variants.{Valid}
-use Rattle.stream.specs.Stream.{Judged, Mode, judged, move, run, after}
-use Rattle.stream.specs.Scan.{fresh, readOf, refused}
+use Rattle.stream.specs.Stream.{Judged, Mode, judged, run, after}
+use Rattle.stream.specs.Scan.{readOf, refused}
 use Rattle.stream.specs.declared.Reader.{Reader as ReaderState}
 use Rattle.stream.specs.declared.Reading.{Reading}
 use Rattle.stream.specs.declared.Answer.{Answer}
-use Rattle.stream.specs.declared.Answer.the-variants.{Refused, Pending, Found}
+use Rattle.stream.specs.declared.Answer.the-variants.{Pending, Found}
 use Rattle.block_theorems.specs.Session.{spoken}
-use Rattle.block_theorems.proofs.Simulation.{Stands, Ends, at-end, at-verdict, Reaches, stands-at, read-reaches}
+use Rattle.block_theorems.proofs.Simulation.{Stands, Ends, Reaches, read-reaches}
 use Rattle.block_calls.specs.ReaderWords.{readerWords, decoded}
 use Rattle.block_calls.specs.ReadCalls.{readCall, readAnswered, readFinished}
 use Rattle.block_calls.proofs.ReadBack.{words-back}
-use Rattle.link.specs.Line.{Reader, Line, line, readsByte, readerAfter}
+use Rattle.link.specs.Line.{Reader, Line, line, readerAfter}
 use Rattle.link.proofs.Facts.{not-both}
 use Rattle.link.proofs.Queues.{Each, each-none, each-more}
-use Rattle.call_theorems.specs.Verdicts.{readerGives}
-use Rattle.call_theorems.specs.Reading.{Shown, shown, foundBlock, usedBytes, shownBy}
-use Rattle.call_theorems.specs.Driver.{Numbers, madeOf, ReaderMemory, readBytes, afterReading, newVerdict, readerPast, linePast}
+use Rattle.call_theorems.specs.Reading.{shown, usedBytes, shownBy}
+use Rattle.call_theorems.specs.Driver.{ReaderMemory, afterReading, newVerdict, readerPast, linePast}
 use Rattle.call_theorems.proofs.Verdicts.{reader-gives}
 use Rattle.call_theorems.proofs.OneCall.{over-length, Leaves, pending-leaves, pending-none, found-leaves, found-one, found-shows, call-is}
-use Rattle.call_theorems.proofs.Simulation.{Encodes}
-use Rattle.call_theorems.proofs.Streams.{StandsAt}
 use Rattle.call_theorems.proofs.Shows.{SameVerdict, StandsOn}
 
 -- ---- where a line's reader stands behind bytes

@@ -1,13 +1,13 @@
 -- include/giamuvich.h: two drivers that run a link by the C functions and keep their duties. All that they have is words and bytes: what they lend to a call, what they
 -- store and restore, what a report told them, and a verdict handed on as its number, its type and its data.
 use mathlib.Core.List.{List, [], _∷_, _++_}
-use mathlib.Core.Bool.{Bool, true, false, cond, not, _&&_}
+use mathlib.Core.Bool.{Bool, cond, not, _&&_}
 use Prim.Native.Nat.{ℕ}
 use Prim.Native.Char.{code}
 use lib.ListN.{length, take, drop, getD}
 use lib.Dec.{leb, eqb}
 use Rattle.lists.specs.Bytes.{same, over}
-use Rattle.lists.specs.Outcome.{Called, called}
+use Rattle.lists.specs.Outcome.{Called}
 use Rattle.settings.specs.Settings.{capacityOf, hybridOf, minimalOf, linkOf}
 use Rattle.settings.specs.declared.Settings.{Settings}
 use Rattle.settings.specs.declared.Made.{Made}

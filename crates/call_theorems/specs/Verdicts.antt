@@ -1,6 +1,5 @@
 -- For the theorems: what is left of a verdict when it goes through the C functions as its number and its type.
 use mathlib.Core.Bool.{Bool, _&&_}
-use Prim.Native.Nat.{ℕ}
 use lib.Dec.{leb}
 use Rattle.refusal.specs.Refusal.{BYTE, INTERRUPTED}
 use Rattle.refusal.specs.declared.Verdict.{Verdict}
