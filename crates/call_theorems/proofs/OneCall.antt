@@ -1,7 +1,7 @@
 -- One call of gmv_*_read: what its words say of the answer. From any words whatever it uses at most the part, and a verdict takes at least one byte.
 use mathlib.Core.Path.{_≡_, refl, sym, ap, _∙_}
-use mathlib.Core.List.{List, [], _∷_, _++_}
-use mathlib.Core.Bool.{Bool, true, false, _&&_, true≢false}
+use mathlib.Core.List.{List, _++_}
+use mathlib.Core.Bool.{true, false, true≢false}
 use Prim.Native.Nat.{ℕ, zero, suc, _≤_, _<_}
 use native.Mathlib.Omega.{arith}
 use lib.ListN.{length, drop, length-append, length-drop}
@@ -9,7 +9,7 @@ use lib.Seq.{drop-append-seam}
 use lib.Dec.{eqb, leb}
 use borrow.Author.Tests.{le-leb, leb-true, eqb-true}
 use Rattle.lists.specs.Bytes.{over}
-use Rattle.lists.specs.Outcome.{Outcome, Called, called}
+use Rattle.lists.specs.Outcome.{Called, called}
 use Rattle.lists.proofs.Tests.{and-left, cond-ind}
 use Rattle.lists.proofs.Calls.{over-is}
 use Rattle.settings.specs.Settings.{capacityOf, dataOffsetOf}
@@ -31,7 +31,7 @@ use Rattle.block_calls.specs.ReadCalls.{readAnswered, readFinished, readDecoded
 use Rattle.block_calls.specs.declared.Decoded.{Decoded}
 use Rattle.block_calls.specs.declared.Decoded.the-variants.{Unknown, Known}
 use Rattle.block_calls.proofs.ReadLaws.{read-done}
-use Rattle.call_theorems.specs.Reading.{Shown, shown, foundBlock, usedBytes, shownBy, driven, Driven, partCalls}
+use Rattle.call_theorems.specs.Reading.{shown, foundBlock, usedBytes, shownBy, Driven, partCalls}
 use Rattle.call_theorems.proofs.Verdicts.{answerGives, read-gives}
 
 -- ---- words written over others

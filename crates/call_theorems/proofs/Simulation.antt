@@ -7,8 +7,8 @@ use native.Mathlib.Omega.{arith}
 use lib.ListN.{length, take, drop, length-append, length-drop}
 use borrow.Author.Tests.{eq-eqb}
 use Rattle.lists.specs.Bytes.{greatestWord, over}
-use Rattle.lists.specs.Outcome.{Called, called}
-use Rattle.settings.specs.Settings.{valid, capacityOf}
+use Rattle.lists.specs.Outcome.{Called}
+use Rattle.settings.specs.Settings.{valid}
 use Rattle.settings.specs.declared.Settings.{Settings}
 use Rattle.settings.specs.declared.Made.the-variants.{Valid}
 use Rattle.stream.specs.Stream.{Judged, Mode, judged, after}
@@ -20,11 +20,11 @@ use Rattle.block_theorems.specs.Session.{Served, served, spoken, goOn, andThen,
 use Rattle.block_theorems.proofs.Simulation.{Stands, Ends, at-end, at-verdict, read-reaches}
 use Rattle.block_theorems.proofs.Parts.{serve-is}
 use Rattle.block_calls.specs.ReaderWords.{readerWords, decoded}
-use Rattle.block_calls.specs.ReadCalls.{readAnswered, readFinished, readCall}
+use Rattle.block_calls.specs.ReadCalls.{readAnswered, readFinished}
 use Rattle.block_calls.specs.declared.Decoded.the-variants.{Known}
 use Rattle.block_calls.proofs.ReadBack.{words-back, words-same}
 use Rattle.call_theorems.specs.Reading.{Shown, shown, foundBlock, usedBytes, shownBy, Driven, driven, followedBy, partCalls, partsCalls}
-use Rattle.call_theorems.proofs.OneCall.{over-length, over-beyond, over-again, Leaves, pending-leaves, pending-none, found-leaves, found-one, found-shows, call-is}
+use Rattle.call_theorems.proofs.OneCall.{over-length, over-again, Leaves, pending-leaves, pending-none, found-leaves, found-one, found-shows, call-is}
 
 -- the memory that the driver lends encodes the reader r
 pub record Encodes (r : Reader) (c : Called) : Type 0 where

@@ -1,6 +1,6 @@
 -- Document 01, 'Reading a stream', of the C functions: "Verdicts are those a definition gives for the whole input, in however many parts it came, provided the same buffer is lent unaltered each time."
 use mathlib.Core.Path.{_≡_, refl, sym, ap, _∙_}
-use mathlib.Core.List.{List, [], _∷_, map}
+use mathlib.Core.List.{List, [], map}
 use mathlib.Core.Bool.{Bool, true, false}
 use Prim.Native.Nat.{ℕ, _+_, _≤_}
 use native.Mathlib.Omega.{arith}
@@ -24,7 +24,7 @@ use Rattle.block_theorems.proofs.Parts.{session-from, same-from, fresh-stands}
 use Rattle.block_calls.specs.ReaderWords.{readerWords}
 use Rattle.block_calls.specs.ReadCalls.{freshReaderCall}
 use Rattle.block_calls.proofs.ReadBack.{words-back}
-use Rattle.call_theorems.specs.Reading.{Shown, shown, Driven, driven, partsCalls, streamCalls, withoutReport, Taken, hybrid, minimal}
+use Rattle.call_theorems.specs.Reading.{shown, Driven, driven, partsCalls, streamCalls, withoutReport, Taken, hybrid, minimal}
 use Rattle.call_theorems.proofs.OneCall.{over-length, over-beyond}
 use Rattle.call_theorems.proofs.Simulation.{Encodes, Matches, matches-encodes, parts-match}
 
