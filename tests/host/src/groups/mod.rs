@@ -10,6 +10,7 @@ mod links;
 mod memory;
 mod message_memory;
 mod message_writers;
+mod old_answers;
 mod receiver;
 mod refusals;
 mod sender;
@@ -142,7 +143,7 @@ pub const ALL: &[(&str, Group)] = &[
     ("control_blocks", sender_words::control_blocks),
     ("links", links::links),
     ("link_deviations", links::link_deviations),
-    ("answer_of_earlier_run", links::answer_of_earlier_run),
+    ("answer_of_earlier_run", old_answers::answer_of_earlier_run),
     ("ends_guard_pages", ends_memory::ends_guard_pages),
     ("station_fresh", station_words::station_fresh),
     ("station_numbers", station_words::station_numbers),
