@@ -79,6 +79,16 @@ impl Weather {
         }
     }
 
+    /// The same, but answers come and are taken in the order in which they were sent, and once.
+    pub fn in_order(mut self) -> Weather {
+        let disorder = |trouble: &Trouble| matches!(trouble, Trouble::Disorder);
+        for (_, once_in) in self.troubles.iter_mut().filter(|(one, _)| disorder(one)) {
+            *once_in = NEVER;
+        }
+        self.is_in_order = true;
+        self
+    }
+
     fn trouble(&self, random: &mut Random) -> Option<Trouble> {
         let mut troubles = self.troubles.iter();
         let found = troubles.find(|(_, once_in)| *once_in != NEVER && random.one_in(*once_in));
