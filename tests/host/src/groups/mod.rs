@@ -2,6 +2,7 @@
 
 mod blocks;
 mod bytes;
+mod duty_runs;
 mod ends_memory;
 mod fields;
 mod fields_memory;
@@ -143,6 +144,7 @@ pub const ALL: &[(&str, Group)] = &[
     ("control_blocks", sender_words::control_blocks),
     ("links", links::links),
     ("link_deviations", links::link_deviations),
+    ("duty_runs", duty_runs::duty_runs),
     ("late_answer", old_answers::late_answer),
     ("answer_of_earlier_run", old_answers::answer_of_earlier_run),
     ("one_old_answer", old_answers::one_old_answer),
