@@ -1,5 +1,5 @@
-//! The lines of a simulated link, as bytes; the library's reader at the end of one; and loss and
-//! damage, of which the library's reader itself says whether they are within demand 3.
+//! The lines of a simulated link, as bytes; the library's reader at the end of one; and loss, damage
+//! and disorder, of which the library's reader itself says whether they are within demand 3.
 
 use crate::library;
 use crate::make;
@@ -96,7 +96,7 @@ impl Reader {
     }
 }
 
-/// What loss or damage did to what a reader finds.
+/// What loss, damage or disorder did to what a reader finds.
 #[derive(Clone, Copy, PartialEq, Eq)]
 pub enum Effect {
     /// A block would be accepted that was not sent: outside demand 3, and undone.
@@ -111,6 +111,18 @@ pub enum Effect {
     UntilNextStart,
     /// No refusal at all.
     Vanished,
+    /// The blocks come in another order.
+    OtherOrder,
+    /// More blocks come than were sent.
+    Repeated,
+}
+
+/// What a line may do to its blocks: requests keep their order, and come at most once; answers may
+/// come in any order, and any number of times.
+#[derive(Clone, Copy, PartialEq, Eq)]
+pub enum Order {
+    Kept,
+    Any,
 }
 
 /// Whether the first are some of the second, in their order.
@@ -121,12 +133,30 @@ fn is_some_of<T: PartialEq>(some: &[T], all: &[T]) -> bool {
 
 /// Puts other bytes in place of those on the line, unless a block would be accepted that would not
 /// have been.
-pub fn replace(reader: &Reader, line: &mut Vec<u8>, bytes: Vec<u8>) -> Result<Effect, String> {
+pub fn replace(
+    reader: &Reader,
+    line: &mut Vec<u8>,
+    bytes: Vec<u8>,
+    order: Order,
+) -> Result<Effect, String> {
     let (before, after) = (reader.verdicts(line)?, reader.verdicts(&bytes)?);
-    if !is_some_of(&after.accepted, &before.accepted) {
+    let keeps_order = is_some_of(&after.accepted, &before.accepted);
+    let is_each = || {
+        after
+            .accepted
+            .iter()
+            .all(|one| before.accepted.contains(one))
+    };
+    if !keeps_order && (order == Order::Kept || !is_each()) {
         return Ok(Effect::Undone);
     }
     *line = bytes;
+    if after.accepted.len() > before.accepted.len() {
+        return Ok(Effect::Repeated);
+    }
+    if !keeps_order {
+        return Ok(Effect::OtherOrder);
+    }
     let is_same = after.accepted.len() == before.accepted.len();
     Ok(match after.refused.saturating_sub(before.refused) {
         0 if is_same => Effect::Same,
@@ -144,15 +174,42 @@ fn starts(settings: &Settings, line: &[u8]) -> Vec<usize> {
     starts.map(|(offset, _)| offset).collect()
 }
 
-/// The line without one of its blocks, or without what is left of one that is half read.
-pub fn without_block(random: &mut Random, settings: &Settings, line: &[u8]) -> Vec<u8> {
+/// The blocks on a line; the first may be what is left of one that is half read.
+fn blocks<'a>(settings: &Settings, line: &'a [u8]) -> Vec<&'a [u8]> {
     let mut bounds = starts(settings, line);
     if bounds.first() != Some(&0) {
         bounds.insert(0, 0);
     }
     bounds.push(line.len());
-    let index = random.below(bounds.len() - 1);
-    [&line[..bounds[index]], &line[bounds[index + 1]..]].concat()
+    bounds
+        .windows(2)
+        .map(|ends| &line[ends[0]..ends[1]])
+        .collect()
+}
+
+/// The line without one of its blocks, or without what is left of one that is half read.
+pub fn without_block(random: &mut Random, settings: &Settings, line: &[u8]) -> Vec<u8> {
+    let mut blocks = blocks(settings, line);
+    blocks.remove(random.below(blocks.len()));
+    blocks.concat()
+}
+
+/// A line with more bytes than this repeats nothing, so that it does not grow without bound.
+const MOST_REPEATED: usize = 1_000;
+
+/// The line with its blocks in another order, or with one of them again.
+pub fn disordered(random: &mut Random, settings: &Settings, line: &[u8]) -> Vec<u8> {
+    let mut blocks = blocks(settings, line);
+    for _ in 0..random.between(1, 3) {
+        let (from, to) = (random.below(blocks.len()), random.below(blocks.len() + 1));
+        if random.one_in(3) && line.len() < MOST_REPEATED {
+            blocks.insert(to, blocks[from]);
+        } else {
+            let block = blocks.remove(from);
+            blocks.insert(to.min(blocks.len()), block);
+        }
+    }
+    blocks.concat()
 }
 
 /// The line with two blocks joined: the end of the first, or the end and the next SB, is missing.

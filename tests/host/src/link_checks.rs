@@ -197,7 +197,10 @@ impl Link {
         if words[ACT_SEND] != SEND_NOTHING || words[ACT_EVENT] != EVENT_NONE {
             return Err(format!("{number}, and report {words:?}"));
         }
-        self.check_sends(report)?;
+        // 1 leaves the report as it was
+        if refusal != 1 {
+            self.check_sends(report)?;
+        }
         self.check()
     }
 
@@ -211,6 +214,53 @@ impl Link {
         }
         if report.words[ACT_EVENT] == EVENT_DROPPED {
             self.counts.add(Kind::DroppedAnswer);
+        }
+    }
+
+    pub fn count_submission(&mut self, number: u64) {
+        self.counts.add(match number {
+            1 => Kind::SubmissionSetting,
+            3 => Kind::SubmissionByte,
+            4 => Kind::SubmissionLong,
+            9 => Kind::SubmissionHead,
+            _ => Kind::SubmissionNumber,
+        });
+    }
+
+    /// What an act of the receiver comes upon that decides a block.
+    pub fn count_receiving(&mut self, start: usize) {
+        let kinds = [
+            (Kind::Receives, true),
+            (Kind::WhileOthersWait, !self.receiving.arrived.is_empty()),
+            (Kind::OfferedAgain, self.receiving.was_refused),
+            (Kind::ReplyAtOffset, start > 0),
+        ];
+        self.count_all(&kinds);
+    }
+
+    /// What storing that fails comes upon.
+    pub fn count_restore(&mut self, kind: Kind) {
+        let is_unstored = [!self.sending.is_persisted(), !self.receiving.is_persisted()];
+        let is_owing = !self.receiving.owed.is_empty();
+        let kinds = match kind {
+            Kind::SenderRestores => [
+                (kind, true),
+                (Kind::SenderRestoreUnstored, is_unstored[0]),
+                (Kind::SenderRestoreWithCircuit, self.sending.has_circuit()),
+            ],
+            _ => [
+                (kind, true),
+                (Kind::ReceiverRestoreUnstored, is_unstored[1]),
+                (Kind::ReceiverRestoreOwing, is_owing),
+            ],
+        };
+        self.count_all(&kinds);
+    }
+
+    /// Counts those that are so.
+    pub fn count_all(&mut self, kinds: &[(Kind, bool)]) {
+        for (kind, _) in kinds.iter().filter(|(_, is)| *is) {
+            self.counts.add(*kind);
         }
     }
 
@@ -229,8 +279,6 @@ impl Link {
             (Kind::CrashWithBytes, has_bytes),
             (Kind::CrashInFirstExchange, is_first),
         ];
-        for (kind, _) in kinds.into_iter().filter(|(_, is)| *is) {
-            self.counts.add(kind);
-        }
+        self.count_all(&kinds);
     }
 }

@@ -1,47 +1,101 @@
 //! What can be done otherwise on a simulated link than demand 3 has it, so that the tests are seen to
-//! find it.
+//! find it: the hosts neglect a duty, the lines bring something else, or something is wrongly reported.
 
+use crate::compare::Outcome;
+use crate::guarded::same;
 use crate::line::Arrived;
 use crate::link::Link;
-use crate::link_counts::Kind;
 use crate::link_ends::control_id;
 use host::ends_ffi::names::{
     ACT_EVENT, ACT_SEND, ACT_SENDS, ACT_SEND_NUMBER, ACT_WORDS, EVENT_DELIVERED, EVENT_DROPPED,
-    SENDER_PERSISTED_WORDS, SENDER_WORDS, SEND_NOTHING,
+    SENDER_LAST, SENDER_PERSISTED_WORDS, SENDER_WORDS, SEND_NOTHING,
 };
 use host::message_model;
+
+/// A duty of the two hosts, as crates/link/specs/Duties.antt defines it.
+#[derive(Clone, Copy, PartialEq, Eq, Debug)]
+pub enum Duty {
+    Exchanges,
+    EmptiesLines,
+    DropsReplies,
+    DropsVerdicts,
+    BringsNothingLate,
+    WritesInOrder,
+    OffersInOrder,
+    SenderPersistsFirst,
+    ReceiverPersistsFirst,
+    PersistsAsOne,
+    DecidesFromVolatile,
+    DropsNamed,
+    DropsUnpersisted,
+    Survives,
+}
+
+/// Each duty with its name.
+pub const DUTIES: [(Duty, &str); 14] = [
+    (Duty::Exchanges, "exchanges"),
+    (Duty::EmptiesLines, "empties_lines"),
+    (Duty::DropsReplies, "drops_replies"),
+    (Duty::DropsVerdicts, "drops_verdicts"),
+    (Duty::BringsNothingLate, "brings_nothing_late"),
+    (Duty::WritesInOrder, "writes_in_order"),
+    (Duty::OffersInOrder, "offers_in_order"),
+    (Duty::SenderPersistsFirst, "sender_persists_first"),
+    (Duty::ReceiverPersistsFirst, "receiver_persists_first"),
+    (Duty::PersistsAsOne, "persists_as_one"),
+    (Duty::DecidesFromVolatile, "decides_from_volatile"),
+    (Duty::DropsNamed, "drops_named"),
+    (Duty::DropsUnpersisted, "drops_unpersisted"),
+    (Duty::Survives, "survives"),
+];
+
+const DEFINITION: &str = concat!(
+    env!("CARGO_MANIFEST_DIR"),
+    "/../../crates/link/specs/Duties.antt"
+);
+
+/// A name of the definitions as it is written here.
+fn with_underscores(name: &str) -> String {
+    let letter = |letter: char| match letter.is_ascii_uppercase() {
+        true => format!("_{}", letter.to_ascii_lowercase()),
+        false => letter.to_string(),
+    };
+    name.chars().map(letter).collect()
+}
+
+/// The duties of the definition are these: one more of them would have no link run without it.
+pub fn same_duties() -> Outcome {
+    let text = std::fs::read_to_string(DEFINITION).map_err(|why| format!("{DEFINITION}: {why}"))?;
+    let mut lines = text.lines();
+    lines.find(|line| line.starts_with("pub data Duty "));
+    let variants = lines.take_while(|line| line.starts_with(' '));
+    let defined: Vec<String> = variants
+        .filter_map(|line| line.strip_suffix(" : Duty"))
+        .flat_map(|names| names.split_whitespace().map(with_underscores))
+        .collect();
+    same("duty", &defined, &DUTIES.map(|(_, name)| name.to_string()))
+}
 
 /// What is done otherwise than demand 3 has it, or what is wrongly reported.
 #[derive(Clone, Copy, PartialEq, Eq, Debug)]
 pub enum Deviation {
     /// None: what demand 3 says holds.
     Faithful,
-    /// No resynchronizing exchange, and the receiver expects an old number.
-    NotResynchronized,
-    /// No resynchronizing exchange, and answers of an earlier run are found at the first circuit.
-    NotResynchronizedOldAnswers,
-    /// The first circuit finds answers of an earlier run.
-    OldAnswers,
+    /// The hosts neglect one duty, or two.
+    Without(Duty),
+    WithoutBoth(Duty, Duty),
     /// The line to the receiver has a request of an earlier run at the start.
     OldRequest,
-    SenderWritesFirst,
-    NamedSurvivesCrash,
-    ReceiverRepliesFirst,
-    PersistsInTwoActs,
-    DecidesFromPersisted,
-    /// A block that the receiver refused is offered again after a later one.
-    DecidesOutOfOrder,
-    /// What an end has read and not acted on is acted on at the next circuit, the tenancy's first too.
-    ReceiverKeepsReadBlocks,
-    SenderKeepsReadBlocks,
-    /// Storing fails, and the receiver goes back to what is stored; replies decided before still go out.
-    RepliesAfterFailedStore,
+    /// One end alone keeps what it has read and not acted on over a new circuit, the first too.
+    ReceiverKeepsVerdicts,
+    SenderKeepsVerdicts,
     /// A restart goes on from what it finds, which a power cut can still undo.
     ReceiverFindsUndurable,
     SenderFindsUndurable,
-    RequestsOutOfOrder,
+    /// The line brings each request again behind the next, or requests as it may bring answers: in any
+    /// order, and repeatedly.
     RequestsTwice,
-    AnswersTwice,
+    RequestsDisordered,
     /// The sender does not compare MSA-2 with what waits.
     ControlIdIgnored,
     AbandonsEarly,
@@ -49,23 +103,27 @@ pub enum Deviation {
     CountsWrongly,
     SendForgotten,
     AnswerForgotten,
+    /// A message that was refused counts as submitted.
+    RefusedSubmitted,
+    /// A reply is sent from the buffer's beginning, wherever it was to stand.
+    ReplyFromBeginning,
 }
 
 impl Deviation {
-    /// Whether the run begins with the resynchronizing exchange.
-    pub fn resynchronizes(self) -> bool {
-        !matches!(
-            self,
-            Deviation::NotResynchronized | Deviation::NotResynchronizedOldAnswers
-        )
+    pub fn keeps(self, duty: Duty) -> bool {
+        match self {
+            Deviation::Without(one) => one != duty,
+            Deviation::WithoutBoth(one, other) => one != duty && other != duty,
+            _ => true,
+        }
     }
 
-    /// Whether the first circuit leaves the lines and the replies not yet sent as they are.
-    pub fn keeps_old_answers(self) -> bool {
-        matches!(
-            self,
-            Deviation::OldAnswers | Deviation::NotResynchronizedOldAnswers
-        )
+    pub fn sender_drops_verdicts(self) -> bool {
+        self.keeps(Duty::DropsVerdicts) && self != Deviation::SenderKeepsVerdicts
+    }
+
+    pub fn receiver_drops_verdicts(self) -> bool {
+        self.keeps(Duty::DropsVerdicts) && self != Deviation::ReceiverKeepsVerdicts
     }
 }
 
@@ -100,43 +158,23 @@ impl Link {
         }
     }
 
-    /// Whether storing fails now, and the receiver goes back to what is stored.
-    pub fn store_fails(&mut self) -> bool {
-        let is_due = self.counts.get(Kind::ReceiverPersists) % 3 == 2;
-        let fails = is_due && self.deviation == Deviation::RepliesAfterFailedStore;
-        if fails {
-            let end = &mut self.receiving;
-            end.state = end.persisted;
-            end.transactions.truncate(end.persisted_count);
+    /// What was persisted at the receiver does not survive: something older is there again.
+    pub fn reverts(&mut self, choice: usize) -> Outcome {
+        let end = &mut self.receiving;
+        if !end.older.is_empty() {
+            (end.persisted, end.persisted_count) = end.older[choice % end.older.len()];
         }
-        fails
+        self.check()
     }
 
-    /// The block that the receiver acts on next: the one that was read; but out of order, that one is
-    /// refused and held back until after the next.
-    pub fn next_to_decide(&mut self) -> Result<Option<Arrived>, String> {
-        let is_due = self.counts.get(Kind::ReceiverReads) % 3 == 2;
-        let holds_back = is_due && self.deviation == Deviation::DecidesOutOfOrder;
-        let Some(arrived) = self.receiving.arrived.take() else {
-            return Ok(None);
+    /// A block of an earlier circuit comes late, or one of an earlier run.
+    pub fn brings_late(&mut self, choice: usize) -> Outcome {
+        let block = match self.earlier.len() {
+            0 => self.old_answer(&self.first.to_string(), self.first)?,
+            count => self.earlier[choice % count].clone(),
         };
-        if !holds_back || self.receiving.held_back.is_some() {
-            return Ok(Some(arrived));
-        }
-        self.refuses(&arrived)?;
-        self.receiving.held_back = Some(arrived);
-        Ok(None)
-    }
-
-    /// What was read and not acted on goes with its circuit.
-    pub fn drop_read_blocks(&mut self) {
-        if self.deviation != Deviation::SenderKeepsReadBlocks {
-            self.sending.arrived = None;
-        }
-        if self.deviation != Deviation::ReceiverKeepsReadBlocks {
-            self.receiving.arrived = None;
-        }
-        self.receiving.held_back = None;
+        self.back.extend(block);
+        self.check()
     }
 
     /// r as the sender is told it.
@@ -159,6 +197,13 @@ impl Link {
             let id = control_id(waits).into_bytes();
             let head = b"MSH|^~\\&|||||||ACK|1|P|2.3.1\rMSA|";
             arrived.data = [&head[..], code, b"|", &id, b"||", expected, b"\r"].concat();
+        }
+    }
+
+    /// A deviation in what a refused submission leaves.
+    pub fn submit_otherwise(&mut self) {
+        if self.deviation == Deviation::RefusedSubmitted {
+            self.sending.state[SENDER_LAST] += 1;
         }
     }
 

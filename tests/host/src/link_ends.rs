@@ -21,14 +21,14 @@ pub struct Entry {
 }
 
 /// The sending end: its words, those persisted and those that a power cut leaves, what was named and
-/// not yet written, its reader, a block that was read and not yet reported, and the history.
+/// not yet written, its reader, the blocks that were read and not yet reported, and the history.
 pub struct SendingEnd {
     pub state: [u64; SENDER_WORDS],
     pub persisted: [u64; SENDER_PERSISTED_WORDS],
     pub durable: [u64; SENDER_PERSISTED_WORDS],
     pub named: VecDeque<Message>,
     pub reader: Reader,
-    pub arrived: Option<Arrived>,
+    pub arrived: VecDeque<Arrived>,
     pub history: Vec<Entry>,
 }
 
@@ -42,7 +42,7 @@ impl SendingEnd {
             durable: persisted,
             named: VecDeque::new(),
             reader: Reader::new(settings),
-            arrived: None,
+            arrived: VecDeque::new(),
             history: Vec::new(),
         }
     }
@@ -71,21 +71,36 @@ impl SendingEnd {
     pub fn is_persisted(&self) -> bool {
         self.persisted == self.state[..SENDER_PERSISTED_WORDS]
     }
+
+    /// The sender is what is persisted of it, without a circuit.
+    pub fn restore(&mut self) {
+        self.state = [0; SENDER_WORDS];
+        self.state[..SENDER_PERSISTED_WORDS].copy_from_slice(&self.persisted);
+        self.history.push(Entry {
+            sent: None,
+            waits: None,
+        });
+    }
 }
 
+/// What is persisted of a receiver: its word, and how many transactions.
+pub type Stored = ([u64; 1], usize);
+
 /// The receiving end: its word and the transactions with their verdicts, as they are held, as they
-/// are persisted and as a power cut leaves them; the replies not yet sent; its reader, a block that
-/// was read and not yet acted on, and one that was refused and is held back.
+/// are persisted and as a power cut leaves them, with what was persisted before; the replies not yet
+/// sent; its reader, the blocks that were read and not yet acted on, and whether the oldest of them
+/// was refused.
 pub struct ReceivingEnd {
     pub state: [u64; 1],
     pub transactions: Vec<(Vec<u8>, u64)>,
     pub persisted: [u64; 1],
     pub persisted_count: usize,
-    pub durable: ([u64; 1], usize),
+    pub durable: Stored,
+    pub older: Vec<Stored>,
     pub owed: VecDeque<Vec<u8>>,
     pub reader: Reader,
-    pub arrived: Option<Arrived>,
-    pub held_back: Option<Arrived>,
+    pub arrived: VecDeque<Arrived>,
+    pub was_refused: bool,
 }
 
 impl ReceivingEnd {
@@ -96,15 +111,28 @@ impl ReceivingEnd {
             persisted: [expected],
             persisted_count: 0,
             durable: ([expected], 0),
+            older: Vec::new(),
             owed: VecDeque::new(),
             reader: Reader::new(settings),
-            arrived: None,
-            held_back: None,
+            arrived: VecDeque::new(),
+            was_refused: false,
         }
     }
 
     pub fn is_persisted(&self) -> bool {
         self.state == self.persisted && self.transactions.len() == self.persisted_count
+    }
+
+    /// The receiver is what is persisted of it.
+    pub fn restore(&mut self) {
+        self.state = self.persisted;
+        self.transactions.truncate(self.persisted_count);
+    }
+
+    /// What was read and not acted on is dropped.
+    pub fn drop_verdicts(&mut self) {
+        self.arrived.clear();
+        self.was_refused = false;
     }
 }
 

@@ -1,45 +1,98 @@
-//! The order of the acts on a simulated link: any, from a seed, with loss, damage and crashes; and
-//! over good lines to the end.
+//! The order of the acts on a simulated link: any, from a seed, with loss, damage, crashes and storing
+//! that fails; and over good lines to the end.
 
 use crate::compare::Outcome;
-use crate::library;
-use crate::line::{damaged, replace, without_block, Arrived, Effect};
-use crate::link::Link;
-use crate::link_counts::Kind;
-use crate::link_deviation::Deviation;
-use host::ffi;
-use host::ffi::names::{CODE_AA, MINUS_ONE};
+use crate::link::{Link, MOST_OFFSET};
+use crate::link_deviation::{Deviation, Duty};
+use crate::link_receiving::{Part, ReplyBuffer};
+use crate::make;
+use crate::make_ends;
+use host::ends_ffi::names::SENDER_LAST;
 use host::prng::Random;
 
-/// How bad things are: once in so many acts; and how many bytes a part has at most.
+/// What comes between the acts that bring a link on.
 #[derive(Clone, Copy)]
+enum Trouble {
+    Loss,
+    Damage,
+    Disorder,
+    SenderCrash,
+    ReceiverCrash,
+    SenderRestore,
+    ReceiverRestore,
+    RefusedAct,
+    ShortBuffer,
+    Submission,
+    SenderDiscard,
+    ReceiverDiscard,
+    Timer,
+    Ended,
+    /// What only a host does that neglects a duty.
+    Neglect,
+}
+
+/// How often there is trouble, once in so many acts; how slow the sender is to read and to act on what
+/// it has read, and how slow the receiver; how many bytes a part has at most; and whether the sender is
+/// told of answers in the order in which they were sent.
 pub struct Weather {
-    pub loss: usize,
-    pub damage: usize,
-    pub sender_crash: usize,
-    pub receiver_crash: usize,
-    pub timer: usize,
-    pub ended: usize,
-    pub refused_act: usize,
-    pub refused_block: usize,
-    pub part: usize,
+    troubles: [(Trouble, usize); 15],
+    slow: [usize; 4],
+    part: usize,
+    is_in_order: bool,
 }
 
 const NEVER: usize = usize::MAX;
 
+/// Data limits that a message may be submitted under, beside the link's own; half of them are refused.
+const OTHER_LIMITS: [u64; 8] = [128, 129, 4096, 99_994, 0, 127, 99_995, u64::MAX];
+
 impl Weather {
-    pub fn any(random: &mut Random) -> Weather {
+    pub fn any(random: &mut Random, deviation: Deviation) -> Weather {
+        let neglect = match deviation {
+            Deviation::Faithful => NEVER,
+            _ => 10,
+        };
+        let mut once_in = |trouble: Trouble, choices: &[usize]| (trouble, random.pick(choices));
+        let troubles = [
+            once_in(Trouble::Loss, &[NEVER, 40, 20, 8]),
+            once_in(Trouble::Damage, &[NEVER, 40, 20, 8]),
+            once_in(Trouble::Disorder, &[NEVER, 20, 8, 4]),
+            once_in(Trouble::SenderCrash, &[NEVER, 100, 40, 20]),
+            once_in(Trouble::ReceiverCrash, &[NEVER, 100, 40, 20]),
+            once_in(Trouble::SenderRestore, &[NEVER, NEVER, 150, 60]),
+            once_in(Trouble::ReceiverRestore, &[NEVER, NEVER, 60, 20]),
+            once_in(Trouble::RefusedAct, &[NEVER, 100, 40]),
+            once_in(Trouble::ShortBuffer, &[NEVER, 40, 10]),
+            once_in(Trouble::Submission, &[NEVER, 60, 20]),
+            once_in(Trouble::SenderDiscard, &[NEVER, NEVER, 80, 30]),
+            once_in(Trouble::ReceiverDiscard, &[NEVER, NEVER, 80, 30]),
+            once_in(Trouble::Timer, &[200, 60, 25, 10]),
+            once_in(Trouble::Ended, &[NEVER, 300, 80]),
+            (Trouble::Neglect, neglect),
+        ];
+        let slow = [0; 4].map(|_| random.pick(&[1, 1, 3, 10, 30]));
         Weather {
-            loss: random.pick(&[NEVER, 40, 20, 8]),
-            damage: random.pick(&[NEVER, 40, 20, 8]),
-            sender_crash: random.pick(&[NEVER, 100, 40, 20]),
-            receiver_crash: random.pick(&[NEVER, 100, 40, 20]),
-            timer: random.pick(&[200, 60, 25, 10]),
-            ended: random.pick(&[NEVER, 300, 80]),
-            refused_act: random.pick(&[NEVER, 100, 40]),
-            refused_block: random.pick(&[NEVER, 40, 10]),
+            troubles,
+            slow,
             part: random.pick(&[1, 8, 64, 64, NEVER, NEVER, NEVER, NEVER]),
+            is_in_order: random.one_in(4),
         }
+    }
+
+    /// The same, but answers come and are taken in the order in which they were sent, and once.
+    pub fn in_order(mut self) -> Weather {
+        let disorder = |trouble: &Trouble| matches!(trouble, Trouble::Disorder);
+        for (_, once_in) in self.troubles.iter_mut().filter(|(one, _)| disorder(one)) {
+            *once_in = NEVER;
+        }
+        self.is_in_order = true;
+        self
+    }
+
+    fn trouble(&self, random: &mut Random) -> Option<Trouble> {
+        let mut troubles = self.troubles.iter();
+        let found = troubles.find(|(_, once_in)| *once_in != NEVER && random.one_in(*once_in));
+        found.map(|(trouble, _)| *trouble)
     }
 
     /// How many bytes the next part has.
@@ -51,133 +104,144 @@ impl Weather {
     }
 }
 
-/// The answer AA to a request.
-fn answer(id: &str, number: u64) -> Result<Vec<u8>, String> {
-    let (mut message, mut report) = (vec![0; 128], [0; 2]);
-    let found = ffi::answer_write(id.as_bytes(), CODE_AA, number, &mut message, 0, &mut report);
-    message.truncate(report[0] as usize);
-    match found {
-        0 => Ok(message),
-        _ => Err(format!("the answer to {id} was refused by {found}")),
-    }
-}
-
-/// A data block that a reader has accepted.
-fn accepted(data: Vec<u8>) -> Arrived {
-    Arrived {
-        number: 0,
-        block_type: u64::from(b'D'),
-        data,
-    }
+/// One of so many; 0 where there is none.
+fn any_of(random: &mut Random, count: usize) -> usize {
+    random.below(count.max(1))
 }
 
 impl Link {
-    /// Other bytes come in place of those on a line, towards the receiver or back.
-    fn change_line(
-        &mut self,
-        is_forward: bool,
-        change: impl FnOnce(&[u8]) -> Vec<u8>,
-    ) -> Result<Effect, String> {
-        let (reader, line) = if is_forward {
-            (&self.receiving.reader, &mut self.forward)
-        } else {
-            (&self.sending.reader, &mut self.back)
-        };
-        let bytes = change(line);
-        replace(reader, line, bytes)
-    }
-
-    fn is_silent(&self, is_forward: bool) -> bool {
-        if is_forward {
-            self.forward.is_empty()
-        } else {
-            self.back.is_empty()
-        }
-    }
-
-    /// A line loses a block, or all that is on it.
-    fn lose(&mut self, random: &mut Random) -> Outcome {
-        let (is_forward, is_all) = (random.one_in(2), random.one_in(8));
-        if self.is_silent(is_forward) {
-            return Ok(());
-        }
-        let settings = self.settings;
-        let effect = self.change_line(is_forward, |line| match is_all {
-            true => Vec::new(),
-            false => without_block(random, &settings, line),
-        })?;
-        self.counts.add(match effect {
-            Effect::Undone => Kind::AcceptedByChance,
-            Effect::Same => Kind::SameVerdicts,
-            _ if is_all => Kind::LostLine,
-            _ => Kind::LostBlock,
-        });
-        self.check()
-    }
-
-    /// A line is damaged; seldom one on which nothing is.
-    fn damage(&mut self, random: &mut Random) -> Outcome {
-        let is_forward = random.one_in(2);
-        if self.is_silent(is_forward) && !random.one_in(8) {
-            return Ok(());
-        }
-        let settings = self.settings;
-        let effect = self.change_line(is_forward, |line| damaged(random, &settings, line))?;
-        self.counts.add(match effect {
-            Effect::Undone => Kind::AcceptedByChance,
-            Effect::Same => Kind::SameVerdicts,
-            Effect::OneRefusal => Kind::OneRefusal,
-            Effect::SeveralRefusals => Kind::SeveralRefusals,
-            Effect::UntilNextStart => Kind::UntilNextStart,
-            Effect::Vanished => Kind::Vanished,
-        });
-        self.check()
-    }
-
     /// One act of either end or of the lines.
     pub fn step(&mut self, random: &mut Random, weather: &Weather) -> Outcome {
-        if random.one_in(weather.loss) {
-            return self.lose(random);
-        }
-        if random.one_in(weather.damage) {
-            return self.damage(random);
-        }
-        if random.one_in(weather.sender_crash) {
-            return self.sender_crashes();
-        }
-        if random.one_in(weather.receiver_crash) {
-            return self.receiver_crashes();
-        }
-        if random.one_in(weather.refused_act) {
-            return self.refused_act(random.below(4));
-        }
-        if random.one_in(weather.refused_block) {
-            return self.receiver_refuses(random.one_in(2));
-        }
+        let needs_circuit = |one: &Trouble| matches!(one, Trouble::Timer | Trouble::Ended);
         let has_circuit = self.sending.has_circuit();
-        if has_circuit && random.one_in(weather.timer) {
-            return self.timer();
+        let trouble = weather.trouble(random);
+        match trouble.filter(|one| has_circuit || !needs_circuit(one)) {
+            Some(trouble) => self.trouble(random, trouble),
+            None => self.useful(random, weather),
         }
-        if has_circuit && random.one_in(weather.ended) {
-            return self.end();
-        }
-        self.useful(random, weather)
     }
 
-    /// One of the acts that can do something now; with none the timer runs out.
-    fn useful(&mut self, random: &mut Random, weather: &Weather) -> Outcome {
-        let can = [
+    fn trouble(&mut self, random: &mut Random, trouble: Trouble) -> Outcome {
+        let read_by_sender = self.sending.arrived.len();
+        let read_by_receiver = self.receiving.arrived.len();
+        match trouble {
+            Trouble::Loss => self.lose(random),
+            Trouble::Damage => self.damage(random),
+            Trouble::Disorder => self.disorder(random),
+            Trouble::SenderCrash => self.sender_crashes(),
+            Trouble::ReceiverCrash => self.receiver_crashes(),
+            Trouble::SenderRestore => self.sender_restores(),
+            Trouble::ReceiverRestore => self.receiver_restores(),
+            Trouble::RefusedAct => self.refused_act(random.below(3)),
+            Trouble::ShortBuffer => self.refused_block(random),
+            Trouble::Submission => {
+                let (message, other) = (self.submission(random), random.pick(&OTHER_LIMITS));
+                self.submit_bytes(random.pick(&[self.settings.limit, other]), &message)
+            }
+            Trouble::SenderDiscard => self.sender_discards(any_of(random, read_by_sender)),
+            Trouble::ReceiverDiscard => self.receiver_discards(any_of(random, read_by_receiver)),
+            Trouble::Timer => self.timer(),
+            Trouble::Ended => self.end(),
+            Trouble::Neglect => self.neglect(random),
+        }
+    }
+
+    fn neglect(&mut self, random: &mut Random) -> Outcome {
+        if !self.keeps(Duty::Survives) {
+            return self.reverts(random.below(NEVER));
+        }
+        if !self.keeps(Duty::BringsNothingLate) {
+            return self.brings_late(random.below(NEVER));
+        }
+        if !self.keeps(Duty::PersistsAsOne) {
+            return self.receiver_persists(random.pick(&[Part::Number, Part::Transactions]));
+        }
+        Ok(())
+    }
+
+    /// A message that may be the next one or not: of the log, another with the next number or one
+    /// near it, one that is too long, has a forbidden byte or no header, or any bytes.
+    fn submission(&self, random: &mut Random) -> Vec<u8> {
+        let next = self.sending.state[SENDER_LAST].wrapping_add(1);
+        let id = next.to_string().into_bytes();
+        let other = next.wrapping_add(random.below(5) as u64).saturating_sub(2);
+        let sequence = make_ends::decimal(random, next);
+        let mut message = make_ends::request(random, &id, Some(&sequence));
+        match random.below(8) {
+            0 => return self.log[random.below(self.log.len())].clone(),
+            1 => {
+                let id = other.to_string().into_bytes();
+                return make_ends::request(random, &id, Some(&id));
+            }
+            2 => {
+                let sequence = make_ends::near(random, next);
+                return make_ends::request(random, &id, sequence.as_deref());
+            }
+            3 => message.resize(self.settings.limit as usize + random.below(3), b'X'),
+            4 => message.insert(
+                any_of(random, message.len()),
+                random.pick(&[0x0A, 0x1F, 0x7F, 0xFF]),
+            ),
+            5 => return make_ends::without_header(random, &sequence),
+            6 => return make::data(random, 40),
+            _ => {}
+        }
+        message
+    }
+
+    /// A buffer that is too short by a byte or more, from whatever offset; then the block may be
+    /// dropped, or it is offered again.
+    fn refused_block(&mut self, random: &mut Random) -> Outcome {
+        let need = self.reply_need();
+        let start = random.pick(&[0, 0, 1, MOST_OFFSET, need, NEVER]);
+        let most = start.saturating_add(need - 1).min(self.buffer.len());
+        let length = random.pick(&[most, most, most / 2, 0]);
+        let index = any_of(random, self.receiving.arrived.len());
+        let application = random.pick(&[1, 2]);
+        self.receiver_acts(index, application, ReplyBuffer { length, start })?;
+        if random.one_in(3) {
+            return self.receiver_discards(0);
+        }
+        Ok(())
+    }
+
+    /// A buffer that is long enough, with any offset and something behind the reply.
+    fn any_buffer(&self, random: &mut Random) -> ReplyBuffer {
+        let any = random.below(MOST_OFFSET + 1);
+        let start = random.pick(&[0, 1, MOST_OFFSET, any]);
+        let more = random.pick(&[0, 1, MOST_OFFSET]).min(MOST_OFFSET - start);
+        let length = start + self.reply_need() + more;
+        ReplyBuffer { length, start }
+    }
+
+    /// Which of the useful acts can do something now.
+    fn possible(&self) -> [bool; 10] {
+        [
             self.can_submit(),
             !self.sending.has_circuit(),
             !self.sending.is_persisted(),
             self.can_write(),
-            self.sender_can_read(),
-            self.sending.arrived.is_some(),
-            self.receiver_can_read(),
-            self.receiving.arrived.is_some(),
+            !self.back.is_empty(),
+            !self.sending.arrived.is_empty(),
+            !self.forward.is_empty(),
+            !self.receiving.arrived.is_empty(),
             !self.receiving.is_persisted(),
             self.can_reply(),
-        ];
+        ]
+    }
+
+    /// One of the acts that can do something now; with none the timer runs out. What is slow comes
+    /// seldom before the others, and before the timer.
+    fn useful(&mut self, random: &mut Random, weather: &Weather) -> Outcome {
+        let possible = self.possible();
+        let mut can = possible;
+        for (act, slow) in (4..8).zip(weather.slow) {
+            can[act] &= random.one_in(slow);
+        }
+        let has_circuit = self.sending.has_circuit();
+        if !can.contains(&true) && !(has_circuit && random.one_in(6)) {
+            can = possible;
+        }
         let count = can.iter().filter(|&&can| can).count();
         if count == 0 {
             return self.timer();
@@ -188,12 +252,16 @@ impl Link {
             0 => self.submit(),
             1 => self.open(),
             2 => self.sender_persists(),
-            3 => self.sender_writes(),
+            3 => self.sender_writes(any_of(random, self.sending.named.len())),
             4 => self.sender_reads(weather.next_part(random)),
-            5 => self.sender_block(),
+            5 if weather.is_in_order => self.sender_acts(0),
+            5 => self.sender_acts(any_of(random, self.sending.arrived.len())),
             6 => self.receiver_reads(weather.next_part(random)),
-            7 => self.receives(random.pick(&[1, 2])),
-            8 => self.receiver_persists(),
+            7 => {
+                let (buffer, count) = (self.any_buffer(random), self.receiving.arrived.len());
+                self.receiver_acts(any_of(random, count), random.pick(&[1, 2]), buffer)
+            }
+            8 => self.receiver_persists(Part::Both),
             _ => self.replies(),
         }
     }
@@ -202,14 +270,46 @@ impl Link {
         self.forward.is_empty()
             && self.back.is_empty()
             && self.sending.named.is_empty()
-            && self.sending.arrived.is_none()
-            && self.receiving.arrived.is_none()
+            && self.sending.arrived.is_empty()
+            && self.receiving.arrived.is_empty()
             && self.receiving.owed.is_empty()
+    }
+
+    /// What is named is written, read, decided, stored and answered.
+    pub fn request(&mut self, random: &mut Random) -> Outcome {
+        self.sender_persists()?;
+        self.sender_writes(0)?;
+        self.receiver_reads(NEVER)?;
+        let buffer = self.any_buffer(random);
+        self.receiver_acts(0, random.pick(&[1, 2]), buffer)?;
+        self.receiver_persists(Part::Both)?;
+        self.replies()
+    }
+
+    /// The same, and the answer is read and taken.
+    pub fn exchange(&mut self, random: &mut Random) -> Outcome {
+        self.request(random)?;
+        self.hear()
+    }
+
+    /// What is on the line back is read as far as one block, and the oldest block that was read is taken.
+    pub fn hear(&mut self) -> Outcome {
+        self.sender_reads(NEVER)?;
+        self.sender_acts(0)
+    }
+
+    /// How many blocks are still to be written, read, acted on or answered, at most.
+    fn unfinished(&self) -> usize {
+        let is_start = |byte: &&u8| **byte == self.settings.start_byte();
+        let on_lines = self.forward.iter().chain(&self.back).filter(is_start);
+        let (sending, receiving) = (&self.sending, &self.receiving);
+        let read = sending.arrived.len() + receiving.arrived.len();
+        sending.named.len() + receiving.owed.len() + read + on_lines.count()
     }
 
     /// Over good lines from now on, all of the log is delivered.
     pub fn deliver_all(&mut self, random: &mut Random) -> Outcome {
-        for _ in 0..60 + 20 * self.log.len() {
+        for _ in 0..60 + 20 * self.log.len() + 3 * self.unfinished() {
             self.submit()?;
             if !self.sending.has_circuit() {
                 self.open()?;
@@ -220,14 +320,7 @@ impl Link {
                 }
                 self.timer()?;
             }
-            self.sender_persists()?;
-            self.sender_writes()?;
-            self.receiver_reads(NEVER)?;
-            self.receives(random.pick(&[1, 2]))?;
-            self.receiver_persists()?;
-            self.replies()?;
-            self.sender_reads(NEVER)?;
-            self.sender_block()?;
+            self.exchange(random)?;
         }
         Err("over good lines not all is delivered".to_string())
     }
@@ -238,48 +331,6 @@ impl Link {
             self.check()
         } else {
             Err(format!("{count} were received, and all are delivered"))
-        }
-    }
-
-    /// What an earlier run left: its answers to -1 or 0 and to the first number, not yet sent or on
-    /// the line; and, only with those deviations, its first transaction on the line to the receiver,
-    /// or a block that an end has read and not acted on.
-    pub fn leave_old_blocks(&mut self, random: &mut Random) -> Outcome {
-        let resynchronizes = self.deviation.resynchronizes();
-        let control = if resynchronizes { "-1" } else { "0" };
-        let first = self.first.to_string();
-        let request = format!("MSH|^~\\&|||||||ADT|{first}|P|2.3.1|{first}\rOLD|").into_bytes();
-        let is_owed = random.one_in(2);
-        for (id, number) in [(control, MINUS_ONE), (&first[..], self.first)] {
-            let block = self.old_answer(id, number)?;
-            if is_owed {
-                self.receiving.owed.push_back(block);
-            } else {
-                self.back.extend(block);
-            }
-        }
-        match self.deviation {
-            Deviation::OldRequest => self.forward = self.block(&request)?,
-            Deviation::ReceiverKeepsReadBlocks => self.receiving.arrived = Some(accepted(request)),
-            Deviation::SenderKeepsReadBlocks => {
-                self.sending.arrived = Some(accepted(answer(control, MINUS_ONE)?));
-            }
-            _ => {}
-        }
-        Ok(())
-    }
-
-    /// An earlier run's answer, as a block.
-    pub fn old_answer(&self, id: &str, number: u64) -> Result<Vec<u8>, String> {
-        self.block(&answer(id, number)?)
-    }
-
-    fn block(&self, data: &[u8]) -> Result<Vec<u8>, String> {
-        let mut block = vec![0; data.len() + self.settings.overhead()];
-        let kind = u64::from(b'D');
-        match library::write(&self.settings, kind, data, &mut block, 0, &mut [0; 2]) {
-            0 => Ok(block),
-            number => Err(format!("a block was refused by {number}")),
         }
     }
 }

@@ -4,18 +4,16 @@
 use crate::compare::{Compare, Outcome};
 use crate::link::{Beginning, Link};
 use crate::link_counts::{Counts, Kind};
-use crate::link_deviation::Deviation;
+use crate::link_deviation::{same_duties, Deviation, Duty, DUTIES};
 use crate::link_schedule::Weather;
 use crate::make;
 use crate::make_ends;
-use host::ends_ffi::names::{SENDER_DELIVERED, SEND_TRANSACTION};
-use host::ffi::names::CODE_AA;
 use host::message_model::{LARGEST_EXPECTED, LARGEST_SENT};
 use host::model::{Layer, Settings};
 use host::prng::Random;
 
 /// How many link runs a group of links makes.
-const RUNS: usize = 300_000;
+const RUNS: usize = 400_000;
 
 /// A log from a first number on.
 fn log(random: &mut Random, first: u64, limit: u64) -> Vec<Vec<u8>> {
@@ -49,7 +47,7 @@ fn settings(random: &mut Random) -> Settings {
     }
 }
 
-fn beginning(random: &mut Random, deviation: Deviation) -> Beginning {
+pub fn beginning(random: &mut Random, deviation: Deviation) -> Beginning {
     let first = match random.below(6) {
         0 => 1,
         1 => 2,
@@ -62,8 +60,8 @@ fn beginning(random: &mut Random, deviation: Deviation) -> Beginning {
     let near = first + random.below(4) as u64;
     let any = 1 + random.draw() % LARGEST_EXPECTED;
     let old_expected = match deviation {
-        Deviation::NotResynchronized => random.pick(&[near, any]),
-        Deviation::NotResynchronizedOldAnswers => 0,
+        Deviation::Without(Duty::Exchanges) => random.pick(&[near, any]),
+        Deviation::WithoutBoth(Duty::Exchanges, _) => random.pick(&[0, first]),
         _ => random.pick(&[0, 0, near - 1, near, any, 1, LARGEST_SENT, LARGEST_EXPECTED]),
     };
     Beginning {
@@ -77,14 +75,13 @@ fn beginning(random: &mut Random, deviation: Deviation) -> Beginning {
 }
 
 /// The acts of a link run; in the end it may be brought to its end over good lines.
-fn acts(link: &mut Link, random: &mut Random) -> Outcome {
-    let weather = Weather::any(random);
+pub fn acts(link: &mut Link, random: &mut Random, weather: &Weather) -> Outcome {
     let steps = random.pick(&[20, 100, 300, 300, 600]);
     for _ in 0..random.below(steps) {
         if link.is_done() && random.one_in(8) {
             break;
         }
-        link.step(random, &weather)?;
+        link.step(random, weather)?;
     }
     if random.one_in(4) {
         return Ok(());
@@ -123,9 +120,27 @@ fn count_run(link: &mut Link, old_expected: u64) {
         (Kind::BothCrashed, both_crashed),
         (Kind::DeliveredAfterAll, after_all),
     ];
-    for (kind, _) in kinds.into_iter().filter(|(_, is)| *is) {
-        link.counts.add(kind);
+    link.count_all(&kinds);
+}
+
+/// What an earlier run left. No circuit can drop a request that the receiver acts on before the first:
+/// where one is left, the first circuit comes at once, except with that deviation.
+fn leave_old_blocks(link: &mut Link, random: &mut Random) -> Outcome {
+    match link.deviation {
+        Deviation::Without(Duty::Exchanges) => return Ok(()),
+        Deviation::OldRequest => return link.leave_old_request(false),
+        Deviation::ReceiverKeepsVerdicts => {
+            link.leave_old_request(true)?;
+            return link.open();
+        }
+        _ => {}
     }
+    link.leave_old_answers(random)?;
+    if link.deviation == Deviation::Faithful && random.one_in(2) {
+        link.leave_old_request(random.one_in(2))?;
+        return link.open();
+    }
+    Ok(())
 }
 
 /// One link run: a numbered log from its first act to its last. A failure has what is wrong, and how
@@ -134,21 +149,13 @@ fn link_run(random: &mut Random, deviation: Deviation) -> Result<Counts, [String
     let beginning = beginning(random, deviation);
     let old_expected = beginning.old_expected;
     let mut link = Link::new(beginning).map_err(|why| [why, String::new()])?;
-    let leaves_old_blocks = match deviation {
-        Deviation::OldAnswers
-        | Deviation::NotResynchronizedOldAnswers
-        | Deviation::OldRequest
-        | Deviation::ReceiverKeepsReadBlocks
-        | Deviation::SenderKeepsReadBlocks => true,
-        Deviation::NotResynchronized => false,
-        _ => random.one_in(3),
-    };
     let mut outcome = Ok(());
-    if leaves_old_blocks {
-        outcome = link.leave_old_blocks(random);
+    if deviation != Deviation::Faithful || random.one_in(3) {
+        outcome = leave_old_blocks(&mut link, random);
     }
+    let weather = Weather::any(random, deviation);
     outcome
-        .and_then(|()| acts(&mut link, random))
+        .and_then(|()| acts(&mut link, random, &weather))
         .map_err(|why| [why, link.text()])?;
     count_run(&mut link, old_expected);
     Ok(link.counts)
@@ -169,54 +176,22 @@ pub fn links(compare: &mut Compare) -> Outcome {
 }
 
 /// How many link runs may pass before what is wrong is found.
-const RUNS_TO_FIND: usize = 20_000;
+const RUNS_TO_FIND: usize = 100_000;
 
-const DEVIATIONS: [(Deviation, &str); 24] = [
+/// What is done otherwise beside the duties of the hosts, each by itself.
+const MORE: [(Deviation, &str); 16] = [
     (
-        Deviation::NotResynchronized,
-        "no resynchronizing exchange, and an old expected number",
+        Deviation::WithoutBoth(Duty::Exchanges, Duty::EmptiesLines),
+        "exchanges and empties_lines off",
     ),
-    (
-        Deviation::NotResynchronizedOldAnswers,
-        "no resynchronizing exchange, and old answers at the first circuit",
-    ),
-    (Deviation::OldAnswers, "old answers at the first circuit"),
     (Deviation::OldRequest, "an old request on the line"),
     (
-        Deviation::SenderWritesFirst,
-        "the sender writes before it stores",
+        Deviation::ReceiverKeepsVerdicts,
+        "drops_verdicts off at the receiver alone",
     ),
     (
-        Deviation::NamedSurvivesCrash,
-        "a message that was named is written after a crash",
-    ),
-    (
-        Deviation::ReceiverRepliesFirst,
-        "the receiver answers before it stores",
-    ),
-    (
-        Deviation::PersistsInTwoActs,
-        "the receiver stores in two acts",
-    ),
-    (
-        Deviation::DecidesFromPersisted,
-        "the receiver decides from what it stored",
-    ),
-    (
-        Deviation::DecidesOutOfOrder,
-        "a block that was refused is offered after a later one",
-    ),
-    (
-        Deviation::ReceiverKeepsReadBlocks,
-        "the receiver acts on a block that was read on an earlier circuit",
-    ),
-    (
-        Deviation::SenderKeepsReadBlocks,
-        "the sender acts on a block that was read on an earlier circuit",
-    ),
-    (
-        Deviation::RepliesAfterFailedStore,
-        "storing fails, and replies decided before go out",
+        Deviation::SenderKeepsVerdicts,
+        "drops_verdicts off at the sender alone",
     ),
     (
         Deviation::ReceiverFindsUndurable,
@@ -226,11 +201,10 @@ const DEVIATIONS: [(Deviation, &str); 24] = [
         Deviation::SenderFindsUndurable,
         "a restarted sender goes on from what is not durable",
     ),
-    (Deviation::RequestsOutOfOrder, "requests out of order"),
     (Deviation::RequestsTwice, "requests that come again later"),
     (
-        Deviation::AnswersTwice,
-        "answers that come again on a later circuit",
+        Deviation::RequestsDisordered,
+        "requests in any order and repeatedly",
     ),
     (
         Deviation::ControlIdIgnored,
@@ -241,80 +215,39 @@ const DEVIATIONS: [(Deviation, &str); 24] = [
     (Deviation::CountsWrongly, "a wrong count of sends"),
     (Deviation::SendForgotten, "a send that is not named"),
     (Deviation::AnswerForgotten, "an answer that is not taken"),
+    (
+        Deviation::RefusedSubmitted,
+        "a refused message that counts as submitted",
+    ),
+    (
+        Deviation::ReplyFromBeginning,
+        "replies sent from the buffer's beginning",
+    ),
 ];
 
-/// The first link run that fails, and what is wrong.
-fn first_failure(random: &mut Random, deviation: Deviation) -> Option<(usize, String)> {
-    (1..=RUNS_TO_FIND).find_map(|number| {
+/// Link runs until one fails: which, and what is wrong.
+fn found(random: &mut Random, deviation: Deviation, what: &str) -> Outcome {
+    let failure = (1..=RUNS_TO_FIND).find_map(|number| {
         let failure = link_run(random, deviation).err();
         failure.map(|[why, _]| (number, why))
-    })
-}
-
-/// What is done otherwise than demand 3 has it, or wrongly reported, is found by the same link runs.
-pub fn link_deviations(compare: &mut Compare) -> Outcome {
-    for (deviation, what) in DEVIATIONS {
-        let Some((number, why)) = first_failure(&mut compare.random, deviation) else {
-            return Err(format!("{what}: not found in {RUNS_TO_FIND} link runs"));
-        };
-        println!("  {what}: found in link run {number} ({why})");
-    }
+    });
+    let Some((number, why)) = failure else {
+        return Err(format!("{what}: not found in {RUNS_TO_FIND} link runs"));
+    };
+    println!("  {what}: found in link run {number} ({why})");
     Ok(())
 }
 
-/// A sender has opened its first circuit and sent its number 1, and the line lost it. Then an earlier
-/// run's answer to its own number 1 comes out, if the receiving end still has it. In the end the lines
-/// are good.
-fn earlier_answer(link: &mut Link, random: &mut Random) -> Outcome {
-    let answer = link.old_answer("1", 1)?;
-    link.submit()?;
-    link.open()?;
-    while link.sending.waiting() != Some([SEND_TRANSACTION, 1]) {
-        link.sender_persists()?;
-        link.sender_writes()?;
-        link.receiver_reads(usize::MAX)?;
-        link.receives(CODE_AA)?;
-        link.receiver_persists()?;
-        link.replies()?;
-        link.sender_reads(usize::MAX)?;
-        link.sender_block()?;
+/// A duty of the hosts that is neglected, and whatever else is done otherwise than demand 3 has it or
+/// wrongly reported, is found by the same link runs.
+pub fn link_deviations(compare: &mut Compare) -> Outcome {
+    same_duties()?;
+    for (duty, name) in DUTIES {
+        let deviation = Deviation::Without(duty);
+        found(&mut compare.random, deviation, &format!("{name} off"))?;
     }
-    link.sender_persists()?;
-    link.sender_writes()?;
-    link.forward.clear();
-    if link.deviation != Deviation::Faithful {
-        link.back.extend(answer);
-    }
-    link.sender_reads(usize::MAX)?;
-    link.sender_block()?;
-    link.deliver_all(random)
-}
-
-/// The answer of an earlier run delivers what nobody has received, whether the exchange is made or
-/// not; where a new circuit finds no such answer, all is delivered.
-pub fn answer_of_earlier_run(compare: &mut Compare) -> Outcome {
-    let cases = [
-        (Deviation::NotResynchronizedOldAnswers, 0, false),
-        (Deviation::OldAnswers, 2, false),
-        (Deviation::Faithful, 2, true),
-    ];
-    for (deviation, old_expected, is_right) in cases {
-        let mut link = Link::new(Beginning {
-            settings: Settings::hybrid(0x0B, 0x1C, 4096),
-            first: 1,
-            resends: 3,
-            log: vec![b"MSH|^~\\&|||||||ORU|1|P|2.3.1|1\rOBX|1|NM|K||6.1\r".to_vec()],
-            old_expected,
-            deviation,
-        })?;
-        let outcome = earlier_answer(&mut link, &mut compare.random);
-        let delivered = link.sending.state[SENDER_DELIVERED];
-        let received = link.receiving.transactions.len();
-        let expected = if is_right { 1 } else { 0 };
-        if outcome.is_ok() != is_right || delivered != 1 || received != expected {
-            return Err(format!("{outcome:?}; {}", link.text()));
-        }
-        println!("  {deviation:?}: {received} received, {delivered} delivered");
+    for (deviation, what) in MORE {
+        found(&mut compare.random, deviation, what)?;
     }
     Ok(())
 }

@@ -2,6 +2,7 @@
 
 mod blocks;
 mod bytes;
+mod duty_runs;
 mod ends_memory;
 mod fields;
 mod fields_memory;
@@ -10,6 +11,7 @@ mod links;
 mod memory;
 mod message_memory;
 mod message_writers;
+mod old_answers;
 mod receiver;
 mod refusals;
 mod sender;
@@ -142,7 +144,10 @@ pub const ALL: &[(&str, Group)] = &[
     ("control_blocks", sender_words::control_blocks),
     ("links", links::links),
     ("link_deviations", links::link_deviations),
-    ("answer_of_earlier_run", links::answer_of_earlier_run),
+    ("duty_runs", duty_runs::duty_runs),
+    ("late_answer", old_answers::late_answer),
+    ("answer_of_earlier_run", old_answers::answer_of_earlier_run),
+    ("one_old_answer", old_answers::one_old_answer),
     ("ends_guard_pages", ends_memory::ends_guard_pages),
     ("station_fresh", station_words::station_fresh),
     ("station_numbers", station_words::station_numbers),
