@@ -6,11 +6,11 @@ use mathlib.Core.Logic.{_⊎_, inl, inr}
 use native.Mathlib.Omega.{arith}
 use Rattle.receiver.specs.Receiver.{validExpected}
 use Rattle.receiver.specs.declared.Expected.{Expected}
-use Rattle.link.specs.Duties.{every, oneAt}
+use Rattle.link.specs.Duties.{Duty, every, oneAt}
 use Rattle.link.specs.System.{Link, System, Remains, beginning, startOf, nothingLeft, SystemAct, opens, ends, resets, timer, submits, senderPersists, senderWrites, senderReads, senderActs, senderDiscards, senderRestores}
 use Rattle.link.specs.System.{senderCrashes, receiverReads, receiverActs, receiverDiscards, receiverPersists, receiverWrites, receiverRestores, receiverCrashes}
 use Rattle.link.specs.System.{damagesForward, damagesBack, persistsNumber, persistsTransactions, revertsTo, bringsLate, afterAct, runOf}
-use Rattle.link.specs.Promise.{Ready, Safe, OnlyAnswers}
+use Rattle.link.specs.Promise.{Ready, Safe, OnlyAnswers, Needed}
 use Rattle.link.proofs.Invariant.{Inv}
 use Rattle.link.proofs.Early.{Early, early-start, early-acts, Standing, stands}
 use Rattle.link.proofs.Acts.{start, opens-keeps, ends-keeps, resets-keeps, timer-keeps, submits-keeps, sender-persists-keeps, sender-writes-keeps, sender-reads-keeps, sender-acts-keeps}
@@ -91,3 +91,7 @@ module _ (l : Link) (rd : Ready l) where
 
   pub safety : (e : Expected) → validExpected e ≡ true → (ds : List SystemAct) → Safe l (runOf every l (startOf l e) ds)
   safety e v ds = safety-from nothingLeft none-left e v ds
+
+  -- what a duty that is needed breaks, it breaks alone: with every duty kept, the statement holds of the same acts from the same beginning
+  pub kept : (d : Duty) (n : Needed l d) → Safe l (runOf every l (beginning every l (n .expected) (n .remains)) (n .acts))
+  kept d n = safety-from (n .remains) (n .only-answers) (n .expected) (n .valid) (n .acts)

@@ -78,13 +78,13 @@ loses = senderPersists ∷ senderWrites 0 ∷ damagesForward [] ∷ []
 pub oldAnswer : Kind → SequenceNumber → List ℕ
 oldAnswer k v = blockOf (exampleLink k .settings) (code "D") (answerMessage (textOf v) AA v)
 
-pub left : List ℕ → Remains
+unfoldable pub left : List ℕ → Remains
 left bs = record { forward = []; back = bs; pending = []; requests = []; answers = [] }
 
-pub leftPending : List ℕ → Remains
+unfoldable pub leftPending : List ℕ → Remains
 leftPending b = record { forward = []; back = []; pending = b ∷ []; requests = []; answers = [] }
 
-pub leftRead : Kind → List ℕ → Remains
+unfoldable pub leftRead : Kind → List ℕ → Remains
 leftRead k bs = record { forward = []; back = []; pending = []; requests = []; answers = run (exampleLink k .settings) 0 between bs }
 
 -- ---- without each duty: what the receiver expects, what is left, and the acts

@@ -5,9 +5,9 @@ use Rattle.settings.specs.declared.Kind.{Kind}
 use Rattle.receiver.specs.Receiver.{validExpected}
 use Rattle.link.specs.Duties.{Duty, exchanges, emptiesLines, dropsReplies, dropsVerdicts, bringsNothingLate, writesInOrder, offersInOrder, senderPersistsFirst, receiverPersistsFirst}
 use Rattle.link.specs.Duties.{persistsAsOne, decidesFromVolatile, dropsNamed, dropsUnpersisted, survives}
-use Rattle.link.specs.Promise.{Safe, Needed}
+use Rattle.link.specs.Promise.{Safe, OnlyAnswers, Needed}
 use Rattle.link.specs.Example.{exampleLink}
-use Rattle.link_duties.proofs.Counterexamples.{case, caseOf, endOf, computed, unstored, ahead}
+use Rattle.link_duties.proofs.Counterexamples.{left, leftPending, leftRead, case, caseOf, endOf, computed, unstored, ahead}
 
 module _ (k : Kind) where
   broken : (d : Duty) → Safe (exampleLink k) (endOf k d) → ⊥
@@ -43,9 +43,27 @@ module _ (k : Kind) where
   is-state dropsUnpersisted = refl
   is-state survives = refl
 
+  -- only answers are left, so that with every duty kept the statement holds (`kept`)
+  leaves-answers : (d : Duty) → OnlyAnswers (caseOf k d .remains)
+  unfolding caseOf case left leftPending leftRead
+  leaves-answers exchanges = record { forward = refl; requests = refl }
+  leaves-answers emptiesLines = record { forward = refl; requests = refl }
+  leaves-answers dropsReplies = record { forward = refl; requests = refl }
+  leaves-answers dropsVerdicts = record { forward = refl; requests = refl }
+  leaves-answers bringsNothingLate = record { forward = refl; requests = refl }
+  leaves-answers writesInOrder = record { forward = refl; requests = refl }
+  leaves-answers offersInOrder = record { forward = refl; requests = refl }
+  leaves-answers senderPersistsFirst = record { forward = refl; requests = refl }
+  leaves-answers receiverPersistsFirst = record { forward = refl; requests = refl }
+  leaves-answers persistsAsOne = record { forward = refl; requests = refl }
+  leaves-answers decidesFromVolatile = record { forward = refl; requests = refl }
+  leaves-answers dropsNamed = record { forward = refl; requests = refl }
+  leaves-answers dropsUnpersisted = record { forward = refl; requests = refl }
+  leaves-answers survives = record { forward = refl; requests = refl }
+
   pub needed : (d : Duty) → Needed (exampleLink k) d
   unfolding endOf
-  needed d = record { expected = caseOf k d .expected; valid = is-state d; remains = caseOf k d .remains; acts = caseOf k d .acts; broken = broken d }
+  needed d = record { expected = caseOf k d .expected; valid = is-state d; remains = caseOf k d .remains; only-answers = leaves-answers d; acts = caseOf k d .acts; broken = broken d }
 
   -- ---- by their names
   -- the night of slot 7: the first circuit finds an earlier tenant's answers to -1 and to 1 on the line; or its answer to 1 comes late
