@@ -35,7 +35,7 @@ use Rattle.link.specs.Line.{Line, line, newReader, emptyLine, acceptedOf
 use Rattle.link.specs.System.{Link, System, Remains, beginning, stored, sending, receiving, link, senderActed, circuitOpened, requestWritten, senderRead, answerTaken}
 use Rattle.link.specs.System.{receivedEnd, receiverRead, requestTaken, sameStored, replyWritten, SystemAct, opens, ends, resets, timer, submits, senderPersists, senderWrites, senderReads}
 use Rattle.link.specs.System.{senderActs, senderDiscards, senderRestores, senderCrashes, receiverReads, receiverActs, receiverDiscards, receiverPersists, receiverWrites, receiverRestores}
-use Rattle.link.specs.System.{receiverCrashes, damagesForward, damagesBack, persistsNumber, persistsTransactions, revertsTo, bringsLate, afterAct}
+use Rattle.link.specs.System.{receiverCrashes, damagesForward, damagesBack, persistsNumber, persistsTransactions, revertsTo, senderRevertsTo, bringsLate, bringsLateRequest, afterAct}
 use Rattle.link.specs.Promise.{Ready, OnlyAnswers}
 use Rattle.link.proofs.Facts.{not-both}
 use Rattle.link.proofs.Queues.{none, each-none}
@@ -247,7 +247,9 @@ module _ (l : Link) (rd : Ready l) where
     early-acts persistsNumber = inl i
     early-acts persistsTransactions = inl i
     early-acts (revertsTo p) = inl i
+    early-acts (senderRevertsTo p) = inl i
     early-acts (bringsLate b) = inl i
+    early-acts (bringsLateRequest b) = inl i
 
 -- ---- what holds before the first circuit and after it: the numbers and the stored transactions
 pub record Standing (l : Link) (y : System) : Type 0 where

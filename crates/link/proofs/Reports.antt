@@ -35,7 +35,7 @@ use Rattle.link.specs.Line.{damages, disorders}
 use Rattle.link.specs.System.{Link, System, SendingEnd, Remains, beginning, samePersisted, requestWritten, sameStored, replyWritten, senderRead, answerTaken, receiverRead, requestTaken}
 use Rattle.link.specs.System.{SystemAct, opens, ends, resets, submits, timer as timerRuns, senderPersists, senderWrites, senderReads, senderActs, senderDiscards, senderRestores, senderCrashes}
 use Rattle.link.specs.System.{receiverReads, receiverActs, receiverDiscards, receiverPersists, receiverWrites, receiverRestores, receiverCrashes, damagesForward, damagesBack}
-use Rattle.link.specs.System.{persistsNumber, persistsTransactions, revertsTo, bringsLate, afterAct, runOf}
+use Rattle.link.specs.System.{persistsNumber, persistsTransactions, revertsTo, senderRevertsTo, bringsLate, bringsLateRequest, afterAct, runOf}
 use Rattle.link.specs.Promise.{Ready, OnlyAnswers}
 use Rattle.link.proofs.Safety.{run-stands}
 
@@ -102,7 +102,9 @@ module _ (l : Link) (P : Sender → Persisted → List Entry → Type 0)
     at-after persistsNumber = now
     at-after persistsTransactions = now
     at-after (revertsTo p) = now
+    at-after (senderRevertsTo p) = now
     at-after (bringsLate b) = now
+    at-after (bringsLateRequest b) = now
 
 module _ (l : Link) (rd : Ready l) (remains : Remains) (only : OnlyAnswers remains) (e : Expected) (v : validExpected e ≡ true) where
   abbrev at : List SystemAct → System

@@ -9,7 +9,7 @@ use Rattle.receiver.specs.declared.Expected.{Expected}
 use Rattle.link.specs.Duties.{Duty, every, oneAt}
 use Rattle.link.specs.System.{Link, System, Remains, beginning, startOf, nothingLeft, SystemAct, opens, ends, resets, timer, submits, senderPersists, senderWrites, senderReads, senderActs, senderDiscards, senderRestores}
 use Rattle.link.specs.System.{senderCrashes, receiverReads, receiverActs, receiverDiscards, receiverPersists, receiverWrites, receiverRestores, receiverCrashes}
-use Rattle.link.specs.System.{damagesForward, damagesBack, persistsNumber, persistsTransactions, revertsTo, bringsLate, afterAct, runOf}
+use Rattle.link.specs.System.{damagesForward, damagesBack, persistsNumber, persistsTransactions, revertsTo, senderRevertsTo, bringsLate, bringsLateRequest, afterAct, runOf}
 use Rattle.link.specs.Promise.{Ready, Safe, OnlyAnswers, Needed}
 use Rattle.link.proofs.Invariant.{Inv}
 use Rattle.link.proofs.Early.{Early, early-start, early-acts, Standing, stands}
@@ -47,7 +47,9 @@ module _ (l : Link) (rd : Ready l) where
   act-keeps persistsNumber y i = i
   act-keeps persistsTransactions y i = i
   act-keeps (revertsTo p) y i = i
+  act-keeps (senderRevertsTo p) y i = i
   act-keeps (bringsLate b) y i = i
+  act-keeps (bringsLateRequest b) y i = i
 
   pub run-keeps : (e : Expected) → validExpected e ≡ true → (ds : List SystemAct) → Inv l (runOf every l (startOf l e) ds)
   unfolding runOf
