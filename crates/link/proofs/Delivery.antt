@@ -2,7 +2,7 @@
 use mathlib.Core.Path.{_≡_, refl, sym, ap, _∙_, subst}
 use mathlib.Core.List.{List, _∷_}
 use mathlib.Core.Bool.{Bool, true, cond}
-use mathlib.Core.Logic.{inl, inr}
+use mathlib.Core.Logic.{_⊎_, inl, inr}
 use Prim.Native.Nat.{ℕ, _+_}
 use Prim.Native.Char.{code}
 use native.Mathlib.Omega.{arith}
@@ -22,7 +22,7 @@ use Rattle.receiver.specs.declared.Expected.{Expected}
 use Rattle.sender.specs.Sender.{isOpen, waitingMessage, waitsOf, blockReadOf, answered, answerTransaction, proceeds, deliveredOf, freezes}
 use Rattle.sender.specs.declared.Persisted.{Persisted}
 use Rattle.sender.specs.declared.Waiting.{Waiting}
-use Rattle.sender.specs.declared.Waiting.the-variants.{Sending}
+use Rattle.sender.specs.declared.Waiting.the-variants.{Closed, Sending}
 use Rattle.sender.specs.declared.Sender.{Sender}
 use Rattle.sender.specs.declared.NumberedMessage.the-variants.{Numbered}
 use Rattle.sender.specs.declared.Event.{Event}
@@ -30,15 +30,17 @@ use Rattle.sender.specs.declared.Acted.{Acted}
 use Rattle.link.specs.SenderActs.{senderAt}
 use Rattle.link.specs.Duties.{every, oneAt, othersAt}
 use Rattle.link.specs.Line.{arrival, accepts, arriving}
-use Rattle.link.specs.System.{Link, System, startOf, answerTaken, SystemAct, senderActs, runOf}
-use Rattle.link.specs.Promise.{Ready}
+use Rattle.link.specs.System.{Link, System, Remains, beginning, answerTaken, SystemAct, senderActs, runOf}
+use Rattle.link.specs.Promise.{Ready, OnlyAnswers}
 use Rattle.link.proofs.Queues.{all-in, each-in, Found, found, replies, refuses, Given, ToNumber, to-zero, to-stored, to-repeat}
 use Rattle.link.proofs.Texts.{text-is}
 use Rattle.link.proofs.Messages.{IsReply}
 use Rattle.link.proofs.AnswersRead.{read-own}
 use Rattle.link.proofs.Arrivals.{one-in}
 use Rattle.link.proofs.Invariant.{booksOf, Inv}
-use Rattle.link.proofs.Safety.{run-keeps}
+use Rattle.link.proofs.Facts.{not-both}
+use Rattle.link.proofs.Early.{Early}
+use Rattle.link.proofs.Safety.{run-keeps-from}
 
 -- the delivered number after an act
 abbrev pub deliveredAfter : Acted → ℕ
@@ -55,9 +57,9 @@ module _ (p : Persisted) (k : ℕ) where
   moved c m (to-stored a (inr x) y l) = rw (x, y) (taken _ _ (eq-eqb (p .delivered + 1) (p .delivered + 1) refl))
   moved c m (to-repeat a x y l) = rw (x, y) (taken _ _ (eq-eqb (p .delivered + 1 + 1) (p .delivered + 1 + 1) refl))
 
-module _ (l : Link) (rd : Ready l) (e : Expected) (valid : validExpected e ≡ true) (ds : List SystemAct) where
+module _ (l : Link) (rd : Ready l) (remains : Remains) (only : OnlyAnswers remains) (e : Expected) (valid : validExpected e ≡ true) (ds : List SystemAct) where
   abbrev now : System
-  now = runOf every l (startOf l e) ds
+  now = runOf every l (beginning every l e remains) ds
 
   abbrev s : Sender
   s = now .sending .sender
@@ -65,12 +67,17 @@ module _ (l : Link) (rd : Ready l) (e : Expected) (valid : validExpected e ≡ t
   abbrev reached : ℕ
   reached = now .sending .sender .persisted .delivered
 
-  i : Inv l now
-  i = run-keeps l rd e valid ds
-
   -- a data block was read, and it is an answer whose MSA-2 is the control ID of the transaction that waits
   module _ (k : ℕ) (w : Judged) (vs : List Judged) (arrived : oneAt k (now .sending .arrived) ≡ w ∷ vs) (n : ℕ) (is : w .verdict ≡ Accepted (code "D") n)
       (waits : now .sending .sender .waiting ≡ Sending) (own : bytesOf (answerField 2 (w .content)) (w .content) ≡ textOf (Number (reached + 1))) where
+    -- a transaction waits, so there was a first circuit
+    i : Inv l now
+    i = go (run-keeps-from l rd remains only e valid ds)
+      where
+        go : Early l now ⊎ Inv l now → Inv l now
+        go (inl j) = let z : isOpen Closed ≡ isOpen Sending = ap isOpen (sym (j .closed) ∙ waits) in not-both (sym z)
+        go (inr j) = j
+
     act-moves : Found IsReply (arrival (code "D") (w .content)) (i .way .back) → deliveredAfter (blockReadOf (l .resends) s (w .verdict) (w .content)) ≡ reached + 1
     act-moves (found (refuses r) j q) = let z : _≡_ {A = ℕ} 0x44 0x4E = q in absurd (omega arith)
     act-moves (found (replies v c m) j q) =
@@ -83,7 +90,7 @@ module _ (l : Link) (rd : Ready l) (e : Expected) (valid : validExpected e ≡ t
         ∙ ap (λ (k : Waiting). deliveredAfter (answered (senderAt (s .persisted) k (s .sends)) k c m)) waits
         ∙ moved (s .persisted) (l .first + i .way .persisted .count) c m (subst (λ (k : SequenceNumber). Given (booksOf l now (i .way) .stored) (replies k c m)) same given)
 
-    pub answer-moves : runOf every l (startOf l e) (senderActs k ∷ ds) .sending .sender .persisted .delivered ≡ reached + 1
+    pub answer-moves : runOf every l (beginning every l e remains) (senderActs k ∷ ds) .sending .sender .persisted .delivered ≡ reached + 1
     unfolding runOf
     answer-moves =
         ap (λ (ws : List Judged). answerTaken l now ws (othersAt k (now .sending .arrived)) .sending .sender .persisted .delivered) arrived

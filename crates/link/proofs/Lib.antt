@@ -13,6 +13,7 @@ pub mod AnswersRead
 pub mod Invariant
 pub mod RequestsRead
 pub mod Acts
+pub mod Early
 pub mod Safety
 pub mod Reports
 pub mod Delivery

@@ -32,12 +32,12 @@ use Rattle.link.proofs.SenderCounts.{Counts, count-is, counts-step, rep
 use Rattle.link.proofs.SenderDue.{only-due, due-as-timer, timer-abandons}
 use Rattle.link.specs.Duties.{every, oneAt, othersAt}
 use Rattle.link.specs.Line.{damages, disorders}
-use Rattle.link.specs.System.{Link, System, SendingEnd, startOf, samePersisted, requestWritten, sameStored, replyWritten, senderRead, answerTaken, receiverRead, requestTaken}
+use Rattle.link.specs.System.{Link, System, SendingEnd, Remains, beginning, samePersisted, requestWritten, sameStored, replyWritten, senderRead, answerTaken, receiverRead, requestTaken}
 use Rattle.link.specs.System.{SystemAct, opens, ends, resets, submits, timer as timerRuns, senderPersists, senderWrites, senderReads, senderActs, senderDiscards, senderRestores, senderCrashes}
 use Rattle.link.specs.System.{receiverReads, receiverActs, receiverDiscards, receiverPersists, receiverWrites, receiverRestores, receiverCrashes, damagesForward, damagesBack}
-use Rattle.link.specs.System.{persistsNumber, persistsTransactions, revertsTo, bringsLate, afterAct, runOf}
-use Rattle.link.specs.Promise.{Ready}
-use Rattle.link.proofs.Safety.{run-keeps}
+use Rattle.link.specs.System.{persistsNumber, persistsTransactions, revertsTo, senderRevertsTo, bringsLate, bringsLateRequest, afterAct, runOf}
+use Rattle.link.specs.Promise.{Ready, OnlyAnswers}
+use Rattle.link.proofs.Safety.{run-stands}
 
 -- ---- what an act of the link does at the sender's end: an act of the sender, persisting, a crash, or nothing
 module _ (l : Link) (P : Sender → Persisted → List Entry → Type 0)
@@ -102,14 +102,16 @@ module _ (l : Link) (P : Sender → Persisted → List Entry → Type 0)
     at-after persistsNumber = now
     at-after persistsTransactions = now
     at-after (revertsTo p) = now
+    at-after (senderRevertsTo p) = now
     at-after (bringsLate b) = now
+    at-after (bringsLateRequest b) = now
 
-module _ (l : Link) (rd : Ready l) (e : Expected) (v : validExpected e ≡ true) where
+module _ (l : Link) (rd : Ready l) (remains : Remains) (only : OnlyAnswers remains) (e : Expected) (v : validExpected e ≡ true) where
   abbrev at : List SystemAct → System
-  at ds = runOf every l (startOf l e) ds
+  at ds = runOf every l (beginning every l e remains) ds
 
   pub run-valid : (ds : List SystemAct) → validSender (at ds .sending .sender) ≡ true
-  run-valid ds = run-keeps l rd e v ds .ends .valid
+  run-valid ds = run-stands l rd remains only e v ds .ends .valid
 
   run-counts : (ds : List SystemAct) → Counts (at ds .sending .sender) (at ds .sending .history)
   unfolding runOf
@@ -161,10 +163,10 @@ module _ (l : Link) (rd : Ready l) (e : Expected) (v : validExpected e ≡ true)
   unfolding runOf
   stored-grows d ds =
       at-after l (λ s p h. at ds .sending .persisted .delivered ≤ p .delivered) (λ s p h i c a r. c) (at ds) (run-valid ds) (omega arith)
-      (run-keeps l rd e v ds .core .numbers .delivered-more) (omega arith) d
+      (run-stands l rd remains only e v ds .core .numbers .delivered-more) (omega arith) d
 
   pub waits-above : (ds : List SystemAct) (n : ℕ) → waitsOf (at ds .sending .sender) ≡ Numbered (Number n) → 1 ≤ n → at ds .sending .persisted .delivered < n
-  waits-above ds n w z = go (at ds .sending .sender .waiting) w (run-keeps l rd e v ds .core .numbers .delivered-more)
+  waits-above ds n w z = go (at ds .sending .sender .waiting) w (run-stands l rd remains only e v ds .core .numbers .delivered-more)
     where
       go : (x : Waiting) → waitingMessage (at ds .sending .sender .persisted) x ≡ Numbered (Number n)
           → at ds .sending .persisted .delivered ≤ at ds .sending .sender .persisted .delivered → at ds .sending .persisted .delivered < n

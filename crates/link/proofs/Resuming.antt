@@ -26,18 +26,18 @@ use Rattle.link.specs.SenderActs.{senderAt, afterCrash}
 use Rattle.link.specs.Duties.{every}
 use Rattle.link.specs.SenderHistory.{crashed}
 use Rattle.link.specs.Line.{emptyLine}
-use Rattle.link.specs.System.{Link, System, Stored, stored, receiving, link, startOf, requestOf, SystemAct, senderCrashes, receiverCrashes, afterAct, runOf}
-use Rattle.link.specs.Promise.{Ready, transactions}
+use Rattle.link.specs.System.{Link, System, Stored, stored, receiving, link, Remains, nothingLeft, beginning, startOf, requestOf, SystemAct, senderCrashes, receiverCrashes, afterAct, runOf}
+use Rattle.link.specs.Promise.{Ready, OnlyAnswers, transactions}
 use Rattle.link.proofs.ReceiverInvariant.{expects-none, expects-next}
 use Rattle.link.proofs.Facts.{not-both, either}
-use Rattle.link.proofs.Safety.{run-keeps}
+use Rattle.link.proofs.Early.{Standing}
+use Rattle.link.proofs.Safety.{none-left, run-stands}
 use Rattle.link.proofs.Queues.{Side, side}
 use Rattle.link.proofs.Books.{books, Core, Expects, old, unknown, next, crash-receiver, crash-sender}
 use Rattle.link.proofs.Sending.{query-same, query-moved}
 use Rattle.link.proofs.Messages.{transaction-is}
 use Rattle.receiver.proofs.Laws.{expected-answerable}
 use Rattle.link.proofs.RequestsRead.{none-answerable, minus-row, zero-row, transactions-more}
-use Rattle.link.proofs.Invariant.{Inv}
 use Rattle.link.proofs.Runs.{Reaches, act, join}
 use Rattle.link.proofs.Exchange.{sendingAt}
 use Rattle.link.proofs.Progress.{submitted-all, Stage, first-stage, next-stage}
@@ -81,7 +81,7 @@ module _ (l : Link) (rd : Ready l) (a : Application) (y : System) where
   all-from total h (suc k) n e t = all-from total h k (suc n) (omega arith) (step total n h (omega arith) t)
 
   -- ---- from where the run is
-  module _ (i : Inv l y) where
+  module _ (i : Standing l y) where
     abbrev q : Persisted
     q = y .sending .persisted
 
@@ -178,11 +178,12 @@ pub record Delivers (l : Link) (y : System) (total : ℕ) : Type 0 where
   pub delivered : end .sending .persisted .delivered + 1 ≡ l .first + total
 
 module _ (l : Link) (rd : Ready l) (a : Application) (e : Expected) (v : validExpected e ≡ true) where
-  -- "whatever is lost, damaged or cut off"
-  pub resumes : (ds : List SystemAct) → Delivers l (runOf every l (startOf l e) ds) (runOf every l (startOf l e) ds .sending .persisted .last + 1 - l .first)
-  resumes ds =
-      let y = runOf every l (startOf l e) ds in
-      let t = all l rd a y (run-keeps l rd e v ds) in
+  -- "whatever is lost, damaged or cut off", and whatever answers an earlier tenancy left
+  pub resumes : (m : Remains) → OnlyAnswers m → (ds : List SystemAct)
+      → Delivers l (runOf every l (beginning every l e m) ds) (runOf every l (beginning every l e m) ds .sending .persisted .last + 1 - l .first)
+  resumes m only ds =
+      let y = runOf every l (beginning every l e m) ds in
+      let t = all l rd a y (run-stands l rd m only e v ds) in
       record { end = _; run = t .stage .comes .run; has = t .has; delivered = t .reached }
 
   -- for every number of transactions there is a run that delivers all
@@ -190,7 +191,7 @@ module _ (l : Link) (rd : Ready l) (a : Application) (e : Expected) (v : validEx
   delivers n h =
       let s = submitted-all l rd e n h in
       let i = s .is in
-      let r = resumes (s .run .acts) in
+      let r = resumes nothingLeft none-left (s .run .acts) in
       let last : runOf every l (startOf l e) (s .run .acts) .sending .persisted .last ≡ s .last = ap (λ (z : System). z .sending .persisted .last) (s .run .arrives) in
       let total : runOf every l (startOf l e) (s .run .acts) .sending .persisted .last + 1 - l .first ≡ n = omega arith in
       record {

@@ -2,18 +2,23 @@
 use mathlib.Core.Path.{_≡_, refl}
 use mathlib.Core.List.{List, [], _∷_}
 use mathlib.Core.Bool.{true}
+use mathlib.Core.Logic.{_⊎_, inl, inr}
 use native.Mathlib.Omega.{arith}
 use Rattle.receiver.specs.Receiver.{validExpected}
 use Rattle.receiver.specs.declared.Expected.{Expected}
-use Rattle.link.specs.Duties.{every, oneAt}
-use Rattle.link.specs.System.{Link, System, startOf, SystemAct, opens, ends, resets, timer, submits, senderPersists, senderWrites, senderReads, senderActs, senderDiscards, senderRestores}
+use Rattle.link.specs.Duties.{Duty, every, oneAt}
+use Rattle.link.specs.System.{Link, System, Remains, beginning, startOf, nothingLeft, SystemAct, opens, ends, resets, timer, submits, senderPersists, senderWrites, senderReads, senderActs, senderDiscards, senderRestores}
 use Rattle.link.specs.System.{senderCrashes, receiverReads, receiverActs, receiverDiscards, receiverPersists, receiverWrites, receiverRestores, receiverCrashes}
-use Rattle.link.specs.System.{damagesForward, damagesBack, persistsNumber, persistsTransactions, revertsTo, bringsLate, afterAct, runOf}
-use Rattle.link.specs.Promise.{Ready, Safe}
+use Rattle.link.specs.System.{damagesForward, damagesBack, persistsNumber, persistsTransactions, revertsTo, senderRevertsTo, bringsLate, bringsLateRequest, afterAct, runOf}
+use Rattle.link.specs.Promise.{Ready, Safe, OnlyAnswers, Needed}
 use Rattle.link.proofs.Invariant.{Inv}
+use Rattle.link.proofs.Early.{Early, early-start, early-acts, Standing, stands}
 use Rattle.link.proofs.Acts.{start, opens-keeps, ends-keeps, resets-keeps, timer-keeps, submits-keeps, sender-persists-keeps, sender-writes-keeps, sender-reads-keeps, sender-acts-keeps}
 use Rattle.link.proofs.Acts.{sender-discards-keeps, sender-restores-keeps, sender-crashes-keeps, receiver-reads-keeps, receiver-acts-keeps, receiver-discards-keeps}
 use Rattle.link.proofs.Acts.{receiver-persists-keeps, receiver-writes-keeps, receiver-restores-keeps, receiver-crashes-keeps, damages-forward-keeps, damages-back-keeps}
+
+pub none-left : OnlyAnswers nothingLeft
+none-left = record { forward = refl; requests = refl }
 
 module _ (l : Link) (rd : Ready l) where
   act-keeps : (a : SystemAct) (y : System) → Inv l y → Inv l (afterAct every l a y)
@@ -42,14 +47,30 @@ module _ (l : Link) (rd : Ready l) where
   act-keeps persistsNumber y i = i
   act-keeps persistsTransactions y i = i
   act-keeps (revertsTo p) y i = i
+  act-keeps (senderRevertsTo p) y i = i
   act-keeps (bringsLate b) y i = i
+  act-keeps (bringsLateRequest b) y i = i
 
   pub run-keeps : (e : Expected) → validExpected e ≡ true → (ds : List SystemAct) → Inv l (runOf every l (startOf l e) ds)
   unfolding runOf
   run-keeps e v [] = start l rd e v
   run-keeps e v (a ∷ ds) = act-keeps a (runOf every l (startOf l e) ds) (run-keeps e v ds)
 
-  is-safe : (y : System) → Inv l y → Safe l y
+  -- where an earlier tenant's answers are left, the invariant holds without them until the first circuit drops them
+  either-keeps : (a : SystemAct) (y : System) → Early l y ⊎ Inv l y → Early l (afterAct every l a y) ⊎ Inv l (afterAct every l a y)
+  either-keeps a y (inl i) = early-acts l rd y i a
+  either-keeps a y (inr i) = inr (act-keeps a y i)
+
+  pub run-keeps-from : (m : Remains) → OnlyAnswers m → (e : Expected) → validExpected e ≡ true → (ds : List SystemAct)
+      → Early l (runOf every l (beginning every l e m) ds) ⊎ Inv l (runOf every l (beginning every l e m) ds)
+  unfolding runOf
+  run-keeps-from m only e v [] = inl (early-start l rd m only e v)
+  run-keeps-from m only e v (a ∷ ds) = either-keeps a (runOf every l (beginning every l e m) ds) (run-keeps-from m only e v ds)
+
+  pub run-stands : (m : Remains) → OnlyAnswers m → (e : Expected) → validExpected e ≡ true → (ds : List SystemAct) → Standing l (runOf every l (beginning every l e m) ds)
+  run-stands m only e v ds = stands l (runOf every l (beginning every l e m) ds) (run-keeps-from m only e v ds)
+
+  is-safe : (y : System) → Standing l y → Safe l y
   is-safe y i =
       let n = i .core .numbers in
       record {
@@ -66,5 +87,13 @@ module _ (l : Link) (rd : Ready l) where
       }
 
   -- "at every moment the receiver has the first k transactions, each once, in order, and the sender's mark covers k or k less one. The sender never freezes."
+  -- Whatever answers of an earlier tenancy are left
+  pub safety-from : (m : Remains) → OnlyAnswers m → (e : Expected) → validExpected e ≡ true → (ds : List SystemAct) → Safe l (runOf every l (beginning every l e m) ds)
+  safety-from m only e v ds = is-safe (runOf every l (beginning every l e m) ds) (run-stands m only e v ds)
+
   pub safety : (e : Expected) → validExpected e ≡ true → (ds : List SystemAct) → Safe l (runOf every l (startOf l e) ds)
-  safety e v ds = is-safe (runOf every l (startOf l e) ds) (run-keeps e v ds)
+  safety e v ds = safety-from nothingLeft none-left e v ds
+
+  -- what a duty that is needed breaks, it breaks alone: with every duty kept, the statement holds of the same acts from the same beginning
+  pub kept : (d : Duty) (n : Needed l d) → Safe l (runOf every l (beginning every l (n .expected) (n .remains)) (n .acts))
+  kept d n = safety-from (n .remains) (n .only-answers) (n .expected) (n .valid) (n .acts)

@@ -56,10 +56,17 @@ pub record Safe (l : Link) (y : System) : Type 0 where
   pub unfrozen : y .sending .sender .persisted .frozen ≡ false
   pub persisted-unfrozen : y .sending .persisted .frozen ≡ false
 
+-- Of an earlier tenancy only answers are left: on the line back, still to be sent, or read. The first circuit drops them; a request could be stored before it.
+pub record OnlyAnswers (m : Remains) : Type 0 where
+  pub forward : m .forward ≡ []
+  pub requests : m .requests ≡ []
+
 -- A duty is needed: where every other is kept, a run from a tenancy's beginning leads to a state of which the statement is false.
+-- It is the duty that makes the difference: from the same beginning, with every duty kept, the statement holds of the same acts (`kept`).
 pub record Needed (l : Link) (d : Duty) : Type 0 where
   pub expected : Expected
   pub valid : validExpected expected ≡ true
   pub remains : Remains
+  pub only-answers : OnlyAnswers remains
   pub acts : List SystemAct
   pub broken : Safe l (runOf (everyBut d) l (beginning (everyBut d) l expected remains) acts) → ⊥

@@ -249,7 +249,8 @@ pub data SystemAct : Type 0 where
   -- what only a host that neglects a duty does
   persistsNumber persistsTransactions : SystemAct
   revertsTo : Stored → SystemAct
-  bringsLate : List ℕ → SystemAct
+  senderRevertsTo : Persisted → SystemAct
+  bringsLate bringsLateRequest : List ℕ → SystemAct
 
 abbrev pub afterAct : (Duty → Bool) → Link → SystemAct → System → System
 afterAct h l opens y = circuitOpened h y (openOf (y .sending .sender))
@@ -294,7 +295,11 @@ afterAct h l (damagesBack xs) y = cond (disorders (l .settings) (y .back) xs) (l
 afterAct h l persistsNumber y = cond (h persistsAsOne) y (receiverPersisted y (stored (y .receiving .volatile .expected) (y .receiving .persisted .has)))
 afterAct h l persistsTransactions y = cond (h persistsAsOne) y (receiverPersisted y (stored (y .receiving .persisted .expected) (y .receiving .volatile .has)))
 afterAct h l (revertsTo p) y = cond (h survives) y (receiverPersisted y p)
+afterAct h l (senderRevertsTo p) y =
+    let e = y .sending in
+    cond (h survives) y (link (sending (e .sender) p (e .named) (e .arrived) (e .history)) (y .receiving) (y .forward) (y .back))
 afterAct h l (bringsLate xs) y = cond (h bringsNothingLate) y (link (y .sending) (y .receiving) (y .forward) (line (y .back .reader) (y .back .bytes ++ xs)))
+afterAct h l (bringsLateRequest xs) y = cond (h bringsNothingLate) y (link (y .sending) (y .receiving) (line (y .forward .reader) (y .forward .bytes ++ xs)) (y .back))
 
 -- a run, the newest act first
 unfoldable pub runOf : (Duty → Bool) → Link → System → List SystemAct → System

@@ -1,7 +1,7 @@
 -- Runs from a tenancy's beginning that break the statement, each without one duty of the hosts, on a link of either kind. f is 1.
 use mathlib.Core.Path.{_≡_, refl, sym, ap, _∙_}
 use mathlib.Core.List.{List, [], _∷_, _++_}
-use mathlib.Core.Bool.{Bool, false, _&&_}
+use mathlib.Core.Bool.{Bool, true, false, _&&_}
 use Prim.Native.Nat.{ℕ, zero, suc}
 use Prim.Native.Char.{code}
 use native.Mathlib.Omega.{arith}
@@ -39,52 +39,52 @@ use Rattle.link.proofs.Acts.{transactions-length}
 use Rattle.link.proofs.Exchange.{blank}
 
 -- ---- a run, the oldest act first
-pub times : ℕ → SystemAct → List SystemAct
+unfoldable pub times : ℕ → SystemAct → List SystemAct
 times zero a = []
 times (suc n) a = a ∷ times n a
 
-pub reversed : List SystemAct → List SystemAct → List SystemAct
+unfoldable pub reversed : List SystemAct → List SystemAct → List SystemAct
 reversed [] ds = ds
 reversed (a ∷ more) ds = reversed more (a ∷ ds)
 
 -- the oldest message named is persisted and written, one block is read at the far end, acted on, persisted and answered, and the answer is read and acted on
-pub sends : List SystemAct
+unfoldable pub sends : List SystemAct
 sends = senderPersists ∷ senderWrites 0 ∷ []
 
-pub reads : List SystemAct
+unfoldable pub reads : List SystemAct
 reads = times 64 receiverReads
 
-pub decides : SystemAct
+unfoldable pub decides : SystemAct
 decides = receiverActs 0 Accepts 0 (blank 143)
 
-pub hears : List SystemAct
+unfoldable pub hears : List SystemAct
 hears = times 64 senderReads ++ senderActs 0 ∷ []
 
-pub exchanged : List SystemAct
+unfoldable pub exchanged : List SystemAct
 exchanged = sends ++ (reads ++ decides ∷ receiverPersists ∷ receiverWrites ∷ hears)
 
-pub submitted : ℕ → SystemAct
+unfoldable pub submitted : ℕ → SystemAct
 submitted n = submits 128 (exampleLog n)
 
 -- a circuit, on which the exchange for -1 was made and the first transaction is named
-pub begun : List SystemAct
+unfoldable pub begun : List SystemAct
 begun = submitted 1 ∷ submitted 2 ∷ opens ∷ exchanged
 
 -- the next message named is lost
-pub loses : List SystemAct
+unfoldable pub loses : List SystemAct
 loses = senderPersists ∷ senderWrites 0 ∷ damagesForward [] ∷ []
 
 -- ---- what an earlier tenant left: its answers, as bytes on the line back, as a reply not yet sent, as a verdict not yet acted on; and its request
-pub oldAnswer : Kind → SequenceNumber → List ℕ
+unfoldable pub oldAnswer : Kind → SequenceNumber → List ℕ
 oldAnswer k v = blockOf (exampleLink k .settings) (code "D") (answerMessage (textOf v) AA v)
 
-pub left : List ℕ → Remains
+unfoldable pub left : List ℕ → Remains
 left bs = record { forward = []; back = bs; pending = []; requests = []; answers = [] }
 
-pub leftPending : List ℕ → Remains
+unfoldable pub leftPending : List ℕ → Remains
 leftPending b = record { forward = []; back = []; pending = b ∷ []; requests = []; answers = [] }
 
-pub leftRead : Kind → List ℕ → Remains
+unfoldable pub leftRead : Kind → List ℕ → Remains
 leftRead k bs = record { forward = []; back = []; pending = []; requests = []; answers = run (exampleLink k .settings) 0 between bs }
 
 -- ---- without each duty: what the receiver expects, what is left, and the acts
@@ -199,17 +199,22 @@ computed k survives = both k .13
 
 -- ---- the night of slot 7, more closely
 -- acts from a beginning with these duties, this number expected and these answers on the line back
-pub nightOf : Kind → (Duty → Bool) → Expected → List ℕ → List SystemAct → System
+unfoldable pub nightOf : Kind → (Duty → Bool) → Expected → List ℕ → List SystemAct → System
 nightOf k h e bs ds = runOf h (exampleLink k) (beginning h (exampleLink k) e (left bs)) (reversed ds [])
 
 abbrev pub withoutBoth : Duty → Bool
 withoutBoth d = everyBut exchanges d && everyBut emptiesLines d
 
-pub answerTo : Kind → SequenceNumber → SequenceNumber → List ℕ
+unfoldable pub answerTo : Kind → SequenceNumber → SequenceNumber → List ℕ
 answerTo k v n = blockOf (exampleLink k .settings) (code "D") (answerMessage (textOf v) AA n)
 
+-- the new answer to -1 is taken before an old one to 1, 1 is lost, and then the old one is taken
+unfoldable pub disordered : List SystemAct
+disordered = submitted 1 ∷ opens ∷ (sends ++ (reads ++ decides ∷ receiverPersists ∷ receiverWrites ∷ (times 128 senderReads ++ senderActs 1 ∷ (loses ++ senderActs 0 ∷ []))))
+
 -- One old answer, to 1, is dropped where order is kept, since the opening message waits: 1 is delivered only when it is stored.
--- An old one to the opening message in front of it breaks the statement: to 0 too, where there is no exchange.
+-- Where answers come in another order, which the statement allows, it is enough.
+-- An old one to the opening message in front of it breaks the statement in order: to 0 too, where there is no exchange.
 -- And where the receiver expects 2, one old answer to -1 is enough.
 abbrev Night : Kind → Type 0
 Night k =
@@ -218,14 +223,15 @@ Night k =
     × (seen (nightOf k withoutBoth Unknown (oldAnswer k (Number 1)) (submitted 1 ∷ opens ∷ (hears ++ exchanged))) ≡ 0 ∷ 0 ∷ 0 ∷ 0 ∷ [])
     × (seen (nightOf k withoutBoth Unknown (answerTo k (Number 0) MinusOne ++ oldAnswer k (Number 1)) (submitted 1 ∷ opens ∷ (loses ++ (hears ++ (loses ++ hears))))) ≡ 0 ∷ 0 ∷ 1 ∷ 0 ∷ [])
     × (seen (nightOf k (everyBut emptiesLines) (Next 2) (oldAnswer k MinusOne) (submitted 1 ∷ opens ∷ (loses ++ (hears ++ exchanged)))) ≡ 0 ∷ 0 ∷ 1 ∷ 0 ∷ [])
+    × (seen (nightOf k (everyBut emptiesLines) Unknown (oldAnswer k (Number 1)) disordered) ≡ 0 ∷ 0 ∷ 1 ∷ 0 ∷ [])
 
 night-hybrid : Night Hybrid
-unfolding times reversed sends reads decides hears exchanged submitted begun loses oldAnswer left leftPending leftRead case caseOf endOf fiveDigits threeDigits countField checksumOf hybridBody hybridBlock minimalBlock blockOf typeMatches headerOk checksumMatches judgeParts dataOf judgeHybrid judgeMinimal judge contentOf same put valid validLink endVerdict move run fieldStart fieldOf bytesOf numberField decimal begins readableHeader headerOf readableAnswer acknowledgmentOf codeField answerMessage controlMessage validExpected rowOf decisionOf receiveOf validSender submitOf openOf timerOf blockReadOf oneAt othersAt acceptedOf someOf runOf blank nightOf answerTo
-night-hybrid = (refl, refl, refl, refl, refl)
+unfolding times reversed sends reads decides hears exchanged submitted begun loses oldAnswer left leftPending leftRead case caseOf endOf fiveDigits threeDigits countField checksumOf hybridBody hybridBlock minimalBlock blockOf typeMatches headerOk checksumMatches judgeParts dataOf judgeHybrid judgeMinimal judge contentOf same put valid validLink endVerdict move run fieldStart fieldOf bytesOf numberField decimal begins readableHeader headerOf readableAnswer acknowledgmentOf codeField answerMessage controlMessage validExpected rowOf decisionOf receiveOf validSender submitOf openOf timerOf blockReadOf oneAt othersAt acceptedOf someOf runOf blank nightOf answerTo disordered
+night-hybrid = (refl, refl, refl, refl, refl, refl)
 
 night-minimal : Night Minimal
-unfolding times reversed sends reads decides hears exchanged submitted begun loses oldAnswer left leftPending leftRead case caseOf endOf fiveDigits threeDigits countField checksumOf hybridBody hybridBlock minimalBlock blockOf typeMatches headerOk checksumMatches judgeParts dataOf judgeHybrid judgeMinimal judge contentOf same put valid validLink endVerdict move run fieldStart fieldOf bytesOf numberField decimal begins readableHeader headerOf readableAnswer acknowledgmentOf codeField answerMessage controlMessage validExpected rowOf decisionOf receiveOf validSender submitOf openOf timerOf blockReadOf oneAt othersAt acceptedOf someOf runOf blank nightOf answerTo
-night-minimal = (refl, refl, refl, refl, refl)
+unfolding times reversed sends reads decides hears exchanged submitted begun loses oldAnswer left leftPending leftRead case caseOf endOf fiveDigits threeDigits countField checksumOf hybridBody hybridBlock minimalBlock blockOf typeMatches headerOk checksumMatches judgeParts dataOf judgeHybrid judgeMinimal judge contentOf same put valid validLink endVerdict move run fieldStart fieldOf bytesOf numberField decimal begins readableHeader headerOf readableAnswer acknowledgmentOf codeField answerMessage controlMessage validExpected rowOf decisionOf receiveOf validSender submitOf openOf timerOf blockReadOf oneAt othersAt acceptedOf someOf runOf blank nightOf answerTo disordered
+night-minimal = (refl, refl, refl, refl, refl, refl)
 
 pub night : (k : Kind) → Night k
 night Hybrid = night-hybrid
@@ -288,3 +294,6 @@ module _ (k : Kind) (y : System) where
       let c = sym (transactions-length (exampleLink k) (f .volatile)) ∙ ap length (sym (f .has)) ∙ a in
       let d = f .persisted-covers .at-least in
       omega arith
+
+  pub frozen : y .sending .sender .persisted .frozen ≡ true → Safe (exampleLink k) y → ⊥
+  frozen e f = not-both (sym e ∙ f .unfrozen)
