@@ -31,7 +31,7 @@ pub fn control_block_words(
         return refusal::SETTING;
     };
     if report.len() < 2 {
-        return refusal::TOO_SHORT;
+        return words::refuse_short(settings.is_link());
     }
     let written = control_block::write_control_block(settings, name, control, buffer, start);
     report_control(written, report)

@@ -69,7 +69,7 @@ pub fn received_words(
     };
     let enough = (1 <= state.len()) & (3 <= report.len());
     if !enough {
-        return refusal::TOO_SHORT;
+        return words::refuse_short(settings.is_link());
     }
     let expected = expected_from(state[0]);
     let received = receiver::receive(

@@ -58,19 +58,27 @@ returns-3 c =
     (made .made .given .1) (sym (application .application-from .ensures) ∙ chosen .application-verdict .given .1)
     (sym (verdict .verdict-from .ensures) ∙ c .enum-told3 .given .1)
 
+is-link-requires : tie.Need-is-link-requires
+is-link-requires c κs = search needs
+
+refuse-short-requires : tie.Need-refuse-short-requires
+refuse-short-requires c κs = search needs
+
 returns-4 : tie.Need-returns-4
 returns-4 c =
-    let judged = c .before .before in
+    let tested = c .before .before in
+    let judged = tested .before .before in
     let verdict = judged .before .before in
     let chosen = verdict .before .before in
     let application = chosen .before .before in
     let made = application .before .before in
     let a = made .before .before .before .before .before .before .args in
-    call-short (a .state .now) (a .content .now) (a .buffer .now) (a .start) (a .report .now) (made .made .given .0 .0)
-    (chosen .application-verdict .given .0 .0) (judged .verdict .given .0 .0) (not-true _ (c .if1 .taken))
+    rw (c .refuse-short .ensures, c .before .is-link .ensures)
+    (call-short (a .state .now) (a .content .now) (a .buffer .now) (a .start) (a .report .now) (made .made .given .0 .0)
+    (chosen .application-verdict .given .0 .0) (judged .verdict .given .0 .0) (not-true _ (tested .if1 .taken))
     ∙ call-as (a .state .now) (a .content .now) (a .buffer .now) (a .start) (a .report .now) (a .made) (a .application) (a .number) (a .t) _ _ _
     (made .made .given .1) (sym (application .application-from .ensures) ∙ chosen .application-verdict .given .1)
-    (sym (verdict .verdict-from .ensures) ∙ judged .verdict .given .1)
+    (sym (verdict .verdict-from .ensures) ∙ judged .verdict .given .1))
 
 slice-read-expected-from : tie.Need-slice-read-expected-from
 slice-read-expected-from c =
@@ -137,6 +145,8 @@ received-words-spec =
     enum-known-verdict
     enum-told-3
     returns-3
+    is-link-requires
+    refuse-short-requires
     returns-4
     slice-read-expected-from
     expected-from-requires
