@@ -688,10 +688,10 @@ enum {
  *
  * 2: state_words below GMV_STATION_WORDS or report_words below GMV_STATION_REPORT_WORDS. The buffer
  * has no least length.
- * 11: the words encode no state. They encode one exactly if open is 1, expected is 0 to 7 and, at
- * gmv_station_block, held is at most buffer_length; or if all three are 0. gmv_station_open takes
- * any words. That the station is closed is no refusal: it then drops what is reported, replies
- * nothing and stays closed until it is opened. */
+ * 11: the words encode no state. They encode one exactly if open is 1 and expected is 0 to 7; or if
+ * all three are 0. gmv_station_open takes any words. That the station is closed is no refusal: it
+ * then drops what is reported, replies nothing and stays closed until it is opened. Text held that
+ * is longer than the buffer is no refusal either: no text fits behind it. */
 
 /* A station before its first opening: closed. Returns 0, or 2 (state_words below GMV_STATION_WORDS)
  * with nothing changed. Words from GMV_STATION_WORDS on are not changed. */
@@ -712,7 +712,8 @@ uint64_t gmv_station_open(uint64_t *state, size_t state_words,
  *     E, ended by ETX                  ACK E; the text is appended, and the message is complete
  * Lower and higher compare plain digits: where 0 is expected, 7 is higher. After a block that was
  * appended, the next number is expected. A text fits if it and the text held have at most
- * buffer_length bytes together: one that just fills the buffer fits, and so does an empty one.
+ * buffer_length bytes together: one that just fills the buffer fits, and an empty one wherever the
+ * text held does. In a buffer that is shorter than the text held (HOST-46 forbids one) none fits.
  *
  * The text goes into the buffer behind the text held before the call, and these text_length bytes
  * are all that changes of the buffer. A block that is dropped or does not fit changes no byte of
