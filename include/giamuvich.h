@@ -109,7 +109,7 @@ enum {
     GMV_INTERRUPTED = 8, /* SB came inside the block */
     GMV_HEAD = 9,        /* no readable header, control ID or, in an answer, MSA segment; at a writer of
                             answers: a control ID that cannot stand in a field */
-    GMV_NUMBER = 10,     /* at a writer of answers: a number over 999999999999999; at
+    GMV_NUMBER = 10,     /* at a writer of answers: 0, or a number over 999999999999999; at
                             gmv_sender_submit: not the next sequence number, a control ID that is not
                             this number, or no number is left */
     GMV_STATE = 11       /* a reader's words encode no state, or the stream's offsets are used up; a
@@ -330,7 +330,7 @@ uint64_t gmv_field_next(const uint8_t *message, size_t message_length, size_t po
 /* Writes the answer to a request with this control ID into the buffer from offset start on:
  *     MSH|^~\&|||||||ACK|ID|P|2.3.1<CR>MSA|CODE|ID||NUMBER<CR>
  * 38 bytes, twice the control ID and the number's digits (-1 has two). Nothing else of the buffer
- * changes. code is GMV_CODE_AA, GMV_CODE_AE or GMV_CODE_AR; number is GMV_MINUS_ONE or at most
+ * changes. code is GMV_CODE_AA, GMV_CODE_AE or GMV_CODE_AR; number is GMV_MINUS_ONE or 1 to
  * 999999999999999.
  *
  * Returns 0 with the report written; or, in this order:
@@ -340,7 +340,7 @@ uint64_t gmv_field_next(const uint8_t *message, size_t message_length, size_t po
  *   3  a byte of the control ID is not allowed in data; the report has length 0 and the offset of the
  *      first such byte in the control ID; the buffer is unchanged
  *   9  the control ID has under 1 or over 20 bytes, or a bar or CR in it; report 0, 0; buffer unchanged
- *   10 the number is over 999999999999999; report 0, 0; buffer unchanged */
+ *   10 the number is 0 or over 999999999999999; report 0, 0; buffer unchanged */
 uint64_t gmv_answer_write(const uint8_t *control_id, size_t control_id_length,
                           uint64_t code, uint64_t number,
                           uint8_t *buffer, size_t buffer_length, size_t start,

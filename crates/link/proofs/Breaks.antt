@@ -75,7 +75,7 @@ module _ (l : Link) (rd : Ready l) (a : Application) where
       let c = rd .first-least in
       let d = rd .first-most in
       first-stage l rd a (withoutExchange l) (firstSubmitted l true) [] left left-valid (submitted-valid true) refl (stay l (withoutExchange l)) true refl
-      (row AA (Number (l .first + 1)) NoTransaction (Next (l .first + 1))) (zero-row a (Next (l .first + 1)) 0 refl) (number-answerable (l .first + 1) (omega arith))
+      (row AA (Number (l .first + 1)) NoTransaction (Next (l .first + 1))) (zero-row a (Next (l .first + 1)) 0 refl) (number-answerable (l .first + 1) (omega arith) (omega arith))
       (deliveredOf (firstSubmitted l true)) (DeliveredUnknown (l .first - 1 + 1))
       (query-moved (firstSubmitted l true) (l .first + 1) (omega arith) (omega arith)) refl
 
@@ -123,7 +123,7 @@ module _ (l : Link) (rd : Ready l) (a : Application) where
       let s = senderAt p Sending 1 in
       let x = exchange l rd a s (Number (l .first - 1 + 1)) (first-valid l rd) refl refl (transaction {n = l .first - 1 + 1} (omega arith) (omega arith) (omega arith)) left left-valid
       (row AR (Number (l .first - 1 + 1 + 1)) NoTransaction (Next (l .first + 1)))
-      (repeat-row a (l .first - 1 + 1) (l .first + 1) (omega arith) (omega arith)) (number-answerable (l .first - 1 + 1 + 1) (omega arith))
+      (repeat-row a (l .first - 1 + 1) (l .first + 1) (omega arith) (omega arith)) (number-answerable (l .first - 1 + 1 + 1) (omega arith) (omega arith))
       (proceeds (deliveredOf p) (DeliveredUnknown (l .first - 1 + 1)))
       (ap (λ (t : Bool). cond t (proceeds (deliveredOf p) (DeliveredUnknown n)) (freezes p)) (eq-eqb (l .first - 1 + 1 + 1) (l .first - 1 + 1 + 1) refl)) (reported oldTaken ∷ [])
       (withOldAnswer l) after-old in

@@ -53,7 +53,7 @@ module _ (l : Link) (rd : Ready l) where
   first-sayable n e =
       let a = rd .first-least in
       let b = rd .first-most in
-      record { control = request-control l rd (Number n) (transaction {n = n} (omega arith) (omega arith) (omega arith)); number = number-answerable n (omega arith) }
+      record { control = request-control l rd (Number n) (transaction {n = n} (omega arith) (omega arith) (omega arith)); number = number-answerable n (omega arith) (omega arith) }
 
   module _ (e : Expected) where
     is-next : l .first - 1 + 1 ≡ l .first
