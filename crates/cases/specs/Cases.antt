@@ -21,7 +21,7 @@ use Rattle.receiver.specs.declared.Expected.the-variants.{Unknown, Next}
 use Rattle.receiver.specs.declared.Transaction.{Transaction}
 use Rattle.receiver.specs.declared.Transaction.the-variants.{NoTransaction, Numbered}
 use Rattle.receiver.specs.declared.Received.{Received}
-use Rattle.sender.specs.Sender.{freshSender, openOf, timerOf}
+use Rattle.sender.specs.Sender.{freshSender, openOf, timerActOf}
 use Rattle.sender.specs.declared.NumberedMessage.the-variants.{Nothing}
 use Rattle.sender.specs.declared.Event.the-variants.{Abandoned}
 use Rattle.sender.specs.declared.Acted.{Acted}
@@ -143,7 +143,7 @@ cases =
     -- "P10 expects 6, gets 5: AR 6."
     ∷ (receives5 (Next 6) ≡ replies "\u{b}D23\rMSH|^~\\&|||||||ACK|5|P|2.3.1\rMSA|AR|5||6\r00046096\u{1c}\r" NoTransaction (Next 6))
     -- "P11 r = 0, one timer: gives up, count 1.": on a circuit that has just been opened
-    ∷ (timerOf 0 (openOf (freshSender 1) .sender) ≡ gaveUp 1)
+    ∷ (timerActOf (record { first = 1; resends = 0 }) (openOf (freshSender 1) .sender) ≡ gaveUp 1)
     -- "P12 station expects 3, gets 2: ACK 2; gets 4: NAK.": dropped, no byte of the buffer changes
     ∷ (goodBlockOf (Open 3 0) 2 Etb (bytes "A") (bytes "U") ≡ outcome (dropped (Open 3 0) (Ack 2)) (bytes "U"))
     ∷ (goodBlockOf (Open 3 0) 4 Etb (bytes "A") (bytes "U") ≡ outcome (dropped (Open 3 0) Nak) (bytes "U"))
