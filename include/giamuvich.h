@@ -82,10 +82,10 @@ typedef char gmv_size_is_64_bits[sizeof(size_t) == 8 ? 1 : -1];
 
 /* The version of this header, MAJOR.MINOR.PATCH: its parts, as text, and as one number that grows
  * with it. A change of what a function takes or answers raises the first part. */
-#define GMV_VERSION_MAJOR 1
-#define GMV_VERSION_MINOR 1
+#define GMV_VERSION_MAJOR 2
+#define GMV_VERSION_MINOR 0
 #define GMV_VERSION_PATCH 0
-#define GMV_VERSION "1.1.0"
+#define GMV_VERSION "2.0.0"
 #define GMV_VERSION_NUMBER \
     (GMV_VERSION_MAJOR * UINT64_C(1000000) + GMV_VERSION_MINOR * UINT64_C(1000) + GMV_VERSION_PATCH)
 
