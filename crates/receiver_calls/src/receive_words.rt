@@ -67,9 +67,12 @@ pub fn received_words(
     let VerdictMade::Known(verdict) = words::verdict_from(number, t) else {
         return refusal::SETTING;
     };
+    if !settings.is_link() {
+        return refusal::SETTING;
+    }
     let enough = (1 <= state.len()) & (3 <= report.len());
     if !enough {
-        return words::refuse_short(settings.is_link());
+        return refusal::TOO_SHORT;
     }
     let expected = expected_from(state[0]);
     let received = receiver::receive(
