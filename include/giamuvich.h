@@ -82,10 +82,10 @@ typedef char gmv_size_is_64_bits[sizeof(size_t) == 8 ? 1 : -1];
 
 /* The version of this header, MAJOR.MINOR.PATCH: its parts, as text, and as one number that grows
  * with it. A change of what a function takes or answers raises the first part. */
-#define GMV_VERSION_MAJOR 1
-#define GMV_VERSION_MINOR 1
+#define GMV_VERSION_MAJOR 2
+#define GMV_VERSION_MINOR 0
 #define GMV_VERSION_PATCH 0
-#define GMV_VERSION "1.1.0"
+#define GMV_VERSION "2.0.0"
 #define GMV_VERSION_NUMBER \
     (GMV_VERSION_MAJOR * UINT64_C(1000000) + GMV_VERSION_MINOR * UINT64_C(1000) + GMV_VERSION_PATCH)
 
@@ -109,7 +109,7 @@ enum {
     GMV_INTERRUPTED = 8, /* SB came inside the block */
     GMV_HEAD = 9,        /* no readable header, control ID or, in an answer, MSA segment; at a writer of
                             answers: a control ID that cannot stand in a field */
-    GMV_NUMBER = 10,     /* at a writer of answers: a number over 999999999999999; at
+    GMV_NUMBER = 10,     /* at a writer of answers: 0, or a number over 999999999999999; at
                             gmv_sender_submit: not the next sequence number, a control ID that is not
                             this number, or no number is left */
     GMV_STATE = 11       /* a reader's words encode no state, or the stream's offsets are used up; a
@@ -330,7 +330,7 @@ uint64_t gmv_field_next(const uint8_t *message, size_t message_length, size_t po
 /* Writes the answer to a request with this control ID into the buffer from offset start on:
  *     MSH|^~\&|||||||ACK|ID|P|2.3.1<CR>MSA|CODE|ID||NUMBER<CR>
  * 38 bytes, twice the control ID and the number's digits (-1 has two). Nothing else of the buffer
- * changes. code is GMV_CODE_AA, GMV_CODE_AE or GMV_CODE_AR; number is GMV_MINUS_ONE or at most
+ * changes. code is GMV_CODE_AA, GMV_CODE_AE or GMV_CODE_AR; number is GMV_MINUS_ONE or 1 to
  * 999999999999999.
  *
  * Returns 0 with the report written; or, in this order:
@@ -340,7 +340,7 @@ uint64_t gmv_field_next(const uint8_t *message, size_t message_length, size_t po
  *   3  a byte of the control ID is not allowed in data; the report has length 0 and the offset of the
  *      first such byte in the control ID; the buffer is unchanged
  *   9  the control ID has under 1 or over 20 bytes, or a bar or CR in it; report 0, 0; buffer unchanged
- *   10 the number is over 999999999999999; report 0, 0; buffer unchanged */
+ *   10 the number is 0 or over 999999999999999; report 0, 0; buffer unchanged */
 uint64_t gmv_answer_write(const uint8_t *control_id, size_t control_id_length,
                           uint64_t code, uint64_t number,
                           uint8_t *buffer, size_t buffer_length, size_t start,
@@ -691,10 +691,10 @@ enum {
  *
  * 2: state_words below GMV_STATION_WORDS or report_words below GMV_STATION_REPORT_WORDS. The buffer
  * has no least length.
- * 11: the words encode no state. They encode one exactly if open is 1, expected is 0 to 7 and, at
- * gmv_station_block, held is at most buffer_length; or if all three are 0. gmv_station_open takes
- * any words. That the station is closed is no refusal: it then drops what is reported, replies
- * nothing and stays closed until it is opened. */
+ * 11: the words encode no state. They encode one exactly if open is 1 and expected is 0 to 7; or if
+ * all three are 0. gmv_station_open takes any words. That the station is closed is no refusal: it
+ * then drops what is reported, replies nothing and stays closed until it is opened. Text held that
+ * is longer than the buffer is no refusal either: no text fits behind it. */
 
 /* A station before its first opening: closed. Returns 0, or 2 (state_words below GMV_STATION_WORDS)
  * with nothing changed. Words from GMV_STATION_WORDS on are not changed. */
@@ -715,7 +715,8 @@ uint64_t gmv_station_open(uint64_t *state, size_t state_words,
  *     E, ended by ETX                  ACK E; the text is appended, and the message is complete
  * Lower and higher compare plain digits: where 0 is expected, 7 is higher. After a block that was
  * appended, the next number is expected. A text fits if it and the text held have at most
- * buffer_length bytes together: one that just fills the buffer fits, and so does an empty one.
+ * buffer_length bytes together: one that just fills the buffer fits, and an empty one wherever the
+ * text held does. In a buffer that is shorter than the text held (HOST-46 forbids one) none fits.
  *
  * The text goes into the buffer behind the text held before the call, and these text_length bytes
  * are all that changes of the buffer. A block that is dropped or does not fit changes no byte of

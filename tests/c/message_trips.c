@@ -13,7 +13,7 @@ enum { WORD = sizeof(uint64_t), LEAST_LIMIT = 128 };
 #define CONTROL_MINUS_1 "MSH|^~\\&|||||||ADT|-1|P|2.3.1|-1\r"
 
 static const char *const codes[] = {NULL, "AA", "AE", "AR"};
-static const uint64_t numbers[] = {0, 1, 9, 10, 17, 99, 100, 4294967295, 4294967296,
+static const uint64_t numbers[] = {1, 9, 10, 17, 99, 100, 4294967295, 4294967296,
                                    99999999999999, 100000000000000, 999999999999998,
                                    999999999999999, GMV_MINUS_ONE};
 enum { NUMBERS = sizeof numbers / sizeof numbers[0] };

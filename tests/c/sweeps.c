@@ -78,7 +78,7 @@ static void answer_fits(const char *id, unsigned code, const char *number)
 static void every_answer_fits(void)
 {
     static const char *const numbers[] = {
-        "0", "1", "9", "10", "17", "99", "100", "4294967295", "4294967296", "99999999999999",
+        "1", "9", "10", "17", "99", "100", "4294967295", "4294967296", "99999999999999",
         "100000000000000", "999999999999998", "999999999999999", "-1"};
 
     for (size_t length = 1; length <= 20; length++)

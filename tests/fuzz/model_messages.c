@@ -221,7 +221,8 @@ static uint64_t model_answer_write(call *c)
         number = GMV_TOO_SHORT;
     } else {
         number = refuse_control_id(&c->content, &forbidden);
-        if (number == GMV_OK && c->number != GMV_MINUS_ONE && c->number > GREATEST_EXPECTED)
+        if (number == GMV_OK && c->number != GMV_MINUS_ONE &&
+            (c->number == 0 || c->number > GREATEST_EXPECTED))
             number = GMV_NUMBER;
         if (number == GMV_OK)
             write_into_buffer(c, &answer);

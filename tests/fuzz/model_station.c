@@ -17,8 +17,7 @@ static int is_state(const call *c, const station *s)
         return 1;
     if (s->open == 0)
         return s->expected == 0 && s->held == 0;
-    return s->open == 1 && s->expected <= 7 &&
-           (c->function != call_station_block || s->held <= c->buffer.length);
+    return s->open == 1 && s->expected <= 7;
 }
 
 static void write_station(station *s, uint64_t open, uint64_t expected, uint64_t held)
@@ -26,6 +25,11 @@ static void write_station(station *s, uint64_t open, uint64_t expected, uint64_t
     s->open = open;
     s->expected = expected;
     s->held = held;
+}
+
+static int fits(const call *c, const station *s)
+{
+    return s->held <= c->buffer.length && c->content.length <= c->buffer.length - s->held;
 }
 
 static void append_text_held(call *c, station *s, report *r)
@@ -46,7 +50,7 @@ static void model_unit(call *c, station *s, report *r)
     r->reply = GMV_REPLY_NAK;
     if (c->number > s->expected)
         return;
-    if (c->number == s->expected && c->content.length > c->buffer.length - s->held) {
+    if (c->number == s->expected && !fits(c, s)) {
         r->reply = GMV_REPLY_EOT;
         write_station(s, 0, 0, 0);
         return;

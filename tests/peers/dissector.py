@@ -82,7 +82,7 @@ def numbered_fields(message):
 def good_blocks(counting, library, scratch):
     rng = random.Random(708)
     control = [library.write_control(kind, number)[2] for kind in ("ADT", "ORU") for number in (-1, 0)]
-    expected = (-1, 0, 17, 999999999999999)
+    expected = (-1, 1, 17, 999999999999999)
     answers = [library.write_answer(b"17", code, number)[2] for code in (1, 2, 3) for number in expected]
     requests = [samples.numbered(number) for number in (1, 17, 999999999999998)] + samples.real_messages()
     requests += [samples.message(rng) for _ in range(30)]

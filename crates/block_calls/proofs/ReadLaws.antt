@@ -12,7 +12,7 @@ use Rattle.stream.specs.declared.Reading.{Reading}
 use Rattle.stream.specs.declared.Answer.{Answer}
 use Rattle.stream.specs.declared.Answer.the-variants.{Refused, Pending, Found}
 use Rattle.stream.specs.declared.Reader.{Reader}
-use Rattle.settings.specs.Settings.{capacityOf}
+use Rattle.settings.specs.Settings.{valid, capacityOf}
 use Rattle.settings.specs.declared.Settings.{Settings}
 use Rattle.settings.specs.declared.Made.the-variants.{Valid, Refused as BadSetting}
 use Rattle.block_calls.specs.ReaderWords.{decoded}
@@ -24,23 +24,27 @@ answered g st v r c used Pending = refl
 answered g st v r c used (Found s w) = refl
 answered g st v r c used (Refused n) = refl
 
-module _ (g : Settings) (st xs b v : List ℕ) where
+pub read-bad : (g : Settings) (st xs b v : List ℕ) → valid g ≡ false → called 1 st b v ≡ readCall (Valid g) st xs b v
+unfolding readCall
+read-bad g st xs b v e = rw e
+
+module _ (g : Settings) (st xs b v : List ℕ) (t : valid g ≡ true) where
   pub read-few-state : length st < 4 → called 2 st b v ≡ readCall (Valid g) st xs b v
   unfolding readCall
-  read-few-state h = rw (lt-leb 4 (length st) h)
+  read-few-state h = rw (t, lt-leb 4 (length st) h)
 
   pub read-few-verdict : 4 ≤ length st → length v < 8 → called 2 st b v ≡ readCall (Valid g) st xs b v
   unfolding readCall
-  read-few-verdict h l = rw (le-leb 4 (length st) h, lt-leb 8 (length v) l)
+  read-few-verdict h l = rw (t, le-leb 4 (length st) h, lt-leb 8 (length v) l)
 
   pub read-few-buffer : 4 ≤ length st → 8 ≤ length v → leb (capacityOf g) (length b) ≡ false → called 2 st b v ≡ readCall (Valid g) st xs b v
   unfolding readCall
-  read-few-buffer h l e = rw (le-leb 4 (length st) h, le-leb 8 (length v) l, e)
+  read-few-buffer h l e = rw (t, le-leb 4 (length st) h, le-leb 8 (length v) l, e)
 
   pub read-done : 4 ≤ length st → 8 ≤ length v → leb (capacityOf g) (length b) ≡ true
       → readDecoded g st xs b v (decoded st) ≡ readCall (Valid g) st xs b v
   unfolding readCall
-  read-done h l e = rw (le-leb 4 (length st) h, le-leb 8 (length v) l, e)
+  read-done h l e = rw (t, le-leb 4 (length st) h, le-leb 8 (length v) l, e)
 
 pub read-refused : (st xs b v : List ℕ) → called 1 st b v ≡ readCall BadSetting st xs b v
 unfolding readCall

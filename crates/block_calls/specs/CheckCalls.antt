@@ -5,7 +5,7 @@ use lib.ListN.{length}
 use lib.Dec.{leb}
 use Rattle.lists.specs.Bytes.{over}
 use Rattle.lists.specs.Outcome.{need, Called, called}
-use Rattle.settings.specs.Settings.{dataOffsetOf}
+use Rattle.settings.specs.Settings.{valid, dataOffsetOf}
 use Rattle.settings.specs.declared.Settings.{Settings}
 use Rattle.settings.specs.declared.Made.{Made}
 use Rattle.settings.specs.declared.Made.the-variants.{Valid, Refused}
@@ -20,4 +20,7 @@ checkFinished g xs v w = called (numberOf w) [] [] (over v (verdictWords 0 w (da
 
 unfoldable pub checkCall : Made → List ℕ → List ℕ → Called
 checkCall Refused xs v = called SETTING [] [] v
-checkCall (Valid g) xs v = need (leb 8 (length v)) (called TOO-SHORT [] [] v) (checkFinished g xs v (wholeOf g xs))
+checkCall (Valid g) xs v =
+    need (valid g) (called SETTING [] [] v)
+    (need (leb 8 (length v)) (called TOO-SHORT [] [] v)
+    (checkFinished g xs v (wholeOf g xs)))

@@ -5,7 +5,7 @@ use lib.ListN.{length}
 use lib.Dec.{leb}
 use Rattle.lists.specs.Bytes.{over}
 use Rattle.lists.specs.Outcome.{need, Outcome, Called, called}
-use Rattle.settings.specs.Settings.{capacityOf, dataOffsetOf}
+use Rattle.settings.specs.Settings.{valid, capacityOf, dataOffsetOf}
 use Rattle.settings.specs.declared.Settings.{Settings}
 use Rattle.settings.specs.declared.Made.{Made}
 use Rattle.settings.specs.declared.Made.the-variants.{Valid, Refused as BadSetting}
@@ -39,7 +39,8 @@ readDecoded g st xs b v (Known r) = readFinished g st v (readOf g r xs b)
 unfoldable pub readCall : Made → List ℕ → List ℕ → List ℕ → List ℕ → Called
 readCall BadSetting st xs b v = called SETTING st b v
 readCall (Valid g) st xs b v =
-    need (leb 4 (length st)) (called TOO-SHORT st b v)
+    need (valid g) (called SETTING st b v)
+    (need (leb 4 (length st)) (called TOO-SHORT st b v)
     (need (leb 8 (length v)) (called TOO-SHORT st b v)
     (need (leb (capacityOf g) (length b)) (called TOO-SHORT st b v)
-    (readDecoded g st xs b v (decoded st))))
+    (readDecoded g st xs b v (decoded st)))))

@@ -2,7 +2,8 @@
 use mathlib.Core.List.{List, []}
 use Prim.Native.Nat.{ℕ}
 use Prim.Native.Char.{code}
-use Rattle.lists.specs.Outcome.{Called, called}
+use Rattle.lists.specs.Outcome.{need, Called, called}
+use Rattle.settings.specs.Settings.{valid}
 use Rattle.settings.specs.declared.Made.{Made}
 use Rattle.settings.specs.declared.Made.the-variants.{Valid, Refused}
 use Rattle.refusal.specs.Refusal.{SETTING}
@@ -11,7 +12,7 @@ use Rattle.words.specs.Words.{typeByte, withReport}
 
 unfoldable pub writeCall : Made → ℕ → List ℕ → List ℕ → ℕ → List ℕ → Called
 writeCall Refused t d b start p = called SETTING [] b p
-writeCall (Valid g) t d b start p = withReport b p (frameOf g (typeByte t) d start b)
+writeCall (Valid g) t d b start p = need (valid g) (called SETTING [] b p) (withReport b p (frameOf g (typeByte t) d start b))
 
 -- a minimal block has no type
 abbrev pub minimalWriteCall : Made → List ℕ → List ℕ → ℕ → List ℕ → Called

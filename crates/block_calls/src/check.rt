@@ -12,6 +12,9 @@ pub fn check_words(made: Made, block: &[u8], verdict: &mut [u64]) -> u64
     let Made::Valid(settings) = made else {
         return refusal::SETTING;
     };
+    if !settings.is_valid() {
+        return refusal::SETTING;
+    }
     if verdict.len() < 8 {
         return refusal::TOO_SHORT;
     }

@@ -76,6 +76,9 @@ pub fn read_words(
     let Made::Valid(settings) = made else {
         return refusal::SETTING;
     };
+    if !settings.is_valid() {
+        return refusal::SETTING;
+    }
     if state.len() < 4 {
         return refusal::TOO_SHORT;
     }

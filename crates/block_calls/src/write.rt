@@ -20,9 +20,12 @@ pub fn write_words(
     let Made::Valid(settings) = made else {
         return refusal::SETTING;
     };
+    if !settings.is_valid() {
+        return refusal::SETTING;
+    }
     if report.len() < 2 {
         return refusal::TOO_SHORT;
     }
-    let written = writer::frame(settings, type_byte(t), content, buffer, start);
+    let written = writer::write(settings, type_byte(t), content, buffer, start);
     report_written(written, report)
 }

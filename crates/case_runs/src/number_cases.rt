@@ -8,6 +8,8 @@ use receiver::Transaction;
 use refusal::Verdict;
 use sender::Sender;
 use sender::SenderMade;
+use sender::SenderSettings;
+use sender::SettingsMade;
 use settings::Made;
 use settings::Settings;
 
@@ -91,7 +93,11 @@ fn print_submitted(sender: Sender, message: &[u8]) -> Sender {
 }
 
 fn run_first(first: u64, message: &[u8], next: &[u8]) {
-    let SenderMade::Made(fresh) = sender::new_sender(first) else {
+    let SettingsMade::Valid(settings) = SenderSettings::new(first, SenderSettings::RESENDS) else {
+        print_text(b" refused\n");
+        return;
+    };
+    let SenderMade::Made(fresh) = sender::new_sender(settings) else {
         print_text(b" refused\n");
         return;
     };
@@ -102,7 +108,7 @@ fn run_first(first: u64, message: &[u8], next: &[u8]) {
 
 pub(crate) fn run() {
     print_text(b"resends where nothing else is said:");
-    print_number(Sender::RESENDS);
+    print_number(SenderSettings::RESENDS);
     print_text(b"\n");
     let made = Settings::hybrid(
         Settings::START_BLOCK as u64,

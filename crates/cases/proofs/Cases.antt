@@ -1,22 +1,24 @@
 -- The cases by hand: each equation by computing both sides.
 use mathlib.Core.Path.{refl}
-use Rattle.block.specs.Format.{fiveDigits, threeDigits, countField, checksumOf, hybridBody, hybridBlock}
-use Rattle.lists.specs.Bytes.{same}
+use Rattle.block.specs.Format.{fiveDigits, threeDigits, countField, checksumOf, hybridBody, hybridBlock, blockOf}
+use Rattle.lists.specs.Bytes.{same, put}
 use Rattle.block.specs.Judge.{typeMatches, headerOk, checksumMatches, judgeParts, dataOf, judgeHybrid, judge}
-use Rattle.settings.specs.Settings.{valid}
+use Rattle.settings.specs.Settings.{valid, validLink}
 use Rattle.block.specs.Content.{contentOf}
 use Rattle.stream.specs.Stream.{endVerdict, move, run}
 use Rattle.whole_block.specs.Whole.{wholeOf, checkOf}
-use Rattle.numbers.specs.Numbers.{decimal}
+use Rattle.fields.specs.Fields.{fieldStart, fieldOf, bytesOf}
+use Rattle.numbers.specs.Numbers.{numberField, decimal}
+use Rattle.header.specs.Header.{begins, readableHeader, headerOf}
 use Rattle.messages.specs.Messages.{answerMessage, controlMessage}
-use Rattle.receiver.specs.Receiver.{rowOf}
-use Rattle.sender.specs.Sender.{validSender, openOf, timerOf}
+use Rattle.receiver.specs.Receiver.{validExpected, rowOf, decisionOf, receiveOf}
+use Rattle.sender.specs.Sender.{validSender, openOf, timerOf, timerActOf}
 use Rattle.station.specs.Station.{goodBlockOf}
 use Rattle.cases.specs.Cases.{Each, none, _and_, cases}
 
 -- "The P cases are proved of the definitions as one list under one claim"
 pub all-cases : Each cases
-unfolding fiveDigits threeDigits countField checksumOf hybridBody hybridBlock same typeMatches headerOk checksumMatches judgeParts dataOf judgeHybrid judge valid contentOf endVerdict move run wholeOf checkOf decimal answerMessage controlMessage rowOf validSender openOf timerOf goodBlockOf
+unfolding fiveDigits threeDigits countField checksumOf hybridBody hybridBlock same typeMatches headerOk checksumMatches judgeParts dataOf judgeHybrid judge valid contentOf endVerdict move run wholeOf checkOf decimal answerMessage controlMessage put validLink blockOf fieldStart fieldOf bytesOf numberField begins readableHeader headerOf validExpected rowOf decisionOf receiveOf validSender openOf timerOf timerActOf goodBlockOf
 all-cases =
     refl and refl and refl and refl and refl and refl and refl and refl and refl and refl and
     refl and refl and refl and refl and refl and refl and refl and refl and refl and refl and

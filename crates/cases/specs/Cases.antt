@@ -4,8 +4,9 @@ use mathlib.Core.List.{List, [], _∷_, _++_}
 use Prim.Native.Nat.{ℕ}
 use Prim.Native.Char.{code}
 use Prim.Native.String.{String}
+use lib.ListN.{replicate}
 use Rattle.lists.specs.Bytes.{bytes}
-use Rattle.lists.specs.Outcome.{outcome}
+use Rattle.lists.specs.Outcome.{Outcome, outcome}
 use Rattle.block.specs.Format.{hybridBlock}
 use Rattle.refusal.specs.Refusal.{numberOf, lengthOf}
 use Rattle.settings.specs.declared.Kind.the-variants.{Hybrid}
@@ -13,15 +14,15 @@ use Rattle.settings.specs.declared.Settings.{Settings}
 use Rattle.refusal.specs.declared.Verdict.{Verdict}
 use Rattle.refusal.specs.declared.Verdict.the-variants.{Accepted, Refused}
 use Rattle.stream.specs.Stream.{Judged, verdicts}
-use Rattle.header.specs.declared.Code.the-variants.{AA, AR}
-use Rattle.numbers.specs.declared.SequenceNumber.the-variants.{Number}
-use Rattle.numbers.specs.declared.NumberField.the-variants.{Present}
-use Rattle.receiver.specs.Receiver.{row, rowOf}
+use Rattle.receiver.specs.Receiver.{received, receiveOf}
 use Rattle.receiver.specs.declared.Application.the-variants.{Accepts}
+use Rattle.receiver.specs.declared.Expected.{Expected}
 use Rattle.receiver.specs.declared.Expected.the-variants.{Unknown, Next}
+use Rattle.receiver.specs.declared.Transaction.{Transaction}
 use Rattle.receiver.specs.declared.Transaction.the-variants.{NoTransaction, Numbered}
-use Rattle.sender.specs.Sender.{freshSender, openOf, timerOf}
-use Rattle.sender.specs.declared.Event.{Event}
+use Rattle.receiver.specs.declared.Received.{Received}
+use Rattle.sender.specs.Sender.{freshSender, openOf, timerActOf}
+use Rattle.sender.specs.declared.NumberedMessage.the-variants.{Nothing}
 use Rattle.sender.specs.declared.Event.the-variants.{Abandoned}
 use Rattle.sender.specs.declared.Acted.{Acted}
 use Rattle.message_theorems.specs.Examples.{AnswerFor17, ControlFor0, ControlForMinusOne}
@@ -76,16 +77,20 @@ p2 = bytes "\u{b}D23\rA\r00007015\u{1c}\r"
 abbrev pub p3 : List ℕ
 p3 = 0x0B ∷ 0x4E ∷ 0x32 ∷ 0x33 ∷ 0x0D ∷ 0x58 ∷ 0x30 ∷ 0x30 ∷ 0x30 ∷ 0x30 ∷ 0x36 ∷ 0x30 ∷ 0x31 ∷ 0x37 ∷ 0x1C ∷ 0x0D ∷ []
 
--- what a sender's act says of giving up: the event, and the sends made
-pub record Given : Type 0 where
-  pub event : Event
-  pub sends : ℕ
+-- a receiver's act on an accepted block with the number 5 in MSH-13, with the smallest D and just enough space for a reply
+abbrev pub smallest : Settings
+smallest = record { kind = Hybrid; «start_block» = 0x0B; «end_block» = 0x1C; «data_limit» = 128 }
 
-abbrev pub given : Event → ℕ → Given
-given e n = record { event = e; sends = n }
+abbrev pub receives5 : Expected → Outcome Received
+receives5 e = receiveOf smallest Accepts e (Accepted (code "D") 31) (bytes "MSH|^~\\&|||||||ADT|5|P|2.3.1|5\r") 0 (replicate 143 0)
 
-abbrev pub abandoned : Acted → Given
-abandoned a = given (a .event) (a .sends)
+-- what is stored, and the reply of 56 bytes; the other bytes of the buffer stay
+abbrev pub replies : String → Transaction → Expected → Outcome Received
+replies block t e = outcome (received 0 0 (record { transaction = t; expected = e }) 56) (bytes block ++ replicate 87 0)
+
+-- what a sender's act says of giving up: the sends made, and no circuit is open
+abbrev pub gaveUp : ℕ → Acted
+gaveUp n = record { refusal = 0; sender = freshSender 1; send = Nothing; sends = n; event = Abandoned; block = 0; offset = 0 }
 
 -- every one of the equations holds
 pub data Each : List (Type 0) → Type 1 where
@@ -134,14 +139,14 @@ cases =
     ∷ (lines (p1 ++ p3) ≡ line 0 0 0 ∷ line 15 0 1 ∷ [])
     ∷ (check (p1 ++ p3) ≡ Refused 5 0)
     -- "P9 receiver NONE, 5: AA 5, then expects 6."
-    ∷ (rowOf Accepts Unknown (Present (Number 5)) ≡ row AA (Number 5) (Numbered 5) (Next 6))
+    ∷ (receives5 Unknown ≡ replies "\u{b}D23\rMSH|^~\\&|||||||ACK|5|P|2.3.1\rMSA|AA|5||5\r00046112\u{1c}\r" (Numbered 5) (Next 6))
     -- "P10 expects 6, gets 5: AR 6."
-    ∷ (rowOf Accepts (Next 6) (Present (Number 5)) ≡ row AR (Number 6) NoTransaction (Next 6))
+    ∷ (receives5 (Next 6) ≡ replies "\u{b}D23\rMSH|^~\\&|||||||ACK|5|P|2.3.1\rMSA|AR|5||6\r00046096\u{1c}\r" NoTransaction (Next 6))
     -- "P11 r = 0, one timer: gives up, count 1.": on a circuit that has just been opened
-    ∷ (abandoned (timerOf 0 (openOf (freshSender 1) .sender)) ≡ given Abandoned 1)
-    -- "P12 station expects 3, gets 2: ACK 2; gets 4: NAK."
-    ∷ (goodBlockOf (Open 3 0) 2 Etb [] [] ≡ outcome (dropped (Open 3 0) (Ack 2)) [])
-    ∷ (goodBlockOf (Open 3 0) 4 Etb [] [] ≡ outcome (dropped (Open 3 0) Nak) [])
+    ∷ (timerActOf (record { first = 1; resends = 0 }) (openOf (freshSender 1) .sender) ≡ gaveUp 1)
+    -- "P12 station expects 3, gets 2: ACK 2; gets 4: NAK.": dropped, no byte of the buffer changes
+    ∷ (goodBlockOf (Open 3 0) 2 Etb (bytes "A") (bytes "U") ≡ outcome (dropped (Open 3 0) (Ack 2)) (bytes "U"))
+    ∷ (goodBlockOf (Open 3 0) 4 Etb (bytes "A") (bytes "U") ≡ outcome (dropped (Open 3 0) Nak) (bytes "U"))
     -- 'Header fields': the answer for request 17 and the control messages for 0 and -1, byte for byte
     ∷ AnswerFor17
     ∷ ControlFor0

@@ -10,7 +10,7 @@ use borrow.Author.Tests.{leb-true}
 use Rattle.lists.proofs.Tests.{and-left, and-right}
 use Rattle.settings.specs.Settings.{valid, validLink}
 use Rattle.settings.specs.declared.Settings.{Settings}
-use Rattle.writer.specs.Write.{needOf, frameOf}
+use Rattle.writer.specs.Write.{needOf, writeOf}
 use Rattle.writer.proofs.Laws.{frame-too-short, write-framed}
 use Rattle.messages.specs.Messages.{controlMessage, validType}
 use Rattle.messages.specs.declared.Control.{Control}
@@ -27,12 +27,13 @@ module _ (g : Settings) (t : MessageType) (c : Control) (start : ℕ) (b : List 
   unfolding validLink
   limit = leb-true 128 (g .«data_limit») (and-right (valid g) (leb 128 (g .«data_limit»)) h)
 
-  framed : (f : Bool) → leb (start + needOf g (controlMessage t c)) (length b) ≡ f → frameOf g (code "D") (controlMessage t c) start b ≡ controlBlockOf g t c start b
+  framed : (f : Bool) → leb (start + needOf g (controlMessage t c)) (length b) ≡ f → writeOf g (code "D") (controlMessage t c) start b ≡ controlBlockOf g t c start b
   unfolding controlBlockOf
   framed true e =
-      write-framed g (code "D") (controlMessage t c) start b settings-valid
-      ∙ control-in-block g settings-valid limit start b t c v (leb-true (start + needOf g (controlMessage t c)) (length b) e) ∙ sym (rw (h, v, e))
-  framed false e = sym (frame-too-short g (code "D") (controlMessage t c) start b e) ∙ sym (rw (h, v, e))
+      control-in-block g settings-valid limit start b t c v (leb-true (start + needOf g (controlMessage t c)) (length b) e) ∙ sym (rw (h, v, e))
+  framed false e =
+      sym (write-framed g (code "D") (controlMessage t c) start b settings-valid)
+      ∙ sym (frame-too-short g (code "D") (controlMessage t c) start b e) ∙ sym (rw (h, v, e))
 
-  pub control-framed : frameOf g (code "D") (controlMessage t c) start b ≡ controlBlockOf g t c start b
+  pub control-framed : writeOf g (code "D") (controlMessage t c) start b ≡ controlBlockOf g t c start b
   control-framed = framed (leb (start + needOf g (controlMessage t c)) (length b)) refl

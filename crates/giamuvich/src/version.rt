@@ -2,16 +2,16 @@
 ghost use mathlib.Core.Path.{_≡_};
 ghost use Rattle.giamuvich.specs.Version.{versionOf};
 
-pub const VERSION_MAJOR: u64 = 1;
+pub const VERSION_MAJOR: u64 = 2;
 
-pub const VERSION_MINOR: u64 = 1;
+pub const VERSION_MINOR: u64 = 0;
 
 pub const VERSION_PATCH: u64 = 0;
 
 // The version of the archive that is linked.
 #[no_mangle]
 pub extern "C" fn gmv_version() -> u64
-    ensures { λ r. ⌜ r ≡ versionOf 1 1 0 ⌝ }
+    ensures { λ r. ⌜ r ≡ versionOf 2 0 0 ⌝ }
 {
     VERSION_MAJOR * 1000000 + VERSION_MINOR * 1000 + VERSION_PATCH
 }

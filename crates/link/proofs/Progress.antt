@@ -232,5 +232,5 @@ module _ (l : Link) (rd : Ready l) where
             event = Delivered (p .delivered + 1) (applicationCode a);
             history = reported after ∷ st .history;
             comes = exchange l rd a (senderAt p Sending 1) (Number n) sending-valid refl refl next-nameable x vx (storing a n) meets
-                (number-answerable (p .delivered + 1) (omega arith)) after (answer-known p a) (st .history) y start;
+                (number-answerable (p .delivered + 1) (omega arith) (omega arith)) after (answer-known p a) (st .history) y start;
           }

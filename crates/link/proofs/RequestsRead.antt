@@ -74,9 +74,9 @@ pub none-answerable : answerable MinusOne ≡ true
 unfolding answerable
 none-answerable = refl
 
-pub number-answerable : (n : ℕ) → n ≤ greatestExpected → answerable (Number n) ≡ true
+pub number-answerable : (n : ℕ) → 1 ≤ n → n ≤ greatestExpected → answerable (Number n) ≡ true
 unfolding answerable
-number-answerable n l = le-leb n greatestExpected l
+number-answerable n s l = rw (le-leb 1 n s, le-leb n greatestExpected l)
 
 -- ---- the rows that a request can meet
 pub zero-row : (a : Application) (e : Expected) (n : ℕ) → n ≡ 0 → rowOf a e (Present (Number n)) ≡ row AA (expectedNumber e) NoTransaction e
@@ -211,7 +211,7 @@ module _ (l : Link) (rd : Ready l) (a : Application) (start : ℕ) (b : List ℕ
           (subst (λ (h : ℕ). Core (l .first) (withReceived (booksOf l y (i .way)) (side (Next (k + 1)) h (i .way .volatile .old)) xs
           (i .way .pending ++ replies (Number k) (applicationCode a) (Number k) ∷ [])))
           (let z : k + 1 ≡ l .first + suc (i .way .volatile .count) = omega arith in z) (receive-next (i .core) k xs queue p (applicationCode a) (application-known a) r))
-          (number-answerable k (omega arith))
+          (number-answerable k p (omega arith))
           (transactions-more l (i .way .volatile .count) (w .content) (y .receiving .volatile .has) (i .ends .volatile .has) (is .carries p ∙ ap (l .log) r))
         where
           stored-row : (expected ≡ Unknown) ⊎ (expected ≡ Next k) → rowOf a expected (Present (Number k)) ≡ stores a k
@@ -225,7 +225,7 @@ module _ (l : Link) (rd : Ready l) (a : Application) (start : ℕ) (b : List ℕ
           (subst (λ (e : Expected). Core (l .first) (withReceived (booksOf l y (i .way)) (side e reached (i .way .volatile .old)) xs
           (i .way .pending ++ replies (Number k) AR (Number (k + 1)) ∷ []))) t
           (receive-repeat (i .core) k xs queue p r))
-          (number-answerable (k + 1) (omega arith)) (i .ends .volatile .has)
+          (number-answerable (k + 1) (omega arith) (omega arith)) (i .ends .volatile .has)
 
       number-read : Nameable (l .first) (Number k) → Then got
       number-read (query z) =

@@ -1,14 +1,15 @@
 -- Every act leaves a valid state valid, so every state that a run reaches is valid.
 use mathlib.Core.Path.{_≡_, refl, sym, ap, _∙_}
 use mathlib.Core.List.{List, [], _∷_}
-use mathlib.Core.Bool.{true, false, _&&_}
+use mathlib.Core.Bool.{true, false}
 use Prim.Native.Nat.{ℕ, _-_, _≤_}
 use native.Mathlib.Omega.{arith}
 use lib.Dec.{leb}
 use borrow.Author.Tests.{leb-true}
 use Rattle.lists.proofs.Tests.{and-left, and-right, cond-ind}
 use Rattle.numbers.specs.Numbers.{greatestSent}
-use Rattle.sender.specs.Sender.{validSender, freshSender, senderOf}
+use Rattle.sender.specs.Sender.{validFirst, validResends, validSettings, validSender, freshSender, senderOf}
+use Rattle.sender.specs.declared.SenderSettings.{SenderSettings}
 use Rattle.sender.specs.declared.Sender.{Sender}
 use Rattle.sender.specs.declared.SenderMade.{SenderMade}
 use Rattle.sender.specs.declared.SenderMade.the-variants.{Refused, Made}
@@ -43,15 +44,17 @@ fresh-valid f l m =
       waits = refl;
     })
 
-pub made-valid : (f : ℕ) (s : Sender) → senderOf f ≡ Made s → validSender s ≡ true
+pub made-valid : (g : SenderSettings) (s : Sender) → senderOf g ≡ Made s → validSender s ≡ true
 unfolding senderOf
-made-valid f s h =
-    cond-ind (λ (x : SenderMade). x ≡ Made s → validSender s ≡ true) (leb 1 f && leb f greatestSent) _ _
-    (λ (b : (leb 1 f && leb f greatestSent) ≡ true) (e : Made (freshSender f) ≡ Made s).
-    let g : freshSender f ≡ s = cc in
-    ap (λ (x : Sender). validSender x) (sym g)
-    ∙ fresh-valid f (leb-true 1 f (and-left (leb 1 f) (leb f greatestSent) b)) (leb-true f greatestSent (and-right (leb 1 f) (leb f greatestSent) b)))
-    (λ (b : (leb 1 f && leb f greatestSent) ≡ false) (e : Refused ≡ Made s). not-both cc)
+made-valid g s h =
+    let f = g .first in
+    cond-ind (λ (x : SenderMade). x ≡ Made s → validSender s ≡ true) (validSettings g) _ _
+    (λ (b : validSettings g ≡ true) (e : Made (freshSender f) ≡ Made s).
+    let k : freshSender f ≡ s = cc in
+    let c = and-left (validFirst f) (validResends (g .resends)) b in
+    ap (λ (x : Sender). validSender x) (sym k)
+    ∙ fresh-valid f (leb-true 1 f (and-left (leb 1 f) (leb f greatestSent) c)) (leb-true f greatestSent (and-right (leb 1 f) (leb f greatestSent) c)))
+    (λ (b : validSettings g ≡ false) (e : Refused ≡ Made s). not-both cc)
     h
 
 -- runs

@@ -1,12 +1,23 @@
 -- The ways in which a call for a control block returns.
 use mathlib.Core.Path.{_≡_, sym, ap, _∙_}
-use mathlib.Core.List.{List}
+use mathlib.Core.List.{List, []}
+use mathlib.Core.Bool.{true, false}
 use Prim.Native.Nat.{ℕ}
+use Rattle.lists.specs.Outcome.{called}
+use Rattle.settings.specs.Settings.{validLink}
+use Rattle.settings.specs.declared.Settings.{Settings}
 use Rattle.settings.specs.declared.Made.{Made}
+use Rattle.settings.specs.declared.Made.the-variants.{Valid}
 use Rattle.messages.specs.Messages.{messageType}
+use Rattle.messages.specs.declared.Control.{Control}
+use Rattle.messages.specs.declared.MessageType.{MessageType}
 use Rattle.messages.specs.declared.TypeMade.{TypeMade}
+use Rattle.messages.specs.declared.TypeMade.the-variants.{Known as KnownType}
+use Rattle.control_block.specs.ControlBlock.{controlBlockOf}
+use Rattle.words.specs.Words.{withReport}
 use Rattle.message_calls.specs.MessageCalls.{controlFrom}
 use Rattle.message_calls.specs.declared.ControlMade.{ControlMade}
+use Rattle.message_calls.specs.declared.ControlMade.the-variants.{Known}
 use Rattle.message_calls.specs.ControlCalls.{controlBlockWith, controlBlockCall}
 
 module _ (letters : List ℕ) (n : ℕ) (b : List ℕ) (start : ℕ) (p : List ℕ) where
@@ -16,3 +27,10 @@ module _ (letters : List ℕ) (n : ℕ) (b : List ℕ) (start : ℕ) (p : List �
   call-is m k t c e f g =
       ap (λ (z : Made). controlBlockWith z t c b start p) (sym e) ∙ ap (λ (z : TypeMade). controlBlockWith m z c b start p) (sym f)
       ∙ ap (λ (z : ControlMade). controlBlockWith m (messageType letters) z b start p) (sym g)
+
+module _ (g : Settings) (t : MessageType) (c : Control) (b : List ℕ) (start : ℕ) (p : List ℕ) where
+  pub block-bad : validLink g ≡ false → called 1 [] b p ≡ controlBlockWith (Valid g) (KnownType t) (Known c) b start p
+  block-bad e = rw e
+
+  pub block-good : validLink g ≡ true → withReport b p (controlBlockOf g t c start b) ≡ controlBlockWith (Valid g) (KnownType t) (Known c) b start p
+  block-good e = rw e

@@ -30,6 +30,9 @@ pub fn control_block_words(
     let ControlMade::Known(control) = control_from(number) else {
         return refusal::SETTING;
     };
+    if !settings.is_link() {
+        return refusal::SETTING;
+    }
     if report.len() < 2 {
         return refusal::TOO_SHORT;
     }

@@ -47,7 +47,7 @@ control-id id h =
 expected-within : (n : SequenceNumber) → answerable n ≡ true → isWithin greatestExpected n ≡ true
 unfolding answerable
 expected-within MinusOne h = h
-expected-within (Number n) h = h
+expected-within (Number n) h = and-right (leb 1 n) (leb n greatestExpected) h
 
 code-free : (code : Code) → hasAny bar 0x0D (codeText code) ≡ false
 code-free AA = refl

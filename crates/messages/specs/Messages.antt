@@ -61,7 +61,7 @@ messageType s =
 unfoldable pub validControlId : List ℕ → Bool
 validControlId id = (leb 1 (length id) && leb (length id) 20) && not (hasAny bar 0x0D id)
 
--- which numbers MSA-4 may have
+-- which numbers MSA-4 may have: no row of the receiver's table has 0 there
 unfoldable pub answerable : SequenceNumber → Bool
 answerable MinusOne = true
-answerable (Number n) = leb n greatestExpected
+answerable (Number n) = leb 1 n && leb n greatestExpected

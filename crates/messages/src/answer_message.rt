@@ -70,7 +70,7 @@ fn is_answerable(number: SequenceNumber) -> bool
 {
     match number {
         SequenceNumber::MinusOne => true,
-        SequenceNumber::Number(n) => n <= SequenceNumber::GREATEST_EXPECTED,
+        SequenceNumber::Number(n) => (1 <= n) & (n <= SequenceNumber::GREATEST_EXPECTED),
     }
 }
 

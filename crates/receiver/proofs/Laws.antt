@@ -6,7 +6,7 @@ use Prim.Native.Nat.{ℕ, _+_, _-_, _≤_, _<_}
 use Prim.Native.Char.{code}
 use native.Mathlib.Omega.{arith}
 use lib.Dec.{leb, eqb}
-use borrow.Author.Tests.{le-leb, lt-leb, leb-true}
+use borrow.Author.Tests.{le-leb, lt-leb, leb-true, eqb-false}
 use Rattle.lists.proofs.Tests.{and-right, cond-ind, leb-same}
 use Rattle.settings.specs.declared.Kind.{Kind}
 use Rattle.settings.specs.declared.Kind.the-variants.{Hybrid, Minimal}
@@ -67,11 +67,14 @@ field-fits s = go (numberField greatestSent s) refl
 pub expected-answerable : (s : Expected) → validExpected s ≡ true → answerable (expectedNumber s) ≡ true
 unfolding validExpected answerable
 expected-answerable Unknown h = refl
-expected-answerable (Next e) h = and-right (leb 1 e) (leb e greatestExpected) h
+expected-answerable (Next e) h = h
 
-pub sent-answerable : (n : ℕ) → leb n greatestSent ≡ true → answerable (Number n) ≡ true
+pub sent-answerable : (n : ℕ) → eqb n 0 ≡ false → leb n greatestSent ≡ true → answerable (Number n) ≡ true
 unfolding answerable
-sent-answerable n h = let l = leb-true n greatestSent h in le-leb n greatestExpected (omega (arith, l))
+sent-answerable n z h =
+    let l = leb-true n greatestSent h in
+    let some = eqb-false n 0 z in
+    rw (le-leb 1 n (omega arith), le-leb n greatestExpected (omega (arith, l)))
 
 pub row-answerable : (a : Application) (s : Expected) (f : NumberField) → validExpected s ≡ true → fieldFits f ≡ true
     → answerable (rowOf a s f .number) ≡ true
@@ -80,11 +83,11 @@ row-answerable a s Missing v h = expected-answerable s v
 row-answerable a s NotNumber v h = expected-answerable s v
 row-answerable a s (Present MinusOne) v h = refl
 row-answerable a Unknown (Present (Number n)) v h =
-    cond-ind (λ (r : Row). answerable (r .number) ≡ true) (eqb n 0) _ _ (λ e. refl) (λ e. sent-answerable n h)
+    cond-ind (λ (r : Row). answerable (r .number) ≡ true) (eqb n 0) _ _ (λ e. refl) (λ e. sent-answerable n e h)
 row-answerable a (Next e) (Present (Number n)) v h =
     let expected = expected-answerable (Next e) v in
     cond-ind (λ (r : Row). answerable (r .number) ≡ true) (eqb n 0) _ _ (λ z. expected)
-    (λ z. cond-ind (λ (r : Row). answerable (r .number) ≡ true) (eqb n e) _ _ (λ y. sent-answerable n h) (λ y. expected))
+    (λ z. cond-ind (λ (r : Row). answerable (r .number) ≡ true) (eqb n e) _ _ (λ y. sent-answerable n z h) (λ y. expected))
 
 module _ (k : Kind) (a : Application) (s : Expected) (d : List ℕ) where
   module _ (id seq : Field) where

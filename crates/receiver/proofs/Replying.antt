@@ -19,8 +19,8 @@ use Rattle.refusal.specs.Refusal.{writtenLength}
 use Rattle.refusal.specs.declared.Verdict.{Verdict}
 use Rattle.refusal.specs.declared.Written.{Written}
 use Rattle.block.specs.Judge.{typeMatches}
-use Rattle.writer.specs.Write.{needOf, typeValid, wrote, frameOf}
-use Rattle.writer.proofs.Laws.{write-framed, frame-all}
+use Rattle.writer.specs.Write.{needOf, typeValid, wrote, writeOf}
+use Rattle.writer.proofs.Laws.{write-all}
 use Rattle.messages.specs.Messages.{answerMessage}
 use Rattle.messages.specs.Write.{writeAnswerOf}
 use Rattle.message_theorems.proofs.Answer.{answer-length}
@@ -43,18 +43,17 @@ module _ (g : Settings) (start : ℕ) (b : List ℕ) (l : Linked g start (length
   nak-type Hybrid n = reason-is n
   nak-type Minimal n = refl
 
-  pub nak-framed : (n : ℕ) → frameOf g (code "N") (reasonOf n ∷ []) start b ≡ wrote b start (nakBlock g n)
+  pub nak-framed : (n : ℕ) → writeOf g (code "N") (reasonOf n ∷ []) start b ≡ wrote b start (nakBlock g n)
   nak-framed n =
       let m = l .limit in
-      sym (frame-all g (code "N") (reasonOf n ∷ []) start b (le-leb _ _ (fits (reasonOf n ∷ []) (omega arith))) (omega arith) (nak-type (g .kind) n) (reason-allowed n))
+      sym (write-all g (code "N") (reasonOf n ∷ []) start b (l .settings) (le-leb _ _ (fits (reasonOf n ∷ []) (omega arith))) (omega arith) (nak-type (g .kind) n) (reason-allowed n))
 
   pub answer-framed : (id : List ℕ) (r : Row) → Answerable id (r .number)
-      → frameOf g (code "D") (answerMessage id (r .code) (r .number)) start b ≡ wrote b start (answerBlock g id r)
+      → writeOf g (code "D") (answerMessage id (r .code) (r .number)) start b ≡ wrote b start (answerBlock g id r)
   answer-framed id r a =
       let message = answerMessage id (r .code) (r .number) in
       let m = answer-length id (r .code) (r .number) (a .control) (a .number) in
-      write-framed g (code "D") message start b (l .settings)
-      ∙ answer-in-block g (l .settings) (l .limit) start b id (r .code) (r .number) (a .allowed) (a .control) (a .number) (fits message (omega (arith, m)))
+      answer-in-block g (l .settings) (l .limit) start b id (r .code) (r .number) (a .allowed) (a .control) (a .number) (fits message (omega (arith, m)))
 
 -- what the block writer answered, as a length and the buffer
 pub framed-as : (n : ℕ) (w : Written) (m : List ℕ) (o : Outcome Written) (block : List ℕ) (start : ℕ) (b : List ℕ) → n ≡ writtenLength w

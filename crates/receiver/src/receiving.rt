@@ -82,7 +82,7 @@ fn write_nak(settings: Settings, number: u64, buffer: &mut [u8], start: usize) -
     ensures { λ r. ⌜ outcome r (now (buffer .exit)) ≡ framed (nakBlock settings number) start (now (buffer .entry)) ⌝ }
 {
     let content = [reason_of(number)];
-    writer::frame(settings, b'N', &content, buffer, start).length()
+    writer::write(settings, b'N', &content, buffer, start).length()
 }
 
 // Makes the answer in the first bytes of `message`, and frames it as a block.
@@ -102,7 +102,7 @@ fn frame_answer(
     let code = row.code;
     let number = row.number;
     let size = messages::write_answer(control_id, code, number, message, 0).length();
-    writer::frame(settings, b'D', &message[..size], buffer, start).length()
+    writer::write(settings, b'D', &message[..size], buffer, start).length()
 }
 
 // An answer has at most 93 bytes.

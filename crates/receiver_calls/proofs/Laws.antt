@@ -11,6 +11,7 @@ use Rattle.lists.specs.Bytes.{over}
 use Rattle.lists.specs.Outcome.{Outcome, outcome, Called, called}
 use Rattle.lists.proofs.Over.{written-over}
 use Rattle.lists.proofs.Tests.{and-left, and-right}
+use Rattle.settings.specs.Settings.{validLink}
 use Rattle.settings.specs.declared.Made.{Made}
 use Rattle.settings.specs.declared.Made.the-variants.{Valid}
 use Rattle.settings.specs.declared.Settings.{Settings}
@@ -64,10 +65,13 @@ module _ (st d b : List ℕ) (start : ℕ) (p : List ℕ) where
       ∙ ap (λ (z : VerdictMade). receiveWith m (applicationFrom application) z st d b start p) (sym g)
 
   module _ (g : Settings) (a : Application) (v : Verdict) where
-    pub call-short : (leb 1 (length st) && leb 3 (length p)) ≡ false
-        → called 2 st b p ≡ receiveWith (Valid g) (Known a) (KnownVerdict v) st d b start p
-    call-short h = sym (rw h)
+    pub call-bad : validLink g ≡ false → called 1 st b p ≡ receiveWith (Valid g) (Known a) (KnownVerdict v) st d b start p
+    call-bad e = sym (rw e)
 
-    pub call-done : (leb 1 (length st) && leb 3 (length p)) ≡ true
+    pub call-short : validLink g ≡ true → (leb 1 (length st) && leb 3 (length p)) ≡ false
+        → called 2 st b p ≡ receiveWith (Valid g) (Known a) (KnownVerdict v) st d b start p
+    call-short e h = sym (rw (e, h))
+
+    pub call-done : validLink g ≡ true → (leb 1 (length st) && leb 3 (length p)) ≡ true
         → finished st p (receiveOf g a (expectedFrom (getD st 0 0)) v d start b) ≡ receiveWith (Valid g) (Known a) (KnownVerdict v) st d b start p
-    call-done h = sym (rw h)
+    call-done e h = sym (rw (e, h))

@@ -6,6 +6,7 @@ use lib.ListN.{length, getD}
 use lib.Dec.{leb, eqb}
 use Rattle.lists.specs.Bytes.{over}
 use Rattle.lists.specs.Outcome.{need, Outcome, Called, called}
+use Rattle.settings.specs.Settings.{validLink}
 use Rattle.settings.specs.declared.Made.{Made}
 use Rattle.settings.specs.declared.Made.the-variants.{Valid, Refused}
 use Rattle.refusal.specs.Refusal.{SETTING, TOO-SHORT}
@@ -59,8 +60,9 @@ receiveWith Refused a v st d b start p = called SETTING st b p
 receiveWith (Valid g) Unknown v st d b start p = called SETTING st b p
 receiveWith (Valid g) (Known a) UnknownVerdict st d b start p = called SETTING st b p
 receiveWith (Valid g) (Known a) (KnownVerdict v) st d b start p =
-    need (leb 1 (length st) && leb 3 (length p)) (called TOO-SHORT st b p)
-    (finished st p (receiveOf g a (expectedFrom (getD st 0 0)) v d start b))
+    need (validLink g) (called SETTING st b p)
+    (need (leb 1 (length st) && leb 3 (length p)) (called TOO-SHORT st b p)
+    (finished st p (receiveOf g a (expectedFrom (getD st 0 0)) v d start b)))
 
 -- gmv_hybrid_receive and gmv_minimal_receive
 unfoldable pub receiveCall : Made → ℕ → List ℕ → ℕ → ℕ → List ℕ → List ℕ → ℕ → List ℕ → Called

@@ -1,13 +1,16 @@
 -- The ways in which the sender's functions return, held against the definitions.
 use mathlib.Core.Path.{_≡_, refl, sym, ap, _∙_}
 use mathlib.Core.Bool.{Bool, true, false, cond, not, _&&_, _||_}
+use mathlib.Core.List.{List}
 use mathlib.Core.Logic.{_⊎_, ⊎-elim}
 use Prim.Native.Nat.{ℕ, _-_, _≤_}
 use native.Mathlib.Omega.{arith}
 use lib.Dec.{leb, ltb, eqb}
 use borrow.Author.Tests.{leb-true, eqb-true, not-true, not-false}
 use denote.Enum.Declared.{tagOf}
+use Rattle.lists.proofs.Calls.{met, unmet}
 use Rattle.lists.proofs.Tests.{and-left, and-right}
+use Rattle.refusal.specs.declared.Verdict.{Verdict}
 use Rattle.numbers.specs.Numbers.{greatestSent}
 use Rattle.numbers.specs.declared.SequenceNumber.{SequenceNumber}
 use Rattle.numbers.specs.declared.SequenceNumber.the-variants.{MinusOne, Number}
@@ -18,12 +21,14 @@ use Rattle.header.specs.declared.Code.{Code}
 use Rattle.header.specs.declared.Code.the-variants.{AA, AE, AR}
 use Rattle.header.proofs.Code.{the-type as the-code}
 use Rattle.header.specs.declared.CodeField.the-variants.{Known}
-use Rattle.sender.specs.Sender.{validFirst, validPersisted, validSends, validWaiting, validSender, acted, waitingNumber, waitingMessage, isOpen, onCircuit, isNumber, keepsWaiting, takenIn, proceeds, freezes, deliveredOf, answerResynchronizing, answerQuery, answerTransaction, answered, answerOf}
+use Rattle.sender.specs.Sender.{validFirst, validResends, validSettings, validPersisted, validSends, validWaiting, validSender, acted, waitingNumber, waitingMessage, isOpen, onCircuit, refused, noState, waitsOf, resendOf, whenOpen, timerOf, blockIn, blockReadOf, timerActOf, blockActOf, isNumber, keepsWaiting, takenIn, proceeds, freezes, deliveredOf, answerResynchronizing, answerQuery, answerTransaction, answered, answerOf}
 use Rattle.sender.specs.Internal.{Bounded}
+use Rattle.sender.specs.declared.SenderSettings.{SenderSettings}
 use Rattle.sender.specs.declared.Persisted.{Persisted}
 use Rattle.sender.specs.declared.Waiting.{Waiting}
 use Rattle.sender.specs.declared.Waiting.the-variants.{Closed, Idle, Resynchronizing, Querying, Sending}
 use Rattle.sender.specs.declared.Sender.{Sender}
+use Rattle.sender.specs.declared.Acted.{Acted}
 use Rattle.sender.specs.declared.NumberedMessage.the-variants.{Nothing}
 use Rattle.sender.specs.declared.Event.the-variants.{NoEvent, Delivered}
 use Rattle.sender.proofs.Waiting.{the-type as the-waiting}
@@ -34,6 +39,16 @@ passed {r} e h = sym e ∙ not-false r h
 
 pub failed : {r t : Bool} → r ≡ t → not r ≡ true → t ≡ false
 failed {r} e h = sym e ∙ not-true r h
+
+-- settings that are in their ranges: so are the resends
+resends-valid : (g : SenderSettings) → validSettings g ≡ true → validResends (g .resends) ≡ true
+resends-valid g = and-right (validFirst (g .first)) (validResends (g .resends))
+
+-- and there is a number before the first
+pub first-least : (g : SenderSettings) → validSettings g ≡ true → 1 ≤ g .first
+first-least g h =
+    leb-true 1 (g .first)
+    (and-left (leb 1 (g .first)) (leb (g .first) greatestSent) (and-left (validFirst (g .first)) (validResends (g .resends)) h))
 
 -- and what one of two tests says of both
 neither-is : (a b : Bool) → (not a && not b) ≡ not (a || b)
@@ -82,6 +97,39 @@ bounded s h =
 
 pub bounded-open : (s : Sender) {r : Bool} → r ≡ onCircuit s → not r ≡ false → Bounded s
 bounded-open s e h = bounded s (and-left (validSender s) (isOpen (s .waiting)) (passed e h))
+
+-- ---- the acts that take settings, by what their tests say
+module _ (g : SenderSettings) (s : Sender) where
+  pub timer-bad : validSettings g ≡ false → refused 1 0 s ≡ timerActOf g s
+  unfolding timerActOf
+  timer-bad v = unmet _ _ _ v
+
+  pub block-bad : (u : Verdict) (d : List ℕ) → validSettings g ≡ false → refused 1 0 s ≡ blockActOf g s u d
+  unfolding blockActOf
+  block-bad u d v = unmet _ _ _ v
+
+  module _ (v : validSettings g ≡ true) where
+    without : (a : Acted) → onCircuit s ≡ false → noState s ≡ whenOpen (g .resends) s a
+    without a o = unmet _ _ _ o ∙ met _ _ _ (resends-valid g v)
+
+    with-circuit : (a : Acted) → onCircuit s ≡ true → a ≡ whenOpen (g .resends) s a
+    with-circuit a o = met _ _ _ o ∙ met _ _ _ (resends-valid g v)
+
+    pub timer-shut : onCircuit s ≡ false → noState s ≡ timerActOf g s
+    unfolding timerOf timerActOf
+    timer-shut o = without _ o ∙ met _ _ _ v
+
+    pub timer-open : onCircuit s ≡ true → resendOf (g .resends) s (waitsOf s) ≡ timerActOf g s
+    unfolding timerOf timerActOf
+    timer-open o = with-circuit _ o ∙ met _ _ _ v
+
+    pub block-shut : (u : Verdict) (d : List ℕ) → onCircuit s ≡ false → noState s ≡ blockActOf g s u d
+    unfolding blockReadOf blockActOf
+    block-shut u d o = without _ o ∙ met _ _ _ v
+
+    pub block-open : (u : Verdict) (d : List ℕ) → onCircuit s ≡ true → blockIn (g .resends) s u d ≡ blockActOf g s u d
+    unfolding blockReadOf blockActOf
+    block-open u d o = with-circuit _ o ∙ met _ _ _ v
 
 -- ---- what a `let .. else` leaves: one of the other variants, by their places
 abbrev Either : ℕ → ℕ → ℕ → Type 0

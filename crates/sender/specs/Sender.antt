@@ -27,6 +27,9 @@ use Rattle.header.specs.declared.Code.{Code}
 use Rattle.header.specs.declared.Code.the-variants.{AA, AE, AR}
 use Rattle.header.specs.declared.CodeField.{CodeField}
 use Rattle.header.specs.declared.CodeField.the-variants.{Other, Known}
+use Rattle.sender.specs.declared.SenderSettings.{SenderSettings}
+use Rattle.sender.specs.declared.SettingsMade.{SettingsMade}
+use Rattle.sender.specs.declared.SettingsMade.the-variants.{Refused as BadSetting, Valid}
 use Rattle.sender.specs.declared.Persisted.{Persisted}
 use Rattle.sender.specs.declared.Waiting.{Waiting}
 use Rattle.sender.specs.declared.Waiting.the-variants.{Closed, Idle, Resynchronizing, Querying, Sending}
@@ -47,6 +50,14 @@ validFirst f = leb 1 f && leb f greatestSent
 -- "resends r, 0 to 99"
 abbrev pub validResends : ℕ → Bool
 validResends r = leb r 99
+
+-- "Settings: first number f, ..; resends r": number 1 is given exactly where this is false
+abbrev pub validSettings : SenderSettings → Bool
+validSettings g = validFirst (g .first) && validResends (g .resends)
+
+-- settings of plain numbers
+abbrev pub settingsOf : ℕ → ℕ → SettingsMade
+settingsOf f r = need (validFirst f && validResends r) BadSetting (Valid (record { first = f; resends = r }))
 
 -- "Stored: f, the mark and the last submitted number (both f - 1 at first), whether resynchronised, and whether frozen.":
 -- the mark is f - 1 until "AA, -1 resynchronises, and that fact is stored"
@@ -79,8 +90,8 @@ closed p = record { persisted = p; waiting = Closed; sends = 0 }
 abbrev pub freshSender : ℕ → Sender
 freshSender f = closed (record { first = f; delivered = f - 1; last = f - 1; resynchronized = false; frozen = false })
 
-unfoldable pub senderOf : ℕ → SenderMade
-senderOf f = need (validFirst f) Refused (Made (freshSender f))
+unfoldable pub senderOf : SenderSettings → SenderMade
+senderOf g = need (validSettings g) Refused (Made (freshSender (g .first)))
 
 -- ---- what an act answers
 -- "An act's answer names the message to send now, if any"; "The sends made of the waiting message are a number in each answer":
@@ -288,3 +299,10 @@ blockIn r s (RefusedBlock k i) d = withBlock k (resendOf r s (waitsOf s))
 
 unfoldable pub blockReadOf : ℕ → Sender → Verdict → List ℕ → Acted
 blockReadOf r s v d = whenOpen r s (blockIn r s v d)
+
+-- ---- the two acts that may send again, with their settings: f counts only where a sender is made, r in each act
+unfoldable pub timerActOf : SenderSettings → Sender → Acted
+timerActOf g s = need (validSettings g) (refused SETTING 0 s) (timerOf (g .resends) s)
+
+unfoldable pub blockActOf : SenderSettings → Sender → Verdict → List ℕ → Acted
+blockActOf g s v d = need (validSettings g) (refused SETTING 0 s) (blockReadOf (g .resends) s v d)

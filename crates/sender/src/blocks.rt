@@ -3,6 +3,7 @@ use crate::Acted;
 use crate::Event;
 use crate::NumberedMessage;
 use crate::Sender;
+use crate::SenderSettings;
 use crate::answers::answer;
 use crate::circuit::resend;
 use crate::state::act;
@@ -17,7 +18,7 @@ use numbers::read_number;
 use refusal::Verdict;
 ghost use mathlib.Core.Path.{_≡_};
 ghost use Rattle.header.specs.Header.{acknowledgmentOf};
-ghost use Rattle.sender.specs.Sender.{waitsOf, resendOf, withBlock, dataBlock, blockReadOf};
+ghost use Rattle.sender.specs.Sender.{waitsOf, resendOf, withBlock, dataBlock, blockActOf};
 ghost use Rattle.sender.specs.Internal.{Bounded};
 
 // A refused block: its number is reported.
@@ -56,15 +57,21 @@ fn read_data(resends: u64, sender: Sender, content: &[u8]) -> Acted
 }
 
 // A block was read: an answer, an N block or a refused block.
-pub fn block_read(resends: u64, sender: Sender, verdict: Verdict, content: &[u8]) -> Acted
-    ensures { λ r. ⌜ r ≡ blockReadOf resends sender verdict (now (content .entry)) ⌝ }
+pub fn block_read(
+    settings: SenderSettings,
+    sender: Sender,
+    verdict: Verdict,
+    content: &[u8],
+) -> Acted
+    ensures { λ r. ⌜ r ≡ blockActOf settings sender verdict (now (content .entry)) ⌝ }
 {
-    if Sender::LARGEST_RESENDS < resends {
+    if !settings.is_valid() {
         return refuse(refusal::SETTING, 0, sender);
     }
     if !is_on_circuit(sender) {
         return refuse_state(sender);
     }
+    let resends = settings.resends;
     match verdict {
         Verdict::Accepted(t, _) => {
             if t == b'N' {

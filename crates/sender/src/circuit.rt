@@ -3,6 +3,7 @@ use crate::Acted;
 use crate::Event;
 use crate::NumberedMessage;
 use crate::Sender;
+use crate::SenderSettings;
 use crate::Waiting;
 use crate::state::act;
 use crate::state::begin;
@@ -14,7 +15,7 @@ use crate::state::refuse;
 use crate::state::refuse_state;
 use crate::state::waiting_message;
 ghost use mathlib.Core.Path.{_≡_};
-ghost use Rattle.sender.specs.Sender.{waitsOf, openOf, endedOf, resetOf, resendOf, timerOf};
+ghost use Rattle.sender.specs.Sender.{waitsOf, openOf, endedOf, resetOf, resendOf, timerActOf};
 ghost use Rattle.sender.specs.Internal.{Bounded};
 
 // A circuit was opened.
@@ -78,14 +79,14 @@ pub(crate) fn resend(resends: u64, sender: Sender) -> Acted
 }
 
 // The timer ran out.
-pub fn timer_ran_out(resends: u64, sender: Sender) -> Acted
-    ensures { λ r. ⌜ r ≡ timerOf resends sender ⌝ }
+pub fn timer_ran_out(settings: SenderSettings, sender: Sender) -> Acted
+    ensures { λ r. ⌜ r ≡ timerActOf settings sender ⌝ }
 {
-    if Sender::LARGEST_RESENDS < resends {
+    if !settings.is_valid() {
         return refuse(refusal::SETTING, 0, sender);
     }
     if !is_on_circuit(sender) {
         return refuse_state(sender);
     }
-    resend(resends, sender)
+    resend(settings.resends, sender)
 }

@@ -10,6 +10,8 @@ pub use circuit::circuit_ended;
 pub use circuit::circuit_opened;
 pub use circuit::operator_reset;
 pub use circuit::timer_ran_out;
+ghost use mathlib.Core.Path.{_≡_};
+ghost use Rattle.sender.specs.Sender.{validSettings, settingsOf};
 use header::Code;
 use numbers::SequenceNumber;
 pub use state::new_sender;
@@ -42,14 +44,49 @@ pub struct Sender {
     pub sends: u64,
 }
 
-impl Sender {
+// The settings of a sender. The first number counts where a sender is made, which stores it; how often a message is sent again
+// counts in each act, and may change.
+pub struct SenderSettings {
+    pub first: u64,
+    pub resends: u64,
+}
+
+// What making settings of plain numbers gives.
+pub enum SettingsMade {
+    Refused,
+    Valid(SenderSettings),
+}
+
+impl SenderSettings {
+    pub const SMALLEST_FIRST: u64 = 1;
     // How often a message is sent again, where the host says nothing else.
     pub const RESENDS: u64 = 3;
 
     pub const LARGEST_RESENDS: u64 = 99;
+
+    // The settings of a sender, or a refusal (1).
+    pub fn new(first: u64, resends: u64) -> SettingsMade
+        ensures { λ r. ⌜ r ≡ settingsOf first resends ⌝ }
+    {
+        let settings = SenderSettings { first, resends };
+        if settings.is_valid() {
+            SettingsMade::Valid(settings)
+        } else {
+            SettingsMade::Refused
+        }
+    }
+
+    // Whether every setting is within its range.
+    pub fn is_valid(self) -> bool
+        ensures { λ r. ⌜ r ≡ validSettings self ⌝ }
+    {
+        let least = Self::SMALLEST_FIRST <= self.first;
+        let most = self.first <= SequenceNumber::GREATEST_SENT;
+        (least & most) & (self.resends <= Self::LARGEST_RESENDS)
+    }
 }
 
-// What is made of a first number.
+// What is made of settings.
 pub enum SenderMade {
     Refused,
     Made(Sender),

@@ -5,6 +5,7 @@ use crate::NumberedMessage;
 use crate::Persisted;
 use crate::Sender;
 use crate::SenderMade;
+use crate::SenderSettings;
 use crate::Waiting;
 use numbers::SequenceNumber;
 ghost use mathlib.Core.Path.{_≡_};
@@ -29,7 +30,7 @@ fn is_waiting(p: Persisted, waiting: Waiting, n: u64) -> bool
     ensures { λ r. ⌜ r ≡ validWaiting p waiting n ⌝ }
 {
     let synchronized = !p.frozen & p.resynchronized;
-    let sent = (1 <= n) & (n <= Sender::LARGEST_RESENDS + 1);
+    let sent = (1 <= n) & (n <= SenderSettings::LARGEST_RESENDS + 1);
     match waiting {
         Waiting::Closed => n == 0,
         Waiting::Idle => synchronized & ((p.delivered == p.last) & (n == 0)),
@@ -49,15 +50,13 @@ pub(crate) fn is_state(sender: Sender) -> bool
 }
 
 // A sender with nothing submitted, or a refusal (1).
-pub fn new_sender(first: u64) -> SenderMade
-    ensures { λ r. ⌜ r ≡ senderOf first ⌝ }
+pub fn new_sender(settings: SenderSettings) -> SenderMade
+    ensures { λ r. ⌜ r ≡ senderOf settings ⌝ }
 {
-    if first < 1 {
+    if !settings.is_valid() {
         return SenderMade::Refused;
     }
-    if SequenceNumber::GREATEST_SENT < first {
-        return SenderMade::Refused;
-    }
+    let first = settings.first;
     SenderMade::Made(Sender {
         persisted: Persisted {
             first,

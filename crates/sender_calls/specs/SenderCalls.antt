@@ -11,7 +11,9 @@ use Rattle.refusal.specs.Refusal.{SETTING, TOO-SHORT, STATE}
 use Rattle.numbers.specs.declared.SequenceNumber.the-variants.{MinusOne, Number}
 use Rattle.header.specs.declared.Code.{Code}
 use Rattle.header.specs.declared.Code.the-variants.{AA, AE, AR}
-use Rattle.sender.specs.Sender.{senderOf, openOf, endedOf, resetOf, timerOf, blockReadOf, submitOf, validResends}
+use Rattle.sender.specs.Sender.{settingsOf, senderOf, openOf, endedOf, resetOf, timerActOf, blockActOf, submitOf}
+use Rattle.sender.specs.declared.SettingsMade.{SettingsMade}
+use Rattle.sender.specs.declared.SettingsMade.the-variants.{Refused as BadSetting, Valid}
 use Rattle.sender.specs.declared.Persisted.{Persisted}
 use Rattle.sender.specs.declared.Waiting.{Waiting}
 use Rattle.sender.specs.declared.Waiting.the-variants.{Closed, Idle, Resynchronizing, Querying, Sending}
@@ -115,27 +117,40 @@ endedCall st p = senderCall endedOf st p
 unfoldable pub resetCall : List ℕ → List ℕ → Called
 resetCall st p = senderCall resetOf st p
 
+-- the settings of an act: it goes by the first number that the state has, so any will do here
+abbrev pub resendsOnly : ℕ → SettingsMade
+resendsOnly r = settingsOf 1 r
+
 -- gmv_sender_timer: 1 comes first
+abbrev pub timerWith : SettingsMade → List ℕ → List ℕ → Called
+timerWith BadSetting st p = called SETTING st [] p
+timerWith (Valid g) st p = senderCall (timerActOf g) st p
+
 unfoldable pub timerCall : ℕ → List ℕ → List ℕ → Called
-timerCall r st p = need (validResends r) (called SETTING st [] p) (senderCall (timerOf r) st p)
+timerCall r st p = timerWith (resendsOnly r) st p
 
 -- gmv_sender_block
-abbrev pub blockWith : VerdictMade → ℕ → List ℕ → List ℕ → List ℕ → Called
-blockWith NoVerdict r d st p = called SETTING st [] p
-blockWith (AVerdict v) r d st p = senderCall (λ (s : Sender). blockReadOf r s v d) st p
+abbrev pub blockWith : SettingsMade → VerdictMade → List ℕ → List ℕ → List ℕ → Called
+blockWith BadSetting v d st p = called SETTING st [] p
+blockWith (Valid g) NoVerdict d st p = called SETTING st [] p
+blockWith (Valid g) (AVerdict v) d st p = senderCall (λ (s : Sender). blockActOf g s v d) st p
 
 unfoldable pub blockCall : ℕ → ℕ → ℕ → List ℕ → List ℕ → List ℕ → Called
-blockCall r n t d st p = need (validResends r) (called SETTING st [] p) (blockWith (verdictFrom n t) r d st p)
+blockCall r n t d st p = blockWith (resendsOnly r) (verdictFrom n t) d st p
 
 -- gmv_sender_submit
 unfoldable pub submitCall : ℕ → List ℕ → List ℕ → List ℕ → Called
 submitCall limit d st p =
     need (validLinkLimit limit) (called SETTING st [] p) (senderCall (λ (s : Sender). submitOf limit s d) st p)
 
--- gmv_sender_fresh
-abbrev pub freshWith : SenderMade → List ℕ → Called
-freshWith Refused st = called SETTING st [] []
-freshWith (Made s) st = need (leb 7 (length st)) (called TOO-SHORT st [] []) (called 0 (over st (senderWords s)) [] [])
+-- gmv_sender_fresh: how often a message is sent again is said in each act
+abbrev pub freshMade : SenderMade → List ℕ → Called
+freshMade Refused st = called SETTING st [] []
+freshMade (Made s) st = need (leb 7 (length st)) (called TOO-SHORT st [] []) (called 0 (over st (senderWords s)) [] [])
+
+abbrev pub freshWith : SettingsMade → List ℕ → Called
+freshWith BadSetting st = called SETTING st [] []
+freshWith (Valid g) st = freshMade (senderOf g) st
 
 unfoldable pub freshCall : ℕ → List ℕ → Called
-freshCall f st = freshWith (senderOf f) st
+freshCall f st = freshWith (settingsOf f 3) st

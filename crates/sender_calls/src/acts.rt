@@ -6,8 +6,9 @@ use crate::reports::write_report;
 use crate::states::read_sender;
 use crate::states::write_sender;
 use sender::Acted;
-use sender::Sender;
 use sender::SenderMade;
+use sender::SenderSettings;
+use sender::SettingsMade;
 use settings::Settings;
 use words::VerdictMade;
 ghost use mathlib.Core.Path.{_≡_};
@@ -16,7 +17,7 @@ ghost use Prim.Native.Nat.{_≤_};
 ghost use lib.ListN.{length};
 ghost use Rattle.lists.specs.Outcome.{outcome, called};
 ghost use Rattle.sender_calls.specs.Internal.{foundIn};
-ghost use Rattle.sender_calls.specs.SenderCalls.{actWritten, openCall, endedCall, resetCall, timerCall, blockCall, submitCall, freshCall};
+ghost use Rattle.sender_calls.specs.SenderCalls.{resendsOnly, actWritten, openCall, endedCall, resetCall, timerCall, blockCall, submitCall, freshCall};
 
 // How many words a state and a report have.
 const SENDER_WORDS: usize = 7;
@@ -54,10 +55,20 @@ fn finish(acted: Acted, state: &mut [u64], report: &mut [u64]) -> u64
     0
 }
 
+// The settings of an act, which goes by the first number that the state has.
+fn resends_only(resends: u64) -> SettingsMade
+    ensures { λ r. ⌜ r ≡ resendsOnly resends ⌝ }
+{
+    SenderSettings::new(SenderSettings::SMALLEST_FIRST, resends)
+}
+
 pub fn fresh_sender_words(first: u64, state: &mut [u64]) -> u64
     ensures { λ r. ⌜ called r (now (state .exit)) [] [] ≡ freshCall first (now (state .entry)) ⌝ }
 {
-    let SenderMade::Made(made) = sender::new_sender(first) else {
+    let SettingsMade::Valid(settings) = SenderSettings::new(first, SenderSettings::RESENDS) else {
+        return refusal::SETTING;
+    };
+    let SenderMade::Made(made) = sender::new_sender(settings) else {
         return refusal::SETTING;
     };
     if state.len() < SENDER_WORDS {
@@ -100,13 +111,13 @@ pub fn reset_words(state: &mut [u64], report: &mut [u64]) -> u64
 pub fn timer_words(resends: u64, state: &mut [u64], report: &mut [u64]) -> u64
     ensures { λ r. ⌜ called r (now (state .exit)) [] (now (report .exit)) ≡ timerCall resends (now (state .entry)) (now (report .entry)) ⌝ }
 {
-    if Sender::LARGEST_RESENDS < resends {
+    let SettingsMade::Valid(settings) = resends_only(resends) else {
         return refusal::SETTING;
-    }
+    };
     let found = find_sender(state, report);
     match found {
         Found::Refused(refused) => refused,
-        Found::Known(sender) => finish(sender::timer_ran_out(resends, sender), state, report),
+        Found::Known(sender) => finish(sender::timer_ran_out(settings, sender), state, report),
     }
 }
 
@@ -120,9 +131,9 @@ pub fn block_words(
 ) -> u64
     ensures { λ r. ⌜ called r (now (state .exit)) [] (now (report .exit)) ≡ blockCall resends number t (now (content .entry)) (now (state .entry)) (now (report .entry)) ⌝ }
 {
-    if Sender::LARGEST_RESENDS < resends {
+    let SettingsMade::Valid(settings) = resends_only(resends) else {
         return refusal::SETTING;
-    }
+    };
     let VerdictMade::Known(verdict) = words::verdict_from(number, t) else {
         return refusal::SETTING;
     };
@@ -130,7 +141,7 @@ pub fn block_words(
     match found {
         Found::Refused(refused) => refused,
         Found::Known(sender) => finish(
-            sender::block_read(resends, sender, verdict, content),
+            sender::block_read(settings, sender, verdict, content),
             state,
             report,
         ),

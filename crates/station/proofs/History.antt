@@ -10,7 +10,7 @@ use borrow.Author.Tests.{le-leb, leb-true, leb-false, eqb-true}
 use Rattle.lists.specs.Bytes.{put}
 use Rattle.lists.specs.Outcome.{Outcome, outcome}
 use Rattle.lists.proofs.Put.{length-put}
-use Rattle.lists.proofs.Tests.{cond-ind}
+use Rattle.lists.proofs.Tests.{cond-ind, and-left}
 use Rattle.station.specs.Station.{nextNumber, isDuplicate, validStation, dropped, stationActed, appended, goodBlockOf, badBlockOf, eotOf}
 use Rattle.station.specs.declared.Station.{Station}
 use Rattle.station.specs.declared.Station.the-variants.{Closed, Open}
@@ -21,7 +21,7 @@ use Rattle.station.specs.declared.Reply.{Reply}
 use Rattle.station.specs.declared.Reply.the-variants.{NoReply, Ack, Nak, Eot}
 use Rattle.station.specs.declared.Message.the-variants.{Incomplete}
 use Rattle.station.specs.History.{Unit, good, bad, enquiry, eot, Block, block, expectedAfter, textHeld, messagesOf}
-use Rattle.station.specs.History.{Past, past, fits, unitAfter, pastOf, stationOf, openReply, replyOf, Run, unitOutcome, runAfter, stationRun}
+use Rattle.station.specs.History.{Past, past, fits, unitAfter, pastOf, stationOf, soundStation, openReply, replyOf, Run, unitOutcome, runAfter, stationRun}
 use Rattle.station.proofs.Texts.{goes-round, appended-text}
 
 -- a run r stands where the history p says, with a buffer of c bytes
@@ -32,7 +32,7 @@ pub record Stands (c : ℕ) (r : Run) (p : Past) : Type 0 where
   pub held : take (length (textHeld (p .blocks))) (r .buffer) ≡ textHeld (p .blocks)
   pub most : length (textHeld (p .blocks)) ≤ c
 
-abbrev run : Station → List ℕ → List (List ℕ) → Run
+abbrev pub run : Station → List ℕ → List (List ℕ) → Run
 run s b ms = record { station = s; buffer = b; messages = ms }
 
 -- an act's answer to a unit, and where the run stands then
@@ -47,9 +47,6 @@ module _ (bs : List Block) (b : List ℕ) (held : take (length (textHeld bs)) b 
 
   number-valid : leb (expectedAfter bs) 7 ≡ true
   number-valid = le-leb (expectedAfter bs) 7 (goes-round bs .most)
-
-  held-valid : leb (length (textHeld bs)) (length b) ≡ true
-  held-valid = le-leb (length (textHeld bs)) (length b) most
 
   stays : (w : Reply) → Answers (length b) (messagesOf bs) (outcome (dropped now-open w) b) w (past bs false)
   stays w = record { reply = refl; stands = record { station = refl; messages = refl; size = refl; held = held; most = most } }
@@ -96,11 +93,11 @@ module _ (bs : List Block) (b : List ℕ) (held : take (length (textHeld bs)) b 
         let same = eqb-true n (expectedAfter bs) q in
         let small = goes-round bs .most in
         absurd (omega (arith, above, same, small))
-    good-answers x false false f d p q r s = rw (number-valid, held-valid, p, q) (stays Nak)
-    good-answers x true true true d p q r s = rw (number-valid, held-valid, p, q, r) (appends x q r)
-    good-answers x true true false d p q r s = rw (number-valid, held-valid, p, q, r) (closes Eot)
-    good-answers x true false f true p q r s = rw (number-valid, held-valid, p, q, s) (stays (Ack n))
-    good-answers x true false f false p q r s = rw (number-valid, held-valid, p, q, s) (stays Nak)
+    good-answers x false false f d p q r s = rw (number-valid, p, q) (stays Nak)
+    good-answers x true true true d p q r s = rw (number-valid, p, q, r) (appends x q r)
+    good-answers x true true false d p q r s = rw (number-valid, p, q, r) (closes Eot)
+    good-answers x true false f true p q r s = rw (number-valid, p, q, s) (stays (Ack n))
+    good-answers x true false f false p q r s = rw (number-valid, p, q, s) (stays Nak)
 
   open-answers : (u : Unit)
       → Answers (length b) (messagesOf bs) (unitOutcome (run now-open b (messagesOf bs)) u) (openReply (length b) bs u) (unitAfter (length b) bs u)
@@ -146,11 +143,43 @@ pub replies : (b : List ℕ) (us : List Unit) (u : Unit) → unitOutcome (statio
 replies b us u = unit-answers (length b) (stationRun b us) (pastOf (length b) us) (stands b us) u .reply
 
 -- the expected number is 0 to 7, and the text held fits the buffer, after every run
-pub reachable : (b : List ℕ) (us : List Unit) → validStation (length b) (stationRun b us .station) ≡ true
-reachable b us = ap (validStation (length b)) (stands b us .station) ∙ go (pastOf (length b) us) (stands b us)
+pub reachable : (b : List ℕ) (us : List Unit) → soundStation (length b) (stationRun b us .station) ≡ true
+reachable b us = ap (soundStation (length b)) (stands b us .station) ∙ go (pastOf (length b) us) (stands b us)
   where
-    go : (p : Past) → Stands (length b) (stationRun b us) p → validStation (length b) (stationOf p) ≡ true
+    go : (p : Past) → Stands (length b) (stationRun b us) p → soundStation (length b) (stationOf p) ≡ true
     go p i =
-        cond-ind (λ (s : Station). validStation (length b) s ≡ true) (p .closed) Closed (Open (expectedAfter (p .blocks)) (length (textHeld (p .blocks))))
+        cond-ind (λ (s : Station). soundStation (length b) s ≡ true) (p .closed) Closed (Open (expectedAfter (p .blocks)) (length (textHeld (p .blocks))))
         (λ e. refl)
         (λ e. rw (le-leb (expectedAfter (p .blocks)) 7 (goes-round (p .blocks) .most), le-leb (length (textHeld (p .blocks))) (length b) (i .most)))
+
+-- ---- no act on such a station is refused, whatever buffer is lent
+appended-done : (e : ℕ) (x : Ending) (n : ℕ) → appended e x n .refusal ≡ 0
+appended-done e Etb n = refl
+appended-done e Etx n = refl
+
+module _ (b : List ℕ) (ms : List (List ℕ)) where
+  abbrev done : Outcome Acted → Type 0
+  done o = o .answer .refusal ≡ 0
+
+  not-refused : (s : Station) → validStation s ≡ true → (u : Unit) → done (unitOutcome (run s b ms) u)
+  unfolding goodBlockOf badBlockOf eotOf
+  not-refused Closed v (good n x t) = refl
+  not-refused Closed v bad = refl
+  not-refused Closed v enquiry = refl
+  not-refused Closed v eot = refl
+  not-refused (Open e h) v (good n x t) =
+      rw v
+      (cond-ind done (leb n 7) _ _
+      (λ z. cond-ind done (eqb n e) _ _
+      (λ y. cond-ind done (leb (h + length t) (length b)) _ _ (λ w. appended-done e x (h + length t)) (λ w. refl))
+      (λ y. cond-ind done (isDuplicate e n) _ _ (λ w. refl) (λ w. refl)))
+      (λ z. refl))
+  not-refused (Open e h) v bad = rw v
+  not-refused (Open e h) v enquiry = rw v
+  not-refused (Open e h) v eot = rw v
+
+pub never-refused : (b : List ℕ) (us : List Unit) (c : List ℕ) (u : Unit)
+    → unitOutcome (run (stationRun b us .station) c (stationRun b us .messages)) u .answer .refusal ≡ 0
+never-refused b us c u =
+    not-refused c (stationRun b us .messages) (stationRun b us .station)
+    (and-left (validStation (stationRun b us .station)) _ (reachable b us)) u

@@ -1,11 +1,11 @@
 -- Document 01, 'X3.28 receiving station': the station, its replies and its messages as functions of what the driver reported since opening.
 use mathlib.Core.List.{List, [], _∷_, _++_}
-use mathlib.Core.Bool.{Bool, true, false, cond}
+use mathlib.Core.Bool.{Bool, true, false, cond, _&&_}
 use Prim.Native.Nat.{ℕ, _+_}
 use lib.ListN.{length, take}
 use lib.Dec.{leb, eqb}
 use Rattle.lists.specs.Outcome.{need, Outcome, outcome}
-use Rattle.station.specs.Station.{openedStation, nextNumber, isDuplicate, goodBlockOf, badBlockOf, eotOf}
+use Rattle.station.specs.Station.{openedStation, nextNumber, isDuplicate, validStation, goodBlockOf, badBlockOf, eotOf}
 use Rattle.station.specs.declared.Station.{Station}
 use Rattle.station.specs.declared.Station.the-variants.{Closed, Open}
 use Rattle.station.specs.declared.Ending.{Ending}
@@ -70,6 +70,14 @@ pastOf c (u ∷ us) = cond (pastOf c us .closed) (pastOf c us) (unitAfter c (pas
 -- the station then
 abbrev pub stationOf : Past → Station
 stationOf p = cond (p .closed) Closed (Open (expectedAfter (p .blocks)) (length (textHeld (p .blocks))))
+
+-- it is a station, and the text that it holds fits a buffer of c bytes
+abbrev pub holdsAtMost : ℕ → Station → Bool
+holdsAtMost c Closed = true
+holdsAtMost c (Open e h) = leb h c
+
+abbrev pub soundStation : ℕ → Station → Bool
+soundStation c s = validStation s && holdsAtMost c s
 
 -- its reply to a unit
 abbrev pub openReply : ℕ → List Block → Unit → Reply

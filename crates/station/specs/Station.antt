@@ -1,6 +1,6 @@
 -- Document 01, 'X3.28 receiving station' (000, C.3.1.5 and C.3.3.2): what it replies, appends and hands over.
 use mathlib.Core.List.{List}
-use mathlib.Core.Bool.{Bool, true, cond, _&&_}
+use mathlib.Core.Bool.{Bool, true, cond}
 use Prim.Native.Nat.{ℕ, _+_}
 use lib.ListN.{length}
 use lib.Dec.{leb, ltb, eqb}
@@ -29,10 +29,10 @@ nextNumber n = cond (eqb n 7) 0 (n + 1)
 abbrev pub isDuplicate : ℕ → ℕ → Bool
 isDuplicate expected n = ltb n expected
 
--- what is a station, with a buffer of `have` bytes: the expected number is 0 to 7, and the text held fits the buffer
-abbrev pub validStation : ℕ → Station → Bool
-validStation have Closed = true
-validStation have (Open e h) = leb e 7 && leb h have
+-- what is a station: the expected number is 0 to 7, whatever the length of the text held
+abbrev pub validStation : Station → Bool
+validStation Closed = true
+validStation (Open e h) = leb e 7
 
 -- what an act answers: the station then, its reply, and whether a message is complete
 abbrev pub stationActed : Station → Reply → Message → Acted
@@ -70,14 +70,14 @@ openBlock e h n x text b =
 unfoldable pub goodBlockOf : Station → ℕ → Ending → List ℕ → List ℕ → Outcome Acted
 goodBlockOf Closed n x text b = outcome (dropped Closed NoReply) b
 goodBlockOf (Open e h) n x text b =
-    need (validStation (length b) (Open e h)) (outcome (noStation (Open e h)) b) (openBlock e h n x text b)
+    need (validStation (Open e h)) (outcome (noStation (Open e h)) b) (openBlock e h n x text b)
 
--- "A bad block, .. or one ended by ENQ: dropped, NAK." There is no buffer to hold the length of the text held against.
+-- "A bad block, .. or one ended by ENQ: dropped, NAK."
 unfoldable pub badBlockOf : Station → Acted
 badBlockOf Closed = dropped Closed NoReply
-badBlockOf (Open e h) = need (leb e 7) (noStation (Open e h)) (dropped (Open e h) Nak)
+badBlockOf (Open e h) = need (validStation (Open e h)) (noStation (Open e h)) (dropped (Open e h) Nak)
 
 -- "A received EOT does the same without reply": station closed, held text forgotten
 unfoldable pub eotOf : Station → Acted
 eotOf Closed = dropped Closed NoReply
-eotOf (Open e h) = need (leb e 7) (noStation (Open e h)) (stationActed Closed NoReply Incomplete)
+eotOf (Open e h) = need (validStation (Open e h)) (noStation (Open e h)) (stationActed Closed NoReply Incomplete)

@@ -9,7 +9,6 @@ use crate::units::answer;
 use crate::units::refuse_station;
 ghost use mathlib.Core.Path.{_≡_};
 ghost use Prim.Native.Nat.{_≤_};
-ghost use lib.ListN.{length};
 ghost use Rattle.lists.specs.Outcome.{outcome};
 ghost use Rattle.station.specs.Station.{nextNumber, isDuplicate, appended, expectedBlock, openBlock, goodBlockOf};
 
@@ -55,9 +54,11 @@ fn take_expected(
     buffer: &mut [u8],
 ) -> Acted
     requires { ⌜ expected ≤ 7 ⌝ }
-    requires { ⌜ held ≤ length (now buffer) ⌝ }
     ensures { λ r. ⌜ outcome r (now (buffer .exit)) ≡ expectedBlock expected held ending (now (text .entry)) (now (buffer .entry)) ⌝ }
 {
+    if buffer.len() < held {
+        return answer(Station::Closed, Reply::Eot);
+    }
     if buffer.len() - held < text.len() {
         return answer(Station::Closed, Reply::Eot);
     }
@@ -74,7 +75,6 @@ fn block_when_open(
     buffer: &mut [u8],
 ) -> Acted
     requires { ⌜ expected ≤ 7 ⌝ }
-    requires { ⌜ held ≤ length (now buffer) ⌝ }
     ensures { λ r. ⌜ outcome r (now (buffer .exit)) ≡ openBlock expected held n ending (now (text .entry)) (now (buffer .entry)) ⌝ }
 {
     if LAST_NUMBER < n {
@@ -96,8 +96,7 @@ pub fn good_block(station: Station, n: u64, ending: Ending, text: &[u8], buffer:
     let Station::Open(expected, held) = station else {
         return answer(Station::Closed, Reply::NoReply);
     };
-    let valid = (expected <= LAST_NUMBER) & (held <= buffer.len());
-    if !valid {
+    if LAST_NUMBER < expected {
         return refuse_station(station);
     }
     block_when_open(expected, held, n, ending, text, buffer)

@@ -11,6 +11,10 @@ use Rattle.sender.proofs.operator_reset as operator-reset-contract
 use Rattle.sender.proofs.operator_reset.Reads as operator-reset-reads
 use Rattle.sender.proofs.timer_ran_out as timer-ran-out-contract
 use Rattle.sender.proofs.timer_ran_out.Reads as timer-ran-out-reads
+use Rattle.sender.proofs.SenderSettings.new as SenderSettings-new-contract
+use Rattle.sender.proofs.SenderSettings.new.Reads as SenderSettings-new-reads
+use Rattle.sender.proofs.SenderSettings.is_valid as SenderSettings-is-valid-contract
+use Rattle.sender.proofs.SenderSettings.is_valid.Reads as SenderSettings-is-valid-reads
 use Rattle.sender.proofs.new_sender as new-sender-contract
 use Rattle.sender.proofs.new_sender.Reads as new-sender-reads
 use Rattle.sender.proofs.submit_transaction as submit-transaction-contract
@@ -47,6 +51,20 @@ operator-reset = record {
 pub timer-ran-out : Unique timer-ran-out-contract.ended (λ M. timer-ran-out-contract.clauses {M = M})
 timer-ran-out = record {
   holds = timer-ran-out-reads.Learnt;
+  says = λ M 𝓤 H A mem run. refl;
+  one = λ κs a z z′ ws ws′ h h′. (h ∙ sym h′, refl);
+}
+
+pub SenderSettings-new : Unique SenderSettings-new-contract.ended (λ M. SenderSettings-new-contract.clauses {M = M})
+SenderSettings-new = record {
+  holds = SenderSettings-new-reads.Learnt;
+  says = λ M 𝓤 H A mem run. refl;
+  one = λ κs a z z′ ws ws′ h h′. (h ∙ sym h′, refl);
+}
+
+pub SenderSettings-is-valid : Unique SenderSettings-is-valid-contract.ended (λ M. SenderSettings-is-valid-contract.clauses {M = M})
+SenderSettings-is-valid = record {
+  holds = SenderSettings-is-valid-reads.Learnt;
   says = λ M 𝓤 H A mem run. refl;
   one = λ κs a z z′ ws ws′ h h′. (h ∙ sym h′, refl);
 }

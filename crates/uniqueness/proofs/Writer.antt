@@ -2,17 +2,8 @@
 use mathlib.Core.Path.{refl}
 use Rattle.uniqueness.specs.Unique.{Unique}
 use Rattle.uniqueness.proofs.Once.{once}
-use Rattle.writer.proofs.frame as frame-contract
-use Rattle.writer.proofs.frame.Reads as frame-reads
 use Rattle.writer.proofs.write as write-contract
 use Rattle.writer.proofs.write.Reads as write-reads
-
-pub frame : Unique frame-contract.ended (λ M. frame-contract.clauses {M = M})
-frame = record {
-  holds = frame-reads.Learnt;
-  says = λ M 𝓤 H A mem run. refl;
-  one = λ κs a z z′ ws ws′ h h′. once h h′ (λ y. y .answer) (λ y. (tt, (tt, (tt, (y .buffer, (tt, tt))))));
-}
 
 pub write : Unique write-contract.ended (λ M. write-contract.clauses {M = M})
 write = record {

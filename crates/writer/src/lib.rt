@@ -47,7 +47,7 @@ fn type_valid(kind: Kind, t: u8, content: &[u8]) -> bool
 }
 
 // The block with this type and data, written into the buffer from that offset on. A refusal writes nothing.
-pub fn frame(settings: Settings, t: u8, content: &[u8], buffer: &mut [u8], start: usize) -> Written
+fn frame(settings: Settings, t: u8, content: &[u8], buffer: &mut [u8], start: usize) -> Written
     ensures { λ r. ⌜ outcome r (now (buffer .exit)) ≡ frameOf settings t (now (content .entry)) start (now (buffer .entry)) ⌝ }
 {
     let kind = settings.kind;
@@ -69,7 +69,7 @@ pub fn frame(settings: Settings, t: u8, content: &[u8], buffer: &mut [u8], start
     }
 }
 
-// The same of settings that are looked at first.
+// The same of settings that are looked at first (1).
 pub fn write(settings: Settings, t: u8, content: &[u8], buffer: &mut [u8], start: usize) -> Written
     ensures { λ r. ⌜ outcome r (now (buffer .exit)) ≡ writeOf settings t (now (content .entry)) start (now (buffer .entry)) ⌝ }
 {

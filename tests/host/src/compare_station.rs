@@ -179,7 +179,7 @@ impl StationCounts {
             return;
         }
         let [reply, _, complete, _] = answer.report;
-        let needed = before[2] + text.len() as u64;
+        let needed = before[2].saturating_add(text.len() as u64);
         self.messages += complete;
         self.duplicates += u64::from(reply == 1 && number != before[1]);
         self.just_fit += u64::from(reply == 1 && needed == call.buffer_length as u64);

@@ -227,7 +227,7 @@ pub fn answer_written(control_id: &[u8], code: u64, number: u64, memory: &Memory
     if splits || control_id.is_empty() || control_id.len() > LONGEST_CONTROL_ID {
         return Written::Refused(9, 0);
     }
-    if number != MINUS_ONE && number > LARGEST_EXPECTED {
+    if number != MINUS_ONE && !(1..=LARGEST_EXPECTED).contains(&number) {
         return Written::Refused(10, 0);
     }
     let pieces: [&[u8]; 9] = [

@@ -98,8 +98,8 @@ pub struct Lengths {
     pub report: usize,
 }
 
-/// 1, 2 and 11, in this order; the station where there is none of them. Decided: text held that is
-/// longer than the buffer is 11, and opening takes any words.
+/// 1, 2 and 11, in this order; the station where there is none of them. Decided: opening takes any
+/// words.
 fn taken(unit: &Unit, words: &[u64], lengths: &Lengths) -> Result<Station, u64> {
     if let Unit::Block { ending, .. } = unit {
         if *ending != ETX && *ending != ETB {
@@ -111,9 +111,6 @@ fn taken(unit: &Unit, words: &[u64], lengths: &Lengths) -> Result<Station, u64> 
     }
     match (unit, Station::decode(&words[..STATION_WORDS])) {
         (Unit::Opened, _) => Ok(Station::Closed),
-        (Unit::Block { .. }, Some(Station::Open { held, .. })) if held > lengths.buffer as u64 => {
-            Err(11)
-        }
         (_, Some(station)) => Ok(station),
         (_, None) => Err(11),
     }
@@ -147,19 +144,18 @@ pub fn act_on_words(unit: &Unit, words: &[u64], lengths: &Lengths) -> Acted {
             done(station, out_of_order(number, expected))
         }
         (Unit::Block { ending, text, .. }, Station::Open { expected, held }) => {
-            let left = lengths.buffer as u64 - held;
-            append(expected, held, ending == ETX, text.len() as u64, left)
+            let all = u128::from(held) + text.len() as u128;
+            if all > lengths.buffer as u128 {
+                return done(Station::Closed, Reply::Eot);
+            }
+            append(expected, held, ending == ETX, all as u64)
         }
     }
 }
 
-/// A good block with the expected number, where so much space is left.
-fn append(expected: u64, held: u64, last: bool, length: u64, left: u64) -> Acted {
-    if length > left {
-        return done(Station::Closed, Reply::Eot);
-    }
+/// A good block with the expected number, with so much text held before it and with it.
+fn append(expected: u64, held: u64, last: bool, all: u64) -> Acted {
     let next = [1, 2, 3, 4, 5, 6, 7, 0][expected as usize];
-    let all = held + length;
     let (complete, message, held_then) = if last { (1, all, 0) } else { (0, 0, all) };
     Acted::Done(
         [1, next, held_then],

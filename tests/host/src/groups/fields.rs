@@ -90,7 +90,7 @@ pub fn damaged_walks(compare: &mut Compare) -> Outcome {
 pub fn written_walks(compare: &mut Compare) -> Outcome {
     for round in 0..3_000 {
         let control_id = make_messages::control_id(&mut compare.random);
-        let number = compare.random.pick(&[0, 17, 999_999_999_999_999, u64::MAX]);
+        let number = compare.random.pick(&[1, 17, 999_999_999_999_999, u64::MAX]);
         let (mut buffer, mut report) = ([0; 100], [0; 2]);
         let code = 1 + round % 3;
         let answer = ffi::answer_write(&control_id, code, number, &mut buffer, 0, &mut report);

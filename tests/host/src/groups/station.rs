@@ -253,9 +253,9 @@ pub fn station_opened_again(compare: &mut Compare) -> Outcome {
 }
 
 /// The driver lends a shorter or a longer part of its buffer than before: each call is answered by its
-/// own words and lengths.
+/// own words and lengths, and none refused.
 pub fn station_other_lengths(compare: &mut Compare) -> Outcome {
-    let mut refused = 0;
+    let mut too_long = 0;
     for _ in 0..4_000 {
         let space = any_space(&mut compare.random);
         let mut memory = StationMemory::fresh(compare, space)?;
@@ -270,11 +270,13 @@ pub fn station_other_lengths(compare: &mut Compare) -> Outcome {
                 buffer_length: length,
                 report_words: STATION_REPORT_WORDS,
             };
-            refused += u64::from(compare.station_call(&mut memory, &call)?.number == 11);
+            let block = matches!(call.unit, Unit::Block { .. });
+            too_long += u64::from(block && memory.state[2] > length as u64);
+            same("number", &[compare.station_call(&mut memory, &call)?.number], &[0])?;
         }
     }
-    if refused < 5_000 {
-        return Err(format!("only {refused} texts held did not fit the buffer"));
+    if too_long < 2_000 {
+        return Err(format!("only {too_long} texts held did not fit the buffer"));
     }
     Ok(())
 }

@@ -1,8 +1,9 @@
 -- `message_calls::control::control_block_words` meets its contract.
 use borrow.Author.Needs.{needs}
+use borrow.Author.Tests.{not-true, not-false}
 use mathlib.Core.Path.{refl, sym, _∙_}
 use Rattle.message_calls.proofs.Laws.{done, block-refused, few}
-use Rattle.message_calls.proofs.ControlLaws.{call-is}
+use Rattle.message_calls.proofs.ControlLaws.{call-is, block-bad, block-good}
 use Rattle.message_calls.proofs.control.control_block_words.Statement.{statement}
 use Rattle.message_calls.proofs.control.control_block_words.Tie as tie
 
@@ -47,12 +48,32 @@ returns-3 c =
     call-is (a .letters .now) (a .number) (a .buffer .now) (a .start) (a .report .now) (a .made) _ _ _ (c .before .before .before .before .before .before .before .before .made .given .1)
     (sym (c .before .before .before .before .before .before .from-letters .ensures) ∙ c .before .before .before .before .name .given .1) (sym (c .before .before .control-from .ensures) ∙ c .enum-told3 .given .1)
 
+is-link-requires : tie.Need-is-link-requires
+is-link-requires c κs = search needs
+
 returns-4 : tie.Need-returns-4
 returns-4 c =
-    let a = c .before .before .before .before .before .before .before .before .before .before .before .before .before .before .before .args in
-    few (a .buffer .now) (a .report .now) _ (c .if1 .taken)
-    ∙ call-is (a .letters .now) (a .number) (a .buffer .now) (a .start) (a .report .now) (a .made) _ _ _ (c .before .before .before .before .before .before .before .before .before .before .made .given .1)
-    (sym (c .before .before .before .before .before .before .before .before .from-letters .ensures) ∙ c .before .before .before .before .before .before .name .given .1) (sym (c .before .before .before .before .control-from .ensures) ∙ c .before .before .control .given .1)
+    let control = c .before .before .before in
+    let name = control .before .before .before .before in
+    let made = name .before .before .before .before in
+    let a = made .before .before .before .before .before .args in
+    block-bad (made .made .given .0 .0) (name .name .given .0 .0) (control .control .given .0 .0) (a .buffer .now) (a .start) (a .report .now)
+    (sym (c .before .is-link .ensures) ∙ not-true _ (c .if1 .taken))
+    ∙ call-is (a .letters .now) (a .number) (a .buffer .now) (a .start) (a .report .now) (a .made) _ _ _ (made .made .given .1)
+    (sym (name .before .before .from-letters .ensures) ∙ name .name .given .1) (sym (control .before .before .control-from .ensures) ∙ control .control .given .1)
+
+returns-5 : tie.Need-returns-5
+returns-5 c =
+    let linked = c .before in
+    let control = linked .before .before .before in
+    let name = control .before .before .before .before in
+    let made = name .before .before .before .before in
+    let a = made .before .before .before .before .before .args in
+    few (a .buffer .now) (a .report .now) _ (c .if2 .taken)
+    ∙ block-good (made .made .given .0 .0) (name .name .given .0 .0) (control .control .given .0 .0) (a .buffer .now) (a .start) (a .report .now)
+    (sym (linked .before .is-link .ensures) ∙ not-false _ (linked .if1 .left))
+    ∙ call-is (a .letters .now) (a .number) (a .buffer .now) (a .start) (a .report .now) (a .made) _ _ _ (made .made .given .1)
+    (sym (name .before .before .from-letters .ensures) ∙ name .name .given .1) (sym (control .before .before .control-from .ensures) ∙ control .control .given .1)
 
 write-control-block-requires : tie.Need-write-control-block-requires
 write-control-block-requires c κs = search needs
@@ -66,15 +87,21 @@ same-length c = search needs
 same-length-2 : tie.Need-same-length-2
 same-length-2 c = search needs
 
-returns-5 : tie.Need-returns-5
-returns-5 c =
+returns-6 : tie.Need-returns-6
+returns-6 c =
     let test = c .before .before .before .before .before .before .before .before in
-    let a = test .before .before .before .before .before .before .before .before .before .before .before .before .before .before .before .args in
+    let linked = test .before in
+    let control = linked .before .before .before in
+    let name = control .before .before .before .before in
+    let made = name .before .before .before .before in
+    let a = made .before .before .before .before .before .args in
     let written = c .before .before .before .before .before .before .write-control-block in
     let report = c .before .before .report-control in
-    done (a .buffer .now) (a .report .now) _ _ (written .result) (report .result) _ (test .if1 .left) (report .ensures) (written .ensures)
-    ∙ call-is (a .letters .now) (a .number) (a .buffer .now) (a .start) (a .report .now) (a .made) _ _ _ (test .before .before .before .before .before .before .before .before .before .before .made .given .1)
-    (sym (test .before .before .before .before .before .before .before .before .from-letters .ensures) ∙ test .before .before .before .before .before .before .name .given .1) (sym (test .before .before .before .before .control-from .ensures) ∙ test .before .before .control .given .1)
+    done (a .buffer .now) (a .report .now) _ _ (written .result) (report .result) _ (test .if2 .left) (report .ensures) (written .ensures)
+    ∙ block-good (made .made .given .0 .0) (name .name .given .0 .0) (control .control .given .0 .0) (a .buffer .now) (a .start) (a .report .now)
+    (sym (linked .before .is-link .ensures) ∙ not-false _ (linked .if1 .left))
+    ∙ call-is (a .letters .now) (a .number) (a .buffer .now) (a .start) (a .report .now) (a .made) _ _ _ (made .made .given .1)
+    (sym (name .before .before .from-letters .ensures) ∙ name .name .given .1) (sym (control .before .before .control-from .ensures) ∙ control .control .given .1)
 
 pub control-block-words-spec : {M : Type 1} → statement M
 control-block-words-spec =
@@ -91,9 +118,11 @@ control-block-words-spec =
     enum-known-control
     enum-told-3
     returns-3
+    is-link-requires
     returns-4
+    returns-5
     write-control-block-requires
     report-control-requires
     same-length
     same-length-2
-    returns-5)
+    returns-6)

@@ -6,7 +6,7 @@ use mathlib.Core.Path.{ap, _∙_}
 use mathlib.Core.List.{List}
 use Prim.Native.Nat.{ℕ}
 use Prim.Native.Char.{code}
-use Rattle.writer.specs.Write.{frameOf}
+use Rattle.writer.specs.Write.{writeOf}
 use Rattle.message_theorems.proofs.Made.{size-fits, part-size, made-part}
 use Rattle.receiver.proofs.Replying.{message-fits, answer-made, answer-framed, framed-as}
 
@@ -16,8 +16,8 @@ write-answer-requires c κs = search needs
 length-requires : tie.Need-length-requires
 length-requires c κs = search needs
 
-slice-reshare-prefix-frame : tie.Need-slice-reshare-prefix-frame
-slice-reshare-prefix-frame c =
+slice-reshare-prefix-write : tie.Need-slice-reshare-prefix-write
+slice-reshare-prefix-write c =
     let wrote = c .before .before .before in
     let start = wrote .before .before .before .before .before in
     let a = start .args in
@@ -26,8 +26,8 @@ slice-reshare-prefix-frame c =
     size-fits (a .message .now) _ (message-fits (a .control-id .now) (a .row) able (a .message .now) long) (wrote .write-answer .result) _
     (wrote .write-answer .ensures ∙ answer-made (a .control-id .now) (a .row) able (a .message .now) long) (c .length .result) (c .length .ensures)
 
-slice-aggregate-frame : tie.Need-slice-aggregate-frame
-slice-aggregate-frame c =
+slice-aggregate-write : tie.Need-slice-aggregate-write
+slice-aggregate-write c =
     let measured = c .before in
     let wrote = measured .before .before .before in
     let start = wrote .before .before .before .before .before in
@@ -37,8 +37,8 @@ slice-aggregate-frame c =
     part-size (a .message .now) _ (message-fits (a .control-id .now) (a .row) able (a .message .now) long) (wrote .write-answer .result) _
     (wrote .write-answer .ensures ∙ answer-made (a .control-id .now) (a .row) able (a .message .now) long) (measured .length .result) (measured .length .ensures)
 
-frame-requires : tie.Need-frame-requires
-frame-requires c κs = search needs
+write-requires : tie.Need-write-requires
+write-requires c κs = search needs
 
 length-requires-2 : tie.Need-length-requires-2
 length-requires-2 c κs = search needs
@@ -60,8 +60,8 @@ returns c =
     let long = start .pre .1 .1 in
     let part = made-part (a .message .now) _ (message-fits (a .control-id .now) (a .row) able (a .message .now) long) (wrote .write-answer .result) _
     (wrote .write-answer .ensures ∙ answer-made (a .control-id .now) (a .row) able (a .message .now) long) (measured .length .result) (measured .length .ensures) in
-    framed-as (c .length2 .result) (framed .frame .result) _ _ _ (a .start) (a .buffer .now) (c .length2 .ensures) (framed .frame .ensures)
-    (ap (λ (z : List ℕ). frameOf (a .settings) (code "D") z (a .start) (a .buffer .now)) part
+    framed-as (c .length2 .result) (framed .write .result) _ _ _ (a .start) (a .buffer .now) (c .length2 .ensures) (framed .write .ensures)
+    (ap (λ (z : List ℕ). writeOf (a .settings) (code "D") z (a .start) (a .buffer .now)) part
     ∙ answer-framed (a .settings) (a .start) (a .buffer .now) (start .pre .0) (a .control-id .now) (a .row) able)
 
 pub frame-answer-spec : {M : Type 1} → statement M
@@ -70,9 +70,9 @@ frame-answer-spec =
     (tie.spec
     write-answer-requires
     length-requires
-    slice-reshare-prefix-frame
-    slice-aggregate-frame
-    frame-requires
+    slice-reshare-prefix-write
+    slice-aggregate-write
+    write-requires
     length-requires-2
     same-length
     same-length-2

@@ -6,17 +6,17 @@ use mathlib.Core.Path.{ap, _∙_}
 use mathlib.Core.List.{[], _∷_}
 use Prim.Native.Nat.{ℕ}
 use Prim.Native.Char.{code}
-use Rattle.writer.specs.Write.{frameOf}
+use Rattle.writer.specs.Write.{writeOf}
 use Rattle.receiver.proofs.Replying.{nak-framed, framed-as}
 
 reason-of-requires : tie.Need-reason-of-requires
 reason-of-requires c κs = search needs
 
-slice-aggregate-frame : tie.Need-slice-aggregate-frame
-slice-aggregate-frame c = search needs
+slice-aggregate-write : tie.Need-slice-aggregate-write
+slice-aggregate-write c = search needs
 
-frame-requires : tie.Need-frame-requires
-frame-requires c κs = search needs
+write-requires : tie.Need-write-requires
+write-requires c κs = search needs
 
 length-requires : tie.Need-length-requires
 length-requires c κs = search needs
@@ -30,11 +30,11 @@ returns c =
     let reason = wrote .before .before .before in
     let start = reason .before .before in
     let a = start .args in
-    framed-as (c .length .result) (wrote .frame .result) _ _ _ (a .start) (a .buffer .now) (c .length .ensures) (wrote .frame .ensures)
-    (ap (λ (z : ℕ). frameOf (a .settings) (code "N") (z ∷ []) (a .start) (a .buffer .now)) (reason .reason-of .ensures)
+    framed-as (c .length .result) (wrote .write .result) _ _ _ (a .start) (a .buffer .now) (c .length .ensures) (wrote .write .ensures)
+    (ap (λ (z : ℕ). writeOf (a .settings) (code "N") (z ∷ []) (a .start) (a .buffer .now)) (reason .reason-of .ensures)
     ∙ nak-framed (a .settings) (a .start) (a .buffer .now) (start .pre) (a .number))
 
 pub write-nak-spec : {M : Type 1} → statement M
 write-nak-spec =
     tie.close
-    (tie.spec reason-of-requires slice-aggregate-frame frame-requires length-requires same-length returns)
+    (tie.spec reason-of-requires slice-aggregate-write write-requires length-requires same-length returns)

@@ -1,21 +1,27 @@
 -- `sender::state::new_sender` meets its contract.
-use borrow.Author.Tests.{lt-leb, le-leb}
-use mathlib.Core.Path.{sym}
+use borrow.Author.Needs.{needs}
+use Rattle.lists.proofs.Calls.{met, unmet}
+use Rattle.sender.proofs.Laws.{passed, failed, first-least}
 use Rattle.sender.specs.Sender.{senderOf}
 use Rattle.sender.proofs.state.new_sender.Statement.{statement}
 use Rattle.sender.proofs.state.new_sender.Tie as tie
 
+is-valid-requires : tie.Need-is-valid-requires
+is-valid-requires c κs = search needs
+
 returns : tie.Need-returns
 unfolding senderOf
-returns c = sym (rw (lt-leb 1 (c .before .args .first) (c .if1 .taken)))
+returns c = unmet _ _ _ (failed (c .before .is-valid .ensures) (c .if1 .taken))
+
+sub-t5 : tie.Need-sub-t5
+sub-t5 c = first-least (c .before .before .args .settings) (passed (c .before .is-valid .ensures) (c .if1 .left))
+
+sub-t6 : tie.Need-sub-t6
+sub-t6 c = first-least (c .before .before .args .settings) (passed (c .before .is-valid .ensures) (c .if1 .left))
 
 returns-2 : tie.Need-returns-2
 unfolding senderOf
-returns-2 c = sym (rw (le-leb 1 (c .before .before .args .first) (c .before .if1 .left), lt-leb _ _ (c .if2 .taken)))
-
-returns-3 : tie.Need-returns-3
-unfolding senderOf
-returns-3 c = sym (rw (le-leb 1 (c .before .before .args .first) (c .before .if1 .left), le-leb _ _ (c .if2 .left)))
+returns-2 c = met _ _ _ (passed (c .before .is-valid .ensures) (c .if1 .left))
 
 pub new-sender-spec : {M : Type 1} → statement M
-new-sender-spec = tie.close (tie.spec returns returns-2 returns-3)
+new-sender-spec = tie.close (tie.spec is-valid-requires returns sub-t5 sub-t6 returns-2)

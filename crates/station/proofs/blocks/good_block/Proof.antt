@@ -1,11 +1,7 @@
 -- `station::blocks::good_block` meets its contract.
 use borrow.Author.Needs.{needs}
-use borrow.Author.Tests.{leb-true, not-true, not-false}
-use mathlib.Core.Path.{_≡_, _∙_}
-use mathlib.Core.Bool.{true, false, _&&_}
-use lib.Dec.{leb}
-use lib.ListN.{length}
-use Rattle.lists.proofs.Tests.{and-left, and-right}
+use borrow.Author.Tests.{lt-leb, le-leb}
+use mathlib.Core.Path.{_∙_}
 use Rattle.station.specs.Station.{openBlock, goodBlockOf}
 use Rattle.station.proofs.blocks.good_block.Statement.{statement}
 use Rattle.station.proofs.blocks.good_block.Tie as tie
@@ -29,19 +25,11 @@ refuse-station-requires c κs = search needs
 returns-2 : tie.Need-returns-2
 unfolding goodBlockOf
 returns-2 c =
-    let at-station = c .before .before .before in
-    let is-open = at-station .station .given in
-    let b = at-station .before .before .before .before .args .buffer .now in
-    let v : (leb (is-open .0 .0) 7 && leb (is-open .0 .1 .0) (length b)) ≡ false = not-true _ (c .before .if1 .taken) in
-    rw (c .refuse-station .ensures, is-open .1, v)
+    let is-open = c .before .before .before .station .given in
+    rw (c .refuse-station .ensures, is-open .1, lt-leb (is-open .0 .0) 7 (c .before .if1 .taken))
 
 block-when-open-requires : tie.Need-block-when-open-requires
-block-when-open-requires c κs =
-    let at-station = c .before .before .before in
-    let is-open = at-station .station .given in
-    let b = at-station .before .before .before .before .args .buffer .now in
-    let v : (leb (is-open .0 .0) 7 && leb (is-open .0 .1 .0) (length b)) ≡ true = not-false _ (c .before .if1 .left) in
-    (leb-true (is-open .0 .0) 7 (and-left (leb (is-open .0 .0) 7) _ v), leb-true (is-open .0 .1 .0) (length b) (and-right (leb (is-open .0 .0) 7) _ v))
+block-when-open-requires c κs = search needs
 
 same-length : tie.Need-same-length
 same-length c = search needs
@@ -52,9 +40,8 @@ returns-3 c =
     let tested = c .before .before .before .before in
     let is-open = tested .before .before .station .given in
     let a = tested .before .before .before .before .before .before .args in
-    let b = a .buffer .now in
-    let v : (leb (is-open .0 .0) 7 && leb (is-open .0 .1 .0) (length b)) ≡ true = not-false _ (tested .if1 .left) in
-    _∙_ {b = openBlock (is-open .0 .0) (is-open .0 .1 .0) (a .n) (a .ending) (a .text .now) b} (c .before .before .block-when-open .ensures) (rw (is-open .1, v))
+    _∙_ {b = openBlock (is-open .0 .0) (is-open .0 .1 .0) (a .n) (a .ending) (a .text .now) (a .buffer .now)} (c .before .before .block-when-open .ensures)
+    (rw (is-open .1, le-leb (is-open .0 .0) 7 (tested .if1 .left)))
 
 pub good-block-spec : {M : Type 1} → statement M
 good-block-spec =

@@ -8,9 +8,6 @@ use Rattle.lists.proofs.Put.{copied}
 use Rattle.station.proofs.blocks.take_expected.Statement.{statement}
 use Rattle.station.proofs.blocks.take_expected.Tie as tie
 
-sub-if1 : tie.Need-sub-if1
-sub-if1 c = search needs
-
 answer-requires : tie.Need-answer-requires
 answer-requires c κs = search needs
 
@@ -18,6 +15,17 @@ returns : tie.Need-returns
 returns c =
     let a = c .before .before .before .before .args in
     rw (c .answer .ensures, lt-leb (a .held + length (a .text .now)) (length (a .buffer .now)) (omega arith))
+
+sub-if2 : tie.Need-sub-if2
+sub-if2 c = search needs
+
+answer-requires-2 : tie.Need-answer-requires-2
+answer-requires-2 c κs = search needs
+
+returns-2 : tie.Need-returns-2
+returns-2 c =
+    let a = c .before .before .before .before .before .args in
+    rw (c .answer2 .ensures, lt-leb (a .held + length (a .text .now)) (length (a .buffer .now)) (omega arith))
 
 sub-copy-bytes : tie.Need-sub-copy-bytes
 sub-copy-bytes c = search needs
@@ -40,10 +48,10 @@ acknowledge-requires c κs = search needs
 same-length : tie.Need-same-length
 same-length c = search needs
 
-returns-2 : tie.Need-returns-2
-returns-2 c =
+returns-3 : tie.Need-returns-3
+returns-3 c =
     let at-copy-bytes = c .before .before .before in
-    let a = at-copy-bytes .before .before .before .before .before .args in
+    let a = at-copy-bytes .before .before .before .before .before .before .args in
     let copy = at-copy-bytes .copy-bytes in
     let fits : a .held + length (a .text .now) ≤ length (a .buffer .now) = omega arith in
     rw (c .acknowledge .ensures, copied (a .buffer .now) (a .text .now) (copy .last .0) (a .held) fits (copy .ensures), le-leb (a .held + length (a .text .now)) (length (a .buffer .now)) fits)
@@ -52,9 +60,11 @@ pub take-expected-spec : {M : Type 1} → statement M
 take-expected-spec =
     tie.close
     (tie.spec
-    sub-if1
     answer-requires
     returns
+    sub-if2
+    answer-requires-2
+    returns-2
     sub-copy-bytes
     part-copy-bytes-start
     part-copy-bytes-end
@@ -62,4 +72,4 @@ take-expected-spec =
     add-acknowledge
     acknowledge-requires
     same-length
-    returns-2)
+    returns-3)
