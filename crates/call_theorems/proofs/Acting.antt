@@ -20,6 +20,7 @@ use Rattle.sender.specs.declared.Event.{Event}
 use Rattle.sender.specs.declared.Acted.{Acted}
 use Rattle.sender_calls.specs.SenderCalls.{senderWords, senderIn, actWords, actWritten, senderCall, openCall, endedCall, resetCall, timerCall, blockWith, blockCall, submitCall}
 use Rattle.sender_calls.specs.declared.Decoded.the-variants.{Known}
+use Rattle.sender_calls.proofs.Laws.{timer-resends, block-resends}
 use Rattle.sender_calls.proofs.ReadBack.{words-read}
 use Rattle.words.specs.Words.{verdictFrom}
 use Rattle.words.specs.declared.VerdictMade.{VerdictMade}
@@ -77,8 +78,9 @@ module _ (s : Sender) (valid : validSender s ≡ true) (st p : List ℕ) (b : Be
   reset-does = does reset resetOf refl
 
   pub timer-does : (r : ℕ) → r ≤ 99 → Does s st p (timerOf r s) (timerCall r st p)
-  unfolding timerCall
-  timer-does r l = subst (λ (z : Bool). Does s st p (timerOf r s) (cond z (senderCall (timerOf r) st p) (called 1 st [] p))) (sym (le-leb r 99 l)) (does (timer r) (timerOf r) refl)
+  timer-does r l =
+      subst (Does s st p (timerOf r s)) (sym (timer-resends r st p))
+      (subst (λ (z : Bool). Does s st p (timerOf r s) (cond z (senderCall (timerOf r) st p) (called 1 st [] p))) (sym (le-leb r 99 l)) (does (timer r) (timerOf r) refl))
 
   limit-refused : (limit : ℕ) (d : List ℕ) → validLinkLimit limit ≡ false → leb 1 (submitOf limit s d .refusal) ≡ true
   unfolding submitOf
@@ -97,8 +99,7 @@ module _ (s : Sender) (valid : validSender s ≡ true) (st p : List ℕ) (b : Be
       go false z = let same = step-refused (steps s valid (submit limit d)) (limit-refused limit d z) in refused (limit-refused limit d z) (sym (limit-setting limit d z)) refl refl (same .0) (same .1)
 
   pub block-does : (r : ℕ) → r ≤ 99 → (v : Verdict) (d : List ℕ) → readerGives v ≡ true → Does s st p (blockReadOf r s v d) (blockCall r (numberOf v) (typeOf v) d st p)
-  unfolding blockCall
   block-does r l v d given =
-      subst (λ (z : Bool). Does s st p (blockReadOf r s v d) (cond z (blockWith (verdictFrom (numberOf v) (typeOf v)) r d st p) (called 1 st [] p))) (sym (le-leb r 99 l))
-      (subst (λ (w : VerdictMade). Does s st p (blockReadOf r s v d) (blockWith w r d st p)) (sym (made-again v given))
+      subst (Does s st p (blockReadOf r s v d)) (sym (block-resends r (numberOf v) (typeOf v) (passedOn v) d st p (made-again v given)))
+      (subst (λ (z : Bool). Does s st p (blockReadOf r s v d) (cond z (senderCall (λ (k : Sender). blockReadOf r k (passedOn v) d) st p) (called 1 st [] p))) (sym (le-leb r 99 l))
       (does (block r v d) (λ (k : Sender). blockReadOf r k (passedOn v) d) (sends-the-same r s v d)))

@@ -159,7 +159,10 @@ module _ (k : Passed) (ag : Agrees k) (rd : Ready (k .link)) where
 
     fresh-words : freshCall (l .first) (m .state) .state ≡ over (m .state) (senderWords (freshSender (l .first)))
     unfolding freshCall senderOf
-    fresh-words = rw (le-leb 1 (l .first) (rd .first-least), le-leb (l .first) 999999999999998 (rd .first-most), le-leb 7 (length (m .state)) state-words)
+    fresh-words =
+        let a = le-leb 1 (l .first) (rd .first-least) in
+        let b = le-leb (l .first) 999999999999998 (rd .first-most) in
+        rw (a, b) (rw (a, b, le-leb 7 (length (m .state)) state-words))
 
     behind : Behind (senderWords (freshSender (l .first))) (freshCall (l .first) (m .state) .state)
     behind = subst (Behind (senderWords (freshSender (l .first)))) (sym fresh-words) (over-behind (senderWords (freshSender (l .first))) (m .state) state-words)

@@ -18,7 +18,7 @@ use Rattle.numbers.specs.Numbers.{numberField, decimal}
 use Rattle.messages.specs.Messages.{answerMessage, controlMessage, validType, messageType}
 use Rattle.control_block.specs.ControlBlock.{controlBlockOf}
 use Rattle.receiver.specs.Receiver.{validExpected, rowOf, decisionOf, receiveOf}
-use Rattle.sender.specs.Sender.{validSender, senderOf, submitOf, openOf, timerOf, blockReadOf}
+use Rattle.sender.specs.Sender.{validSender, senderOf, submitOf, openOf, timerOf, blockReadOf, timerActOf, blockActOf}
 use Rattle.words.specs.Words.{writeFinished}
 use Rattle.block_calls.specs.ReaderWords.{readerWords, decoded, verdictWords, pendingWords}
 use Rattle.block_calls.specs.ReadCalls.{freshReaderCall, readCall}
@@ -71,11 +71,11 @@ Delivered k =
     × (frozenWord (delivered k .sender .stored) ≡ 0)
 
 delivered-hybrid : Delivered Hybrid
-unfolding numbersOf passed readerSpace senderSpace receiverSpace exchanged reversed delivered fiveDigits threeDigits countField checksumOf hybridBody hybridBlock minimalBlock blockOf typeMatches headerOk checksumMatches judgeParts dataOf judgeHybrid judgeMinimal judge contentOf same put over valid validLink endVerdict move run storedVerdict step fold readOf frameOf fieldStart fieldOf bytesOf begins readableHeader headerOf readableAnswer acknowledgmentOf codeField numberField decimal answerMessage controlMessage validType messageType controlBlockOf validExpected rowOf decisionOf receiveOf validSender senderOf submitOf openOf timerOf blockReadOf writeFinished readerWords decoded verdictWords pendingWords freshReaderCall readCall writeCall controlBlockCall senderIn freshCall openCall timerCall blockCall submitCall receiveCall oneAt othersAt acceptedOf someOf blank readerPast drivenBy
+unfolding numbersOf passed readerSpace senderSpace receiverSpace exchanged reversed delivered fiveDigits threeDigits countField checksumOf hybridBody hybridBlock minimalBlock blockOf typeMatches headerOk checksumMatches judgeParts dataOf judgeHybrid judgeMinimal judge contentOf same put over valid validLink endVerdict move run storedVerdict step fold readOf frameOf fieldStart fieldOf bytesOf begins readableHeader headerOf readableAnswer acknowledgmentOf codeField numberField decimal answerMessage controlMessage validType messageType controlBlockOf validExpected rowOf decisionOf receiveOf validSender senderOf submitOf openOf timerOf blockReadOf timerActOf blockActOf writeFinished readerWords decoded verdictWords pendingWords freshReaderCall readCall writeCall controlBlockCall senderIn freshCall openCall timerCall blockCall submitCall receiveCall oneAt othersAt acceptedOf someOf blank readerPast drivenBy
 delivered-hybrid = (refl, refl, refl, refl)
 
 delivered-minimal : Delivered Minimal
-unfolding numbersOf passed readerSpace senderSpace receiverSpace exchanged reversed delivered fiveDigits threeDigits countField checksumOf hybridBody hybridBlock minimalBlock blockOf typeMatches headerOk checksumMatches judgeParts dataOf judgeHybrid judgeMinimal judge contentOf same put over valid validLink endVerdict move run storedVerdict step fold readOf frameOf fieldStart fieldOf bytesOf begins readableHeader headerOf readableAnswer acknowledgmentOf codeField numberField decimal answerMessage controlMessage validType messageType controlBlockOf validExpected rowOf decisionOf receiveOf validSender senderOf submitOf openOf timerOf blockReadOf writeFinished readerWords decoded verdictWords pendingWords freshReaderCall readCall writeCall controlBlockCall senderIn freshCall openCall timerCall blockCall submitCall receiveCall oneAt othersAt acceptedOf someOf blank readerPast drivenBy
+unfolding numbersOf passed readerSpace senderSpace receiverSpace exchanged reversed delivered fiveDigits threeDigits countField checksumOf hybridBody hybridBlock minimalBlock blockOf typeMatches headerOk checksumMatches judgeParts dataOf judgeHybrid judgeMinimal judge contentOf same put over valid validLink endVerdict move run storedVerdict step fold readOf frameOf fieldStart fieldOf bytesOf begins readableHeader headerOf readableAnswer acknowledgmentOf codeField numberField decimal answerMessage controlMessage validType messageType controlBlockOf validExpected rowOf decisionOf receiveOf validSender senderOf submitOf openOf timerOf blockReadOf timerActOf blockActOf writeFinished readerWords decoded verdictWords pendingWords freshReaderCall readCall writeCall controlBlockCall senderIn freshCall openCall timerCall blockCall submitCall receiveCall oneAt othersAt acceptedOf someOf blank readerPast drivenBy
 delivered-minimal = (refl, refl, refl, refl)
 
 pub drivers-deliver : (k : Kind) → Delivered k

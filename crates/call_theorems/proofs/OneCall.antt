@@ -12,7 +12,7 @@ use Rattle.lists.specs.Bytes.{over}
 use Rattle.lists.specs.Outcome.{Called, called}
 use Rattle.lists.proofs.Tests.{and-left, cond-ind}
 use Rattle.lists.proofs.Calls.{over-is}
-use Rattle.settings.specs.Settings.{capacityOf, dataOffsetOf}
+use Rattle.settings.specs.Settings.{valid, capacityOf, dataOffsetOf}
 use Rattle.settings.specs.declared.Settings.{Settings}
 use Rattle.settings.specs.declared.Made.{Made}
 use Rattle.settings.specs.declared.Made.the-variants.{Valid, Refused as BadSetting}
@@ -109,11 +109,11 @@ module _ (g : Settings) (c : Called) (h : 8 ≤ length (c .report)) (r : Reader)
   found-shows s v = rw (over-is (c .report) (verdictWords s v (dataOffsetOf g) n) h) (words-show s v (drop 8 (c .report)))
 
 -- ---- from words that encode a reader, the call is its reading
-pub call-is : (g : Settings) (c : Called) (xs : List ℕ) (r : Reader) → 4 ≤ length (c .state) → 8 ≤ length (c .report) → capacityOf g ≤ length (c .buffer)
+pub call-is : (g : Settings) (c : Called) (xs : List ℕ) (r : Reader) → valid g ≡ true → 4 ≤ length (c .state) → 8 ≤ length (c .report) → capacityOf g ≤ length (c .buffer)
     → decoded (c .state) ≡ Known r
     → readCall (Valid g) (c .state) xs (c .buffer) (c .report) ≡ readFinished g (c .state) (c .report) (readOf g r xs (c .buffer))
-call-is g c xs r h l m e =
-    sym (read-done g (c .state) xs (c .buffer) (c .report) h l (le-leb (capacityOf g) (length (c .buffer)) m))
+call-is g c xs r v h l m e =
+    sym (read-done g (c .state) xs (c .buffer) (c .report) v h l (le-leb (capacityOf g) (length (c .buffer)) m))
     ∙ ap (readDecoded g (c .state) xs (c .buffer) (c .report)) e
 
 -- ---- from any words whatever
@@ -163,12 +163,14 @@ pub call-uses : (s : Made) (c : Called) (xs : List ℕ) → Uses xs (readCall s 
 unfolding readCall
 call-uses BadSetting c xs = refused-uses xs _ _ _ 1 refl
 call-uses (Valid g) c xs =
-    cond-ind (Uses xs) (leb 4 (length (c .state))) _ _
+    cond-ind (Uses xs) (valid g) _ _
+    (λ v. cond-ind (Uses xs) (leb 4 (length (c .state))) _ _
     (λ e. cond-ind (Uses xs) (leb 8 (length (c .report))) _ _
     (λ f. cond-ind (Uses xs) (leb (capacityOf g) (length (c .buffer))) _ _ (λ i. decoded-uses g c xs (decoded (c .state)) (leb-true 8 (length (c .report)) f))
     (λ i. refused-uses xs _ _ _ 2 refl))
     (λ f. refused-uses xs _ _ _ 2 refl))
-    (λ e. refused-uses xs _ _ _ 2 refl)
+    (λ e. refused-uses xs _ _ _ 2 refl))
+    (λ v. refused-uses xs _ _ _ 1 refl)
 
 -- so the loop over a part ends: with more calls allowed than bytes, it is not the allowed number that stops it
 pub part-ends : (s : Made) (n : ℕ) (c : Called) (xs : List ℕ) → length xs < n → foundBlock (partCalls s n c xs .last) ≡ false

@@ -188,6 +188,7 @@ module _ (k : Passed) (ag : Agrees k) (rd : Ready (k .link)) (x : Drivers) (y : 
         ∙ ap (λ (z : ApplicationMade). receiveWith (Valid g) z (verdictFrom (w .number) (w .type)) st (w .content) b start p) q
         ∙ ap (λ (z : Shown). receiveWith (Valid g) (AnApplication a) (verdictFrom (z .number) (z .type)) st (z .content) b start p) (is .is)
         ∙ ap (λ (z : VerdictMade). receiveWith (Valid g) (AnApplication a) z st (v .content) b start p) (made-again (v .verdict) (is .given))
+        ∙ ap (λ (z : Bool). cond z (cond (leb 1 (length st) && leb 3 (length p)) (finished st p (receiveOf g a (expectedFrom (getD st 0 0)) (passedOn (v .verdict)) (v .content) start b)) (called 2 st b p)) (called 1 st b p)) (rd .settings)
         ∙ ap (λ (z : Bool). cond z (finished st p (receiveOf g a (expectedFrom (getD st 0 0)) (passedOn (v .verdict)) (v .content) start b)) (called 2 st b p))
         enough-words
         ∙ ap (λ (z : Expected). finished st p (receiveOf g a z (passedOn (v .verdict)) (v .content) start b)) word-back

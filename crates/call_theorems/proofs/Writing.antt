@@ -12,14 +12,14 @@ use Rattle.lists.specs.Bytes.{put, over}
 use Rattle.lists.specs.Outcome.{Outcome, Called, called}
 use Rattle.lists.proofs.Calls.{over-is}
 use Rattle.lists.proofs.Put.{part-put}
-use Rattle.settings.specs.Settings.{linkOf}
+use Rattle.settings.specs.Settings.{validLink, linkOf}
 use Rattle.settings.specs.declared.Settings.{Settings}
 use Rattle.settings.specs.declared.Made.{Made}
 use Rattle.settings.specs.declared.Made.the-variants.{Valid}
 use Rattle.refusal.specs.declared.Written.{Written}
 use Rattle.block.specs.Format.{blockOf}
 use Rattle.writer.specs.Write.{needOf, refused, wrote, frameOf}
-use Rattle.writer.proofs.Laws.{frame-too-short, frame-all}
+use Rattle.writer.proofs.Laws.{write-framed, frame-too-short, frame-all}
 use Rattle.block_theorems.specs.Shapes.{Writable}
 use Rattle.numbers.specs.declared.SequenceNumber.{SequenceNumber}
 use Rattle.numbers.specs.declared.SequenceNumber.the-variants.{MinusOne, Number}
@@ -42,7 +42,7 @@ use Rattle.link.proofs.Facts.{not-both}
 use Rattle.call_theorems.specs.Driver.{Passed, madeOf, Named, SenderMemory, blockOfNamed}
 use Rattle.call_theorems.specs.DriversPromise.{Agrees}
 use Rattle.call_theorems.proofs.Shows.{SameSend}
-use Rattle.call_theorems.proofs.Driving.{link-made}
+use Rattle.call_theorems.proofs.Driving.{settings-valid, link-made}
 
 -- ---- a writer's call that was done
 module _ (g : Settings) (d : List ℕ) (w : Writable g (code "D") d) (start : ℕ) (b p : List ℕ) where
@@ -88,27 +88,36 @@ module _ (k : Passed) (ag : Agrees k) (rd : Ready (k .link)) (start : ℕ) (m : 
   abbrev frame : List ℕ → Called
   frame d = withReport (m .block) (m .written) (frameOf g (code "D") d start (m .block))
 
-  control-call : (n : ℕ) (c : Control) → controlBlockWith (Valid g) (KnownType (l .name)) (controlFrom n) (m .block) start (m .written) ≡ frame (controlMessage (l .name) c)
+  abbrev control : Control → Called
+  control c = withReport (m .block) (m .written) (controlBlockOf g (l .name) c start (m .block))
+
+  control-is : (c : Control) → control c ≡ frame (controlMessage (l .name) c)
+  control-is c =
+      ap (withReport (m .block) (m .written))
+      (sym (write-framed g (code "D") (controlMessage (l .name) c) start (m .block) (settings-valid k ag rd) ∙ control-framed g (l .name) c start (m .block) (rd .settings) (rd .name)))
+
+  control-call : (n : ℕ) (c : Control) → controlBlockWith (Valid g) (KnownType (l .name)) (controlFrom n) (m .block) start (m .written) ≡ cond (validLink g) (control c) (called 1 [] (m .block) (m .written))
       → controlBlockCall (linkOf (madeOf (k .numbers))) (k .letters) n (m .block) start (m .written) ≡ frame (controlMessage (l .name) c)
   unfolding controlBlockCall
   control-call n c e =
       ap (λ (s : Made). controlBlockWith s (messageType (k .letters)) (controlFrom n) (m .block) start (m .written)) (link-made k ag rd)
       ∙ ap (λ (t : TypeMade). controlBlockWith (Valid g) t (controlFrom n) (m .block) start (m .written)) (ag .letters)
       ∙ e
-
-  control-is : (c : Control) → withReport (m .block) (m .written) (controlBlockOf g (l .name) c start (m .block)) ≡ frame (controlMessage (l .name) c)
-  control-is c = ap (withReport (m .block) (m .written)) (sym (control-framed g (l .name) c start (m .block) (rd .settings) (rd .name)))
+      ∙ ap (λ (b : Bool). cond b (control c) (called 1 [] (m .block) (m .written))) (rd .settings)
+      ∙ control-is c
 
   abbrev byWords : ℕ → ℕ → Called
   byWords kind number = blockOfNamed k start m (record { kind = kind; number = number })
 
   numbered : (n : ℕ) (b : Bool) → eqb n 0 ≡ b → byWords (cond b 2 3) n ≡ frame (cond b (controlMessage (l .name) Query) (l .log n))
   unfolding writeCall
-  numbered n true e = control-call 0 Query (control-is Query)
-  numbered n false e = ap (λ (s : Made). writeCall s (code "D") (l .log n) (m .block) start (m .written)) (ag .settings)
+  numbered n true e = control-call 0 Query refl
+  numbered n false e =
+      ap (λ (s : Made). writeCall s (code "D") (l .log n) (m .block) start (m .written)) (ag .settings)
+      ∙ ap (λ (b : Bool). cond b (frame (l .log n)) (called 1 [] (m .block) (m .written))) (settings-valid k ag rd)
 
   call-is : (v : SequenceNumber) → (s : List ℕ) → s ≡ sendWords (Numbered v) → byWords (getD s 0 0) (getD s 1 0) ≡ frame (requestOf l v)
-  call-is MinusOne s e = ap (λ (z : List ℕ). byWords (getD z 0 0) (getD z 1 0)) e ∙ control-call minusOne Resynchronize (control-is Resynchronize)
+  call-is MinusOne s e = ap (λ (z : List ℕ). byWords (getD z 0 0) (getD z 1 0)) e ∙ control-call minusOne Resynchronize refl
   call-is (Number n) s e = ap (λ (z : List ℕ). byWords (getD z 0 0) (getD z 1 0)) e ∙ numbered n (eqb n 0) refl
 
   -- the bytes that the driver sends are the block of the message
