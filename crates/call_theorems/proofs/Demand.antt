@@ -23,10 +23,11 @@ use Rattle.link.specs.Promise.{Ready, Safe, Covers}
 use Rattle.link.proofs.Queues.{each-none}
 use Rattle.link.proofs.Safety.{run-keeps, safety}
 use Rattle.link.proofs.Invariant.{Inv}
-use Rattle.link.proofs.Runs.{join}
+use Rattle.link.proofs.Runs.{run-join}
 use Rattle.call_theorems.specs.Driver.{Passed, ReaderMemory, SenderMemory, ReceiverMemory, Drivers, drivers, freshReader, enoughToSend, enoughToReceive, DriverAct, afterDriver, drivenBy, tenancyOf}
 use Rattle.call_theorems.specs.Driver.{opens, ends, resets, timer, submits, stores, restores, receiverStores, receiverRestores, replies, sends, reads, takes, drops, receiverReads, receiverDrops}
 use Rattle.call_theorems.specs.Driver.{receives, crashes, receiverCrashes, damagesForward, damagesBack}
+use Rattle.call_theorems.specs.DriversRun.{actsOf, linkRun}
 use Rattle.call_theorems.specs.DriversPromise.{Agrees, DriversSafe}
 use Rattle.call_theorems.proofs.Shows.{Behind, StandsOn, Shows, over-behind}
 use Rattle.call_theorems.proofs.Driving.{Goes, stays, by-act, fresh-on, opens-goes, ends-goes, resets-goes, timer-goes, submits-goes, stores-goes, restores-goes}
@@ -63,8 +64,11 @@ module _ (k : Passed) (ag : Agrees k) (rd : Ready (k .link)) where
           back = h .back;
         }
 
-    forward-goes : (b : Bool) → damages g (x .forward) xs ≡ b → Goes l (cond b damaged x) y
-    forward-goes false e = stays l x y h
+    forward-goes : (b : Bool) → damages g (x .forward) xs ≡ b → Goes l (linkDamagesForward xs ∷ []) (cond b damaged x) y
+    forward-goes false e =
+        by-act l x y (linkDamagesForward xs)
+        (subst (λ (b : Bool). Shows l x (cond b (link (y .sending) (y .receiving) (line (y .forward .reader) xs) (y .back)) y))
+        (sym (ap (λ (z : Line). damages g z xs) (sym (h .forward)) ∙ e)) h)
     forward-goes true e =
         by-act l damaged y (linkDamagesForward xs)
         (subst (λ (b : Bool). Shows l damaged (cond b (link (y .sending) (y .receiving) (line (y .forward .reader) xs) (y .back)) y))
@@ -89,15 +93,18 @@ module _ (k : Passed) (ag : Agrees k) (rd : Ready (k .link)) where
           back = ap (λ (z : Line). line (z .reader) xs) (h .back);
         }
 
-    back-goes : (b : Bool) → disorders g (x .back) xs ≡ b → Goes l (cond b disordered x) y
-    back-goes false e = stays l x y h
+    back-goes : (b : Bool) → disorders g (x .back) xs ≡ b → Goes l (linkDamagesBack xs ∷ []) (cond b disordered x) y
+    back-goes false e =
+        by-act l x y (linkDamagesBack xs)
+        (subst (λ (b : Bool). Shows l x (cond b (link (y .sending) (y .receiving) (y .forward) (line (y .back .reader) xs)) y))
+        (sym (ap (λ (z : Line). disorders g z xs) (sym (h .back)) ∙ e)) h)
     back-goes true e =
         by-act l disordered y (linkDamagesBack xs)
         (subst (λ (b : Bool). Shows l disordered (cond b (link (y .sending) (y .receiving) (y .forward) (line (y .back .reader) xs)) y))
         (sym (ap (λ (z : Line). disorders g z xs) (sym (h .back)) ∙ e)) disordered-shows)
 
   -- ---- each act
-  act-goes : (a : DriverAct) (x : Drivers) (y : System) → Inv l y → Shows l x y → Goes l (afterDriver k a x) y
+  act-goes : (a : DriverAct) (x : Drivers) (y : System) → Inv l y → Shows l x y → Goes l (actsOf k a x) (afterDriver k a x) y
   act-goes opens x y i h = opens-goes k ag rd x y i h
   act-goes ends x y i h = ends-goes k ag rd x y i h
   act-goes resets x y i h = resets-goes k ag rd x y i h
@@ -193,31 +200,22 @@ module _ (k : Passed) (ag : Agrees k) (rd : Ready (k .link)) where
           back = refl;
         }
 
-    -- ---- every run of the drivers is a run of the link
-    pub record IsRun (ds : List DriverAct) : Type 0 where
-      pub acts : List SystemAct
-      pub shows : Shows l (drivenBy k begun ds) (runOf every l (startOf l e) acts)
+    -- ---- every run of the drivers is a run of the link, act by act
+    abbrev pub linkEnd : List DriverAct → System
+    linkEnd ds = runOf every l (startOf l e) (linkRun k begun ds)
 
-    pub calls-run : (ds : List DriverAct) → IsRun ds
-    unfolding drivenBy runOf
-    calls-run [] = record { acts = []; shows = start-shows }
-    calls-run (a ∷ ds) = next (calls-run ds)
-      where
-        next : IsRun ds → IsRun (a ∷ ds)
-        next r =
-            let y = runOf every l (startOf l e) (r .acts) in
-            let t = act-goes a (drivenBy k begun ds) y (run-keeps l rd e state (r .acts)) (r .shows) in
-            let all = join l (record { acts = r .acts; arrives = refl }) (t .run) in
-            record { acts = all .acts; shows = subst (Shows l (afterDriver k a (drivenBy k begun ds))) (sym (all .arrives)) (t .shows) }
+    pub calls-run : (ds : List DriverAct) → Shows l (drivenBy k begun ds) (linkEnd ds)
+    unfolding drivenBy runOf linkRun
+    calls-run [] = start-shows
+    calls-run (a ∷ ds) =
+        subst (Shows l (afterDriver k a (drivenBy k begun ds))) (sym (run-join l (startOf l e) (linkRun k begun ds) (actsOf k a (drivenBy k begun ds))))
+        (act-goes a (drivenBy k begun ds) (linkEnd ds) (run-keeps l rd e state (linkRun k begun ds)) (calls-run ds) .shows)
 
     -- ---- so demand 3 holds of what C sees
     pub calls-safe : (ds : List DriverAct) → DriversSafe l (drivenBy k begun ds)
     calls-safe ds =
-        let r = calls-run ds in
-        let x = drivenBy k begun ds in
-        let y = runOf every l (startOf l e) (r .acts) in
-        let h = r .shows in
-        let f = safety l rd e state (r .acts) in
+        let h = calls-run ds in
+        let f = safety l rd e state (linkRun k begun ds) in
         let held = ap (λ (ws : List ℕ). getD ws 1 0) (h .sender .state .is) in
         let kept = ap (λ (ws : List ℕ). getD ws 1 0) (h .sender .stored) in
         record {

@@ -23,12 +23,11 @@ use Rattle.sender_calls.specs.SenderCalls.{senderWords, openCall, endedCall, re
 use Rattle.link.specs.Duties.{every}
 use Rattle.link.specs.SenderActs.{afterCrash}
 use Rattle.link.specs.Line.{Reader, Line, emptyLine}
-use Rattle.link.specs.System.{Link, System, sending, senderActed, newCircuit, circuitOpened, SystemAct, opens, ends, resets, timer, submits, senderPersists, senderRestores, afterAct}
+use Rattle.link.specs.System.{Link, System, sending, senderActed, newCircuit, circuitOpened, SystemAct, opens, ends, resets, timer, submits, senderPersists, senderRestores, afterAct, runOf}
 use Rattle.link.specs.Promise.{Ready}
 use Rattle.link.proofs.Queues.{Each, each-none}
 use Rattle.link.proofs.Messages.{link-valid, link-limit}
 use Rattle.link.proofs.Invariant.{Inv}
-use Rattle.link.proofs.Runs.{Reaches, stay, act}
 use Rattle.call_theorems.specs.Reading.{Shown, Taken, hybrid, minimal}
 use Rattle.call_theorems.specs.Driver.{Numbers, hybrid as hybridNumbers, minimal as minimalNumbers, Passed, madeOf, ReaderMemory, Drivers, freshReader}
 use Rattle.call_theorems.specs.Driver.{bySender, openedBy, afterDriver}
@@ -38,17 +37,17 @@ use Rattle.call_theorems.proofs.Streams.{StandsAt, fresh-stands-at}
 use Rattle.call_theorems.proofs.Shows.{SameVerdict, Behind, StandsOn, Shows, over-behind, behind-length, Does, done, refused, named-is, report-length, call-shows}
 use Rattle.call_theorems.proofs.Acting.{open-does, ended-does, reset-does, timer-does, submit-does}
 
--- from y the link comes to what the drivers have
-pub record Goes (l : Link) (x : Drivers) (y : System) : Type 0 where
-  pub end : System
-  pub run : Reaches l y end
-  pub shows : Shows l x end
+-- by these acts the link comes from y to what the drivers have
+pub record Goes (l : Link) (acts : List SystemAct) (x : Drivers) (y : System) : Type 0 where
+  pub shows : Shows l x (runOf every l y acts)
 
-pub stays : (l : Link) (x : Drivers) (y : System) → Shows l x y → Goes l x y
-stays l x y h = record { end = y; run = stay l y; shows = h }
+pub stays : (l : Link) (x : Drivers) (y : System) → Shows l x y → Goes l [] x y
+unfolding runOf
+stays l x y h = record { shows = h }
 
-pub by-act : (l : Link) (x : Drivers) (y : System) (d : SystemAct) → Shows l x (afterAct every l d y) → Goes l x y
-by-act l x y d h = record { end = afterAct every l d y; run = act l d y; shows = h }
+pub by-act : (l : Link) (x : Drivers) (y : System) (d : SystemAct) → Shows l x (afterAct every l d y) → Goes l (d ∷ []) x y
+unfolding runOf
+by-act l x y d h = record { shows = h }
 
 module _ (k : Passed) (ag : Agrees k) (rd : Ready (k .link)) where
   abbrev l : Link
@@ -99,23 +98,23 @@ module _ (k : Passed) (ag : Agrees k) (rd : Ready (k .link)) where
         record { sender = call-shows g (x .sender) (y .sending) (x .back) (h .sender) a c d ws vs e; receiver = h .receiver; forward = h .forward; back = h .back }
 
     called-is : (d : SystemAct) (a : Acted) (c : Called) → afterAct every l d y ≡ senderActed y (y .sending .arrived) a → Does (y .sending .sender) st p a c
-        → Goes l (bySender x (x .sender .arrived) c) y
+        → Goes l (d ∷ []) (bySender x (x .sender .arrived) c) y
     called-is d a c e does =
         by-act l (bySender x (x .sender .arrived) c) y d
         (subst (Shows l (bySender x (x .sender .arrived) c)) (sym e) (by-call a c (x .sender .arrived) (y .sending .arrived) does (h .sender .arrived)))
 
-    pub ends-goes : Goes l (afterDriver k endsDriver x) y
+    pub ends-goes : Goes l (ends ∷ []) (afterDriver k endsDriver x) y
     ends-goes = called-is ends (endedOf (y .sending .sender)) (endedCall st p) refl (ended-does (y .sending .sender) (i .ends .valid) st p (h .sender .state) (h .sender .report))
 
-    pub resets-goes : Goes l (afterDriver k resetsDriver x) y
+    pub resets-goes : Goes l (resets ∷ []) (afterDriver k resetsDriver x) y
     resets-goes = called-is resets (resetOf (y .sending .sender)) (resetCall st p) refl (reset-does (y .sending .sender) (i .ends .valid) st p (h .sender .state) (h .sender .report))
 
-    pub timer-goes : Goes l (afterDriver k timerDriver x) y
+    pub timer-goes : Goes l (timer ∷ []) (afterDriver k timerDriver x) y
     timer-goes =
         called-is timer (timerOf (l .resends) (y .sending .sender)) (timerCall (l .resends) st p) refl
         (timer-does (y .sending .sender) (i .ends .valid) st p (h .sender .state) (h .sender .report) (l .resends) (rd .resends))
 
-    pub submits-goes : (limit : ℕ) (d : List ℕ) → Goes l (afterDriver k (submitsDriver limit d) x) y
+    pub submits-goes : (limit : ℕ) (d : List ℕ) → Goes l (submits limit d ∷ []) (afterDriver k (submitsDriver limit d) x) y
     submits-goes limit d =
         called-is (submits limit d) (submitOf limit (y .sending .sender) d) (submitCall limit d st p) refl
         (submit-does (y .sending .sender) (i .ends .valid) st p (h .sender .state) (h .sender .report) limit d)
@@ -161,13 +160,13 @@ module _ (k : Passed) (ag : Agrees k) (rd : Ready (k .link)) where
         (subst (λ (b : Bool). Shows l (bySender x (x .sender .arrived) c) (cond b (newCircuit every y (openOf (y .sending .sender))) (senderActed y (y .sending .arrived) (openOf (y .sending .sender))))) (sym no)
         (by-call a c (x .sender .arrived) (y .sending .arrived) (refused n o z t same none) (h .sender .arrived)))
 
-    pub opens-goes : Goes l (afterDriver k opensDriver x) y
+    pub opens-goes : Goes l (opens ∷ []) (afterDriver k opensDriver x) y
     opens-goes =
         by-act l (afterDriver k opensDriver x) y opens
         (opened-by (openCall st p) (open-does (y .sending .sender) (i .ends .valid) st p (h .sender .state) (h .sender .report)))
 
     -- storing, and going on from what is stored
-    pub stores-goes : Goes l (afterDriver k stores x) y
+    pub stores-goes : Goes l (senderPersists ∷ []) (afterDriver k stores x) y
     stores-goes =
         by-act l (afterDriver k stores x) y senderPersists
         (record {
@@ -189,7 +188,7 @@ module _ (k : Passed) (ag : Agrees k) (rd : Ready (k .link)) where
         subst (λ (d : List ℕ). Behind (senderWords (afterCrash (y .sending .persisted))) (over s (d ++ 0 ∷ 0 ∷ []))) (sym (h .sender .stored))
         (over-behind (senderWords (afterCrash (y .sending .persisted))) s m)
 
-    pub restores-goes : Goes l (afterDriver k restores x) y
+    pub restores-goes : Goes l (senderRestores ∷ []) (afterDriver k restores x) y
     restores-goes =
         by-act l (afterDriver k restores x) y senderRestores
         (record {

@@ -1,10 +1,11 @@
 -- The receiver's driver reads, offers blocks, stores, replies and crashes: each is a run of the link.
 use mathlib.Core.Path.{_≡_, refl, sym, ap, _∙_, subst}
-use mathlib.Core.List.{List, [], _∷_, _++_}
+use mathlib.Core.List.{List, [], _∷_, _++_, append-assoc, append-nil}
 use mathlib.Core.Bool.{Bool, true, false, cond, not, _&&_}
 use Prim.Native.Nat.{ℕ, _≤_}
 use native.Mathlib.Omega.{arith}
 use lib.ListN.{length, take, drop, getD, take-append-drop}
+use lib.Seq.{length-take-le}
 use lib.Dec.{leb, eqb}
 use borrow.Author.Tests.{le-leb, leb-true, eq-eqb}
 use Rattle.lists.specs.Bytes.{same, over}
@@ -16,7 +17,7 @@ use Rattle.settings.specs.Settings.{capacityOf, linkOf}
 use Rattle.settings.specs.declared.Settings.{Settings}
 use Rattle.settings.specs.declared.Made.{Made}
 use Rattle.settings.specs.declared.Made.the-variants.{Valid}
-use Rattle.stream.specs.Stream.{Judged}
+use Rattle.stream.specs.Stream.{Judged, run}
 use Rattle.receiver.specs.Receiver.{validExpected, receiveOf}
 use Rattle.receiver.specs.declared.Application.{Application}
 use Rattle.receiver.specs.declared.Expected.{Expected}
@@ -31,27 +32,27 @@ use Rattle.receiver_calls.proofs.ReadBack.{expected-back}
 use Rattle.words.specs.Words.{verdictFrom}
 use Rattle.words.specs.declared.VerdictMade.{VerdictMade}
 use Rattle.link.specs.Duties.{every, oneAt, othersAt}
-use Rattle.link.specs.Line.{Reader, Line, line, emptyLine}
-use Rattle.link.specs.System.{Link, System, receiving, link, hasWith, repliesOf, receivedEnd, requestTaken as requestActed, sameExpected, sameStored, replyWritten, afterAct}
+use Rattle.link.specs.Line.{Reader, Line, line, emptyLine, readsByte, readerAfter}
+use Rattle.link.specs.System.{Link, System, SendingEnd, ReceivingEnd, runOf, receiverReads as linkReads, receiving, link, hasWith, repliesOf, receivedEnd, requestTaken as requestActed, sameExpected, sameStored, replyWritten, afterAct}
 use Rattle.link.specs.System.{receiverActs, receiverDiscards, receiverPersists, receiverWrites, receiverRestores, receiverCrashes as endCrashes}
 use Rattle.link.specs.Promise.{Ready}
 use Rattle.link.proofs.Facts.{not-both}
 use Rattle.link.proofs.Queues.{Each, each-none, Front, front, each-front}
 use Rattle.link.proofs.ReceiverInvariant.{some, receive-some}
 use Rattle.link.proofs.Invariant.{Inv}
-use Rattle.link.proofs.Runs.{Reaches, to, from, read-requests}
 use Rattle.call_theorems.specs.Verdicts.{passedOn}
 use Rattle.call_theorems.specs.Reading.{Shown, usedBytes}
-use Rattle.call_theorems.specs.Driver.{Passed, madeOf, ReceiverMemory, Drivers, drivers, receiverEnd, receiverMemory, enoughToReceive, freshReader, afterReading, linePast}
+use Rattle.call_theorems.specs.Driver.{Passed, madeOf, ReceiverMemory, Drivers, drivers, receiverEnd, receiverMemory, enoughToReceive, freshReader, afterReading, readerPast, linePast}
 use Rattle.call_theorems.specs.Driver.{readBytes, newVerdict, withTransaction, replyBy, receivedBy, requestTaken, replySent, afterDriver, receiverReads, receives, receiverDrops, receiverStores, replies}
 use Rattle.call_theorems.specs.Driver.{receiverRestores as restoresReceiver, receiverCrashes}
+use Rattle.call_theorems.specs.DriversRun.{repeated, once, allStored, offers, actsOf}
 use Rattle.call_theorems.specs.DriversPromise.{Agrees}
 use Rattle.call_theorems.proofs.Verdicts.{made-again, receives-the-same}
 use Rattle.call_theorems.proofs.OneCall.{over-length}
 use Rattle.call_theorems.proofs.Shows.{SameVerdict, Behind, Shows, over-behind, behind-length}
 use Rattle.call_theorems.proofs.Taking.{Took, brought, read-took}
 use Rattle.call_theorems.proofs.Driving.{Goes, stays, by-act, settings-valid, link-made, fresh-on}
-use Rattle.call_theorems.proofs.SenderDriving.{each-others, each-both, past-through}
+use Rattle.call_theorems.proofs.SenderDriving.{each-others, each-both, repeated-run}
 
 -- ---- the report's words
 three : (o : Received) (p : List ℕ) → 3 ≤ length p → over p (receivedWords o) ≡ receivedWords o ++ drop 3 p
@@ -74,6 +75,25 @@ expected-self : (e : Expected) → sameExpected e e ≡ true
 expected-self Unknown = refl
 expected-self (Next n) = eq-eqb n n refl
 
+-- with no verdict the link's act changes nothing
+nothing-offered : (l : Link) (y : System) (a : Application) (start : ℕ) (b : List ℕ) → y .receiving .arrived ≡ [] → afterAct every l (receiverActs 0 a start b) y ≡ y
+unfolding oneAt othersAt
+nothing-offered l y a start b e = ap (λ (us : List Judged). requestActed every l a start b y (oneAt 0 us) (othersAt 0 us)) e
+
+-- the receiver reads the first bytes on its line, one by one
+requests-repeated : (l : Link) (xs ys : List ℕ) (r : Reader) (s : SendingEnd) (e : ReceivingEnd) (b : Line)
+    → runOf every l (link s e (line r (xs ++ ys)) b) (repeated (length xs) linkReads)
+    ≡ link s (receiving (e .volatile) (e .persisted) (e .pending) (e .arrived ++ run (l .settings) (r .offset) (r .mode) xs)) (line (readerPast (l .settings) r xs) ys) b
+unfolding run readerPast repeated runOf
+requests-repeated l [] ys r s e b = ap (λ (ws : List Judged). link s (receiving (e .volatile) (e .persisted) (e .pending) ws) (line r ys) b) (sym (append-nil (e .arrived)))
+requests-repeated l (x ∷ xs) ys r s e b =
+    let us = readsByte (l .settings) r x .says in
+    let q = readerAfter (l .settings) r x in
+    repeated-run l (length xs) linkReads (link s e (line r (x ∷ xs ++ ys)) b)
+    ∙ requests-repeated l xs ys q s (receiving (e .volatile) (e .persisted) (e .pending) (e .arrived ++ us)) b
+    ∙ ap (λ (ws : List Judged). link s (receiving (e .volatile) (e .persisted) (e .pending) ws) (line (readerPast (l .settings) q xs) ys) b)
+    (append-assoc (e .arrived) us (run (l .settings) (q .offset) (q .mode) xs))
+
 -- a call that is refused changes nothing
 nothing-changed : (x : Drivers) (start : ℕ) (d : List ℕ) (ws : List Shown) (c : Called) → eqb (c .number) 0 ≡ false → receivedBy x start d ws c ≡ x
 nothing-changed x start d ws c e = rw e
@@ -92,14 +112,13 @@ module _ (k : Passed) (ag : Agrees k) (rd : Ready (k .link)) (x : Drivers) (y : 
         let e = y .receiving in
         link (y .sending) (receiving (e .volatile) (e .persisted) (e .pending) (e .arrived ++ brought g u (y .forward))) (linePast g u (y .forward)) (y .back)
 
-    requests-run : Reaches l y readEnd
-    requests-run =
+    requests-run : u ≤ length (y .forward .bytes) → runOf every l y (repeated u linkReads) ≡ readEnd
+    requests-run most =
         let e = y .receiving in
         let b = y .forward in
-        from l (ap (λ (bs : List ℕ). link (y .sending) e (line (b .reader) bs) (y .back)) (take-append-drop u (b .bytes)))
-        (to l (read-requests l (take u (b .bytes)) (drop u (b .bytes)) (b .reader) (y .sending) (e .volatile) (e .persisted) (e .pending) (e .arrived) (y .back))
-        (ap (λ (r : Reader). link (y .sending) (receiving (e .volatile) (e .persisted) (e .pending) (e .arrived ++ brought g u (y .forward))) (line r (drop u (b .bytes))) (y .back))
-        (past-through l (take u (b .bytes)) (b .reader))))
+        ap (λ (n : ℕ). runOf every l y (repeated n linkReads)) (sym (length-take-le u (b .bytes) most))
+        ∙ ap (λ (bs : List ℕ). runOf every l (link (y .sending) e (line (b .reader) bs) (y .back)) (repeated (length (take u (b .bytes))) linkReads)) (sym (take-append-drop u (b .bytes)))
+        ∙ requests-repeated l (take u (b .bytes)) (drop u (b .bytes)) (b .reader) (y .sending) e (y .back)
 
   module _ (n : ℕ) where
     abbrev reading : Called
@@ -133,16 +152,17 @@ module _ (k : Passed) (ag : Agrees k) (rd : Ready (k .link)) (x : Drivers) (y : 
           back = h .back;
         }
 
-    pub receiver-reads-goes : Goes l (afterDriver k (receiverReads n) x) y
+    pub receiver-reads-goes : Goes l (actsOf k (receiverReads n) x) (afterDriver k (receiverReads n) x) y
     receiver-reads-goes = go (eqb (reading .number) 0) refl
       where
-        go : (b : Bool) → eqb (reading .number) 0 ≡ b → Goes l (cond b readBy x) y
+        go : (b : Bool) → eqb (reading .number) 0 ≡ b → Goes l (cond b (repeated used linkReads) []) (cond b readBy x) y
         go false e = stays l x y h
         go true e =
+            let t = read-took g (settings-valid k ag rd) (x .receiver .memory .reader) (x .forward) (h .receiver .reader) n (madeOf (k .numbers)) (ag .settings) e in
             record {
-              end = readEnd used;
-              run = requests-run used;
-              shows = read-shows (read-took g (settings-valid k ag rd) (x .receiver .memory .reader) (x .forward) (h .receiver .reader) n (madeOf (k .numbers)) (ag .settings) e);
+              shows =
+                  subst (Shows l readBy) (sym (requests-run used (subst (λ (z : Line). used ≤ length (z .bytes)) (h .forward) (t .used))))
+                  (read-shows t);
             }
 
   -- ---- a block is offered
@@ -244,30 +264,35 @@ module _ (k : Passed) (ag : Agrees k) (rd : Ready (k .link)) (x : Drivers) (y : 
       unfolding oneAt othersAt
       acted-is = ap (λ (us : List Judged). requestActed every l a start b y (oneAt 0 us) (othersAt 0 us)) queue
 
-      finished-goes : (c : Bool) → eqb (o .answer .refusal) 0 ≡ c → Goes l (receivedBy x start (w .content) ws (cond c doneCall (called (o .answer .refusal) st (o .buffer) p))) y
+      finished-goes : (c : Bool) → eqb (o .answer .refusal) 0 ≡ c → Goes l (receiverActs 0 a start b ∷ []) (receivedBy x start (w .content) ws (cond c doneCall (called (o .answer .refusal) st (o .buffer) p))) y
       finished-goes true z =
           by-act l doneDrivers y (receiverActs 0 a start b) (subst (Shows l doneDrivers) (sym (acted-is ∙ ap (λ (c : Bool). cond c doneEnd y) z)) done-shows)
       finished-goes false z =
-          subst (λ (t : Drivers). Goes l t y) (sym (nothing-changed x start (w .content) ws (called (o .answer .refusal) st (o .buffer) p) z)) (stays l x y h)
+          subst (λ (t : Drivers). Goes l (receiverActs 0 a start b ∷ []) t y) (sym (nothing-changed x start (w .content) ws (called (o .answer .refusal) st (o .buffer) p) z))
+          (by-act l x y (receiverActs 0 a start b) (subst (Shows l x) (sym (acted-is ∙ ap (λ (c : Bool). cond c doneEnd y) z)) h))
 
-      known-goes : applicationFrom application ≡ AnApplication a → Goes l (receivedBy x start (w .content) ws offered) y
-      known-goes q = subst (λ (c : Called). Goes l (receivedBy x start (w .content) ws c) y) (sym (offered-is a q)) (finished-goes (eqb (o .answer .refusal) 0) refl)
+      known-goes : applicationFrom application ≡ AnApplication a → Goes l (receiverActs 0 a start b ∷ []) (receivedBy x start (w .content) ws offered) y
+      known-goes q = subst (λ (c : Called). Goes l (receiverActs 0 a start b ∷ []) (receivedBy x start (w .content) ws c) y) (sym (offered-is a q)) (finished-goes (eqb (o .answer .refusal) 0) refl)
 
-    offered-goes : (z : ApplicationMade) → applicationFrom application ≡ z → Goes l (receivedBy x start (w .content) ws offered) y
-    offered-goes NoApplication q = subst (λ (c : Called). Goes l (receivedBy x start (w .content) ws c) y) (sym (none-is q)) (stays l x y h)
+    offered-goes : (z : ApplicationMade) → applicationFrom application ≡ z → Goes l (offers z start x) (receivedBy x start (w .content) ws offered) y
+    offered-goes NoApplication q = subst (λ (c : Called). Goes l [] (receivedBy x start (w .content) ws c) y) (sym (none-is q)) (stays l x y h)
     offered-goes (AnApplication a) q = known-goes a q
 
-  pub receives-goes : (application start : ℕ) → Goes l (afterDriver k (receives application start) x) y
+  pub receives-goes : (application start : ℕ) → Goes l (actsOf k (receives application start) x) (afterDriver k (receives application start) x) y
   receives-goes application start = go (x .receiver .arrived) (h .receiver .arrived)
     where
-      first : (w : Shown) (ws : List Shown) → Front (SameVerdict g) w ws (y .receiving .arrived) → Goes l (requestTaken k application start x (w ∷ ws)) y
+      none : (z : ApplicationMade) (vs : List Judged) → y .receiving .arrived ≡ vs → Each (SameVerdict g) [] vs → Goes l (offers z start x) x y
+      none NoApplication vs q each-none = stays l x y h
+      none (AnApplication a) vs q each-none = by-act l x y (receiverActs 0 a start (x .receiver .memory .reply)) (subst (Shows l x) (sym (nothing-offered l y a start (x .receiver .memory .reply) q)) h)
+
+      first : (w : Shown) (ws : List Shown) → Front (SameVerdict g) w ws (y .receiving .arrived) → Goes l (offers (applicationFrom application) start x) (requestTaken k application start x (w ∷ ws)) y
       first w ws (front v vs q is rest) = offered-goes application start w ws v vs q is rest (applicationFrom application) refl
 
-      go : (ws : List Shown) → Each (SameVerdict g) ws (y .receiving .arrived) → Goes l (requestTaken k application start x ws) y
-      go [] e = stays l x y h
+      go : (ws : List Shown) → Each (SameVerdict g) ws (y .receiving .arrived) → Goes l (offers (applicationFrom application) start x) (requestTaken k application start x ws) y
+      go [] e = none (applicationFrom application) (y .receiving .arrived) refl e
       go (w ∷ ws) e = first w ws (each-front e)
 
-  pub receiver-drops-goes : (n : ℕ) → Goes l (afterDriver k (receiverDrops n) x) y
+  pub receiver-drops-goes : (n : ℕ) → Goes l (receiverDiscards n ∷ []) (afterDriver k (receiverDrops n) x) y
   receiver-drops-goes n =
       by-act l (afterDriver k (receiverDrops n) x) y (receiverDiscards n)
       (record {
@@ -287,7 +312,7 @@ module _ (k : Passed) (ag : Agrees k) (rd : Ready (k .link)) (x : Drivers) (y : 
       })
 
   -- ---- storing, and going on from what is stored
-  pub receiver-stores-goes : Goes l (afterDriver k receiverStores x) y
+  pub receiver-stores-goes : Goes l (receiverPersists ∷ []) (afterDriver k receiverStores x) y
   receiver-stores-goes =
       by-act l (afterDriver k receiverStores x) y receiverPersists
       (record {
@@ -311,7 +336,7 @@ module _ (k : Passed) (ag : Agrees k) (rd : Ready (k .link)) (x : Drivers) (y : 
       subst (λ (d : List ℕ). Behind (expectedWord (y .receiving .persisted .expected) ∷ []) (over s d)) (sym (h .receiver .stored))
       (over-behind (expectedWord (y .receiving .persisted .expected) ∷ []) s m)
 
-  pub receiver-restores-goes : Goes l (afterDriver k restoresReceiver x) y
+  pub receiver-restores-goes : Goes l (receiverRestores ∷ []) (afterDriver k restoresReceiver x) y
   receiver-restores-goes =
       by-act l (afterDriver k restoresReceiver x) y receiverRestores
       (record {
@@ -331,11 +356,11 @@ module _ (k : Passed) (ag : Agrees k) (rd : Ready (k .link)) (x : Drivers) (y : 
       })
 
   -- ---- a crash: the memory is new
-  pub receiver-crashes-goes : (m : ReceiverMemory) → Goes l (afterDriver k (receiverCrashes m) x) y
+  pub receiver-crashes-goes : (m : ReceiverMemory) → Goes l (actsOf k (receiverCrashes m) x) (afterDriver k (receiverCrashes m) x) y
   receiver-crashes-goes m = go (enoughToReceive g m) refl
     where
       go : (b : Bool) → enoughToReceive g m ≡ b
-          → Goes l (cond b (drivers (x .sender) (receiverEnd (receiverMemory (over (m .state) (x .receiver .stored)) (m .report) (freshReader (m .reader)) (m .reply)) (x .receiver .«stored_has»)
+          → Goes l (once b endCrashes) (cond b (drivers (x .sender) (receiverEnd (receiverMemory (over (m .state) (x .receiver .stored)) (m .report) (freshReader (m .reader)) (m .reply)) (x .receiver .«stored_has»)
           (x .receiver .stored) (x .receiver .«stored_has») [] []) emptyLine (line (x .back .reader) [])) x) y
       go false e = stays l x y h
       go true e =
@@ -432,14 +457,19 @@ module _ (k : Passed) (ag : Agrees k) (rd : Ready (k .link)) (x : Drivers) (y : 
     written-is : sameStored (y .receiving .volatile) (y .receiving .persisted) ≡ true → afterAct every l receiverWrites y ≡ repliedEnd
     written-is s = ap (replyWritten every y) (sym (h .receiver .pending) ∙ queue) ∙ ap (λ (c : Bool). cond c repliedEnd y) s
 
-    one-replied : (c : Bool) → (words && transactions) ≡ c → Goes l (cond c replied x) y
+    one-replied : (c : Bool) → (words && transactions) ≡ c → Goes l (once c receiverWrites) (cond c replied x) y
     one-replied false e = stays l x y h
     one-replied true e =
         by-act l replied y receiverWrites (subst (Shows l replied) (sym (written-is (stored-same (and-left words transactions e) (and-right words transactions e)))) replied-shows)
 
-  pub replies-goes : Goes l (afterDriver k replies x) y
+  pub replies-goes : Goes l (actsOf k replies x) (afterDriver k replies x) y
   replies-goes = go (x .receiver .pending) refl
     where
-      go : (bs : List (List ℕ)) → x .receiver .pending ≡ bs → Goes l (replySent x bs) y
-      go [] e = stays l x y h
+      -- with no reply the link's act changes nothing
+      none : (c : Bool) → x .receiver .pending ≡ [] → Goes l (once c receiverWrites) x y
+      none false e = stays l x y h
+      none true e = by-act l x y receiverWrites (subst (Shows l x) (sym (ap (replyWritten every y) (sym (h .receiver .pending) ∙ e))) h)
+
+      go : (bs : List (List ℕ)) → x .receiver .pending ≡ bs → Goes l (once (allStored x) receiverWrites) (replySent x bs) y
+      go [] e = none (allStored x) e
       go (b ∷ bs) e = one-replied b bs e (words b bs e && transactions b bs e) refl

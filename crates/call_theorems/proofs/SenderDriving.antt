@@ -1,11 +1,12 @@
 -- The sender's driver sends, reads, acts on verdicts and crashes: each is a run of the link.
 use mathlib.Core.Path.{_≡_, refl, sym, ap, _∙_, subst}
-use mathlib.Core.List.{List, [], _∷_, _++_}
+use mathlib.Core.List.{List, [], _∷_, _++_, append-assoc, append-nil}
 use mathlib.Core.Bool.{Bool, true, false, cond, _&&_}
-use Prim.Native.Nat.{ℕ, zero, suc}
+use Prim.Native.Nat.{ℕ, zero, suc, _≤_}
 use Prim.Native.Char.{code}
 use native.Mathlib.Omega.{arith}
 use lib.ListN.{length, take, drop, getD, take-append-drop}
+use lib.Seq.{length-take-le}
 use lib.Dec.{leb, eqb}
 use borrow.Author.Tests.{leb-true, eq-eqb}
 use Rattle.lists.specs.Bytes.{same, over}
@@ -16,23 +17,24 @@ use Rattle.settings.specs.Settings.{capacityOf}
 use Rattle.settings.specs.declared.Settings.{Settings}
 use Rattle.block.specs.Format.{blockOf}
 use Rattle.numbers.specs.declared.SequenceNumber.{SequenceNumber}
-use Rattle.stream.specs.Stream.{Judged}
+use Rattle.stream.specs.Stream.{Judged, run}
 use Rattle.sender.specs.Sender.{blockReadOf}
 use Rattle.sender.specs.declared.Persisted.{Persisted}
 use Rattle.sender_calls.specs.SenderCalls.{flagWord, persistedWords, blockCall}
 use Rattle.link.specs.Duties.{every, oneAt, othersAt}
-use Rattle.link.specs.Line.{Reader, Line, line, emptyLine, readerAfter}
-use Rattle.link.specs.System.{Link, System, sending, link, requestOf, sameFlag, samePersisted, requestWritten, answerTaken, senderActed}
-use Rattle.link.specs.System.{senderWrites, senderActs, senderDiscards, senderCrashes, afterAct}
+use Rattle.link.specs.Line.{Reader, Line, line, emptyLine, readsByte, readerAfter}
+use Rattle.link.specs.System.{Link, System, SendingEnd, ReceivingEnd, SystemAct, sending, link, requestOf, sameFlag, samePersisted, requestWritten, answerTaken, senderActed}
+use Rattle.link.specs.System.{senderWrites, senderActs, senderDiscards, senderCrashes, senderReads, afterAct, runOf}
 use Rattle.link.specs.Promise.{Ready}
 use Rattle.link.proofs.Queues.{All, all-head, all-right, Each, each-none, each-more, Front, front, each-front}
 use Rattle.link.proofs.Messages.{Nameable, request-writable}
 use Rattle.link.proofs.RequestsRead.{all-nameable}
 use Rattle.link.proofs.Invariant.{Inv}
-use Rattle.link.proofs.Runs.{Reaches, to, from, read-answers, readerThrough}
+use Rattle.link.proofs.Runs.{run-join}
 use Rattle.call_theorems.specs.Reading.{Shown, shown, usedBytes}
 use Rattle.call_theorems.specs.Driver.{Passed, madeOf, Named, SenderMemory, Drivers, drivers, senderEnd, senderMemory, enoughToSend, readerPast, linePast, afterReading, freshReader}
 use Rattle.call_theorems.specs.Driver.{readBytes, newVerdict, blockOfNamed, oldestSent, verdictTaken, bySender, afterDriver, sends, reads, takes, drops, crashes}
+use Rattle.call_theorems.specs.DriversRun.{repeated, once, goesOut, actsOf}
 use Rattle.call_theorems.specs.DriversPromise.{Agrees}
 use Rattle.call_theorems.proofs.Shows.{SameSend, SameVerdict, Shows}
 use Rattle.call_theorems.proofs.Acting.{block-does}
@@ -74,10 +76,29 @@ pub each-both : {A B : Type 0} {R : A → B → Type 0} {xs us : List A} {ys vs 
 each-both each-none q = q
 each-both (each-more p ps) q = each-more p (each-both ps q)
 
-pub past-through : (l : Link) (xs : List ℕ) (r : Reader) → readerThrough l r xs ≡ readerPast (l .settings) r xs
-unfolding readerPast
-past-through l [] r = refl
-past-through l (x ∷ xs) r = past-through l xs (readerAfter (l .settings) r x)
+-- the sender reads the first bytes on its line, one by one
+repeated-end : (n : ℕ) (a : SystemAct) → repeated (suc n) a ≡ repeated n a ++ a ∷ []
+unfolding repeated
+repeated-end zero a = refl
+repeated-end (suc n) a = ap (λ (ds : List SystemAct). a ∷ ds) (repeated-end n a)
+
+pub repeated-run : (l : Link) (n : ℕ) (a : SystemAct) (y : System) → runOf every l y (repeated (suc n) a) ≡ runOf every l (afterAct every l a y) (repeated n a)
+unfolding runOf
+repeated-run l n a y = ap (runOf every l y) (repeated-end n a) ∙ run-join l y (a ∷ []) (repeated n a)
+
+answers-repeated : (l : Link) (xs ys : List ℕ) (r : Reader) (e : SendingEnd) (v : ReceivingEnd) (b : Line)
+    → runOf every l (link e v b (line r (xs ++ ys))) (repeated (length xs) senderReads)
+    ≡ link (sending (e .sender) (e .persisted) (e .named) (e .arrived ++ run (l .settings) (r .offset) (r .mode) xs) (e .history)) v b (line (readerPast (l .settings) r xs) ys)
+unfolding run readerPast repeated runOf
+answers-repeated l [] ys r e v b =
+    ap (λ (ws : List Judged). link (sending (e .sender) (e .persisted) (e .named) ws (e .history)) v b (line r ys)) (sym (append-nil (e .arrived)))
+answers-repeated l (x ∷ xs) ys r e v b =
+    let us = readsByte (l .settings) r x .says in
+    let q = readerAfter (l .settings) r x in
+    repeated-run l (length xs) senderReads (link e v b (line r (x ∷ xs ++ ys)))
+    ∙ answers-repeated l xs ys q (sending (e .sender) (e .persisted) (e .named) (e .arrived ++ us) (e .history)) v b
+    ∙ ap (λ (ws : List Judged). link (sending (e .sender) (e .persisted) (e .named) ws (e .history)) v b (line (readerPast (l .settings) q xs) ys))
+    (append-assoc (e .arrived) us (run (l .settings) (q .offset) (q .mode) xs))
 
 module _ (k : Passed) (ag : Agrees k) (rd : Ready (k .link)) (x : Drivers) (y : System) (i : Inv (k .link) y) (h : Shows (k .link) x y) where
   abbrev l : Link
@@ -132,7 +153,7 @@ module _ (k : Passed) (ag : Agrees k) (rd : Ready (k .link)) (x : Drivers) (y : 
           back = h .back;
         }
 
-    one-sent : (b : Bool) → (eqb (call .number) 0 && same (take 5 (x .sender .memory .state)) (x .sender .stored)) ≡ b → Goes l (cond b sent x) y
+    one-sent : (b : Bool) → (eqb (call .number) 0 && same (take 5 (x .sender .memory .state)) (x .sender .stored)) ≡ b → Goes l (once b (senderWrites 0)) (cond b sent x) y
     one-sent false e = stays l x y h
     one-sent true e =
         let done = and-left (eqb (call .number) 0) (same (take 5 (x .sender .memory .state)) (x .sender .stored)) e in
@@ -140,13 +161,13 @@ module _ (k : Passed) (ag : Agrees k) (rd : Ready (k .link)) (x : Drivers) (y : 
         let kept = words-same (y .sending .sender .persisted) (y .sending .persisted) (sym (ap (take 5) (h .sender .state .is)) ∙ words ∙ h .sender .stored) in
         by-act l sent y (senderWrites 0) (subst (Shows l sent) (sym (written-is kept)) (sent-shows done))
 
-  pub sends-goes : (start : ℕ) → Goes l (afterDriver k (sends start) x) y
+  pub sends-goes : (start : ℕ) → Goes l (actsOf k (sends start) x) (afterDriver k (sends start) x) y
   sends-goes start = go (x .sender .named) (h .sender .named)
     where
-      named : (n : Named) (ns : List Named) → Front SameSend n ns (y .sending .named) → Goes l (oldestSent k start x (n ∷ ns)) y
+      named : (n : Named) (ns : List Named) → Front SameSend n ns (y .sending .named) → Goes l (once (goesOut k start x (n ∷ ns)) (senderWrites 0)) (oldestSent k start x (n ∷ ns)) y
       named n ns (front v vs q is rest) = one-sent start n ns v vs q is rest (eqb (blockOfNamed k start (x .sender .memory) n .number) 0 && same (take 5 (x .sender .memory .state)) (x .sender .stored)) refl
 
-      go : (ns : List Named) → Each SameSend ns (y .sending .named) → Goes l (oldestSent k start x ns) y
+      go : (ns : List Named) → Each SameSend ns (y .sending .named) → Goes l (once (goesOut k start x ns) (senderWrites 0)) (oldestSent k start x ns) y
       go [] e = stays l x y h
       go (n ∷ ns) e = named n ns (each-front e)
 
@@ -157,14 +178,13 @@ module _ (k : Passed) (ag : Agrees k) (rd : Ready (k .link)) (x : Drivers) (y : 
         let e = y .sending in
         link (sending (e .sender) (e .persisted) (e .named) (e .arrived ++ brought g u (y .back)) (e .history)) (y .receiving) (y .forward) (linePast g u (y .back))
 
-    answers-run : Reaches l y readEnd
-    answers-run =
+    answers-run : u ≤ length (y .back .bytes) → runOf every l y (repeated u senderReads) ≡ readEnd
+    answers-run most =
         let e = y .sending in
         let b = y .back in
-        from l (ap (λ (bs : List ℕ). link e (y .receiving) (y .forward) (line (b .reader) bs)) (take-append-drop u (b .bytes)))
-        (to l (read-answers l (take u (b .bytes)) (drop u (b .bytes)) (b .reader) (e .sender) (e .persisted) (e .named) (e .arrived) (e .history) (y .receiving) (y .forward))
-        (ap (λ (r : Reader). link (sending (e .sender) (e .persisted) (e .named) (e .arrived ++ brought g u (y .back)) (e .history)) (y .receiving) (y .forward) (line r (drop u (b .bytes))))
-        (past-through l (take u (b .bytes)) (b .reader))))
+        ap (λ (n : ℕ). runOf every l y (repeated n senderReads)) (sym (length-take-le u (b .bytes) most))
+        ∙ ap (λ (bs : List ℕ). runOf every l (link e (y .receiving) (y .forward) (line (b .reader) bs)) (repeated (length (take u (b .bytes))) senderReads)) (sym (take-append-drop u (b .bytes)))
+        ∙ answers-repeated l (take u (b .bytes)) (drop u (b .bytes)) (b .reader) e (y .receiving) (y .forward)
 
   module _ (n : ℕ) where
     abbrev reading : Called
@@ -196,27 +216,28 @@ module _ (k : Passed) (ag : Agrees k) (rd : Ready (k .link)) (x : Drivers) (y : 
           back = ap (linePast g used) (h .back);
         }
 
-    pub reads-goes : Goes l (afterDriver k (reads n) x) y
+    pub reads-goes : Goes l (actsOf k (reads n) x) (afterDriver k (reads n) x) y
     reads-goes = go (eqb (reading .number) 0) refl
       where
-        go : (b : Bool) → eqb (reading .number) 0 ≡ b → Goes l (cond b readBy x) y
+        go : (b : Bool) → eqb (reading .number) 0 ≡ b → Goes l (cond b (repeated used senderReads) []) (cond b readBy x) y
         go false e = stays l x y h
         go true e =
+            let t = read-took g (settings-valid k ag rd) (x .sender .memory .reader) (x .back) (h .sender .reader) n (madeOf (k .numbers)) (ag .settings) e in
             record {
-              end = readEnd used;
-              run = answers-run used;
-              shows = read-shows (read-took g (settings-valid k ag rd) (x .sender .memory .reader) (x .back) (h .sender .reader) n (madeOf (k .numbers)) (ag .settings) e);
+              shows =
+                  subst (Shows l readBy) (sym (answers-run used (subst (λ (z : Line). used ≤ length (z .bytes)) (h .back) (t .used))))
+                  (read-shows t);
             }
 
   -- ---- acting on a verdict
-  pub takes-goes : (n : ℕ) → Goes l (afterDriver k (takes n) x) y
+  pub takes-goes : (n : ℕ) → Goes l (senderActs n ∷ []) (afterDriver k (takes n) x) y
   takes-goes n = go (oneAt n (x .sender .arrived)) (oneAt n (y .sending .arrived)) refl (each-one n (h .sender .arrived))
     where
       by : (vs : List Judged) → oneAt n (y .sending .arrived) ≡ vs → afterAct every l (senderActs n) y ≡ answerTaken l y vs (othersAt n (y .sending .arrived))
       by vs e = ap (λ (us : List Judged). answerTaken l y us (othersAt n (y .sending .arrived))) e
 
-      go : (ws : List Shown) (vs : List Judged) → oneAt n (y .sending .arrived) ≡ vs → Each (SameVerdict g) ws vs → Goes l (verdictTaken k x ws (othersAt n (x .sender .arrived))) y
-      go [] vs e each-none = stays l x y h
+      go : (ws : List Shown) (vs : List Judged) → oneAt n (y .sending .arrived) ≡ vs → Each (SameVerdict g) ws vs → Goes l (senderActs n ∷ []) (verdictTaken k x ws (othersAt n (x .sender .arrived))) y
+      go [] vs e each-none = by-act l x y (senderActs n) (subst (Shows l x) (sym (by [] e)) h)
       go (w ∷ ws) (v ∷ vs) e (each-more p ps) =
           let s = y .sending .sender in
           let st = x .sender .memory .state in
@@ -229,7 +250,7 @@ module _ (k : Passed) (ag : Agrees k) (rd : Ready (k .link)) (x : Drivers) (y : 
           (block-does s (i .ends .valid) st r (h .sender .state) (h .sender .report) (l .resends) (rd .resends) (v .verdict) (v .content) (p .given))
           (each-others n (h .sender .arrived)))))
 
-  pub drops-goes : (n : ℕ) → Goes l (afterDriver k (drops n) x) y
+  pub drops-goes : (n : ℕ) → Goes l (senderDiscards n ∷ []) (afterDriver k (drops n) x) y
   drops-goes n =
       by-act l (afterDriver k (drops n) x) y (senderDiscards n)
       (record {
@@ -247,11 +268,11 @@ module _ (k : Passed) (ag : Agrees k) (rd : Ready (k .link)) (x : Drivers) (y : 
       })
 
   -- ---- a crash: the memory is new
-  pub crashes-goes : (m : SenderMemory) → Goes l (afterDriver k (crashes m) x) y
+  pub crashes-goes : (m : SenderMemory) → Goes l (actsOf k (crashes m) x) (afterDriver k (crashes m) x) y
   crashes-goes m = go (enoughToSend g m) refl
     where
       go : (b : Bool) → enoughToSend g m ≡ b
-          → Goes l (cond b (drivers (senderEnd (senderMemory (over (m .state) (x .sender .stored ++ 0 ∷ 0 ∷ [])) (m .report) (freshReader (m .reader)) (m .block) (m .written)) (x .sender .stored) [] []) (x .receiver)
+          → Goes l (once b senderCrashes) (cond b (drivers (senderEnd (senderMemory (over (m .state) (x .sender .stored ++ 0 ∷ 0 ∷ [])) (m .report) (freshReader (m .reader)) (m .block) (m .written)) (x .sender .stored) [] []) (x .receiver)
           (line (x .forward .reader) []) emptyLine) x) y
       go false e = stays l x y h
       go true e =

@@ -1,4 +1,5 @@
 pub mod Verdicts
 pub mod Reading
 pub mod Driver
+pub mod DriversRun
 pub mod DriversPromise

@@ -16,7 +16,7 @@ pub record Reaches (l : Link) (y z : System) : Type 0 where
   pub arrives : runOf every l y acts ≡ z
 
 module _ (l : Link) where
-  run-join : (x : System) (a b : List SystemAct) → runOf every l x (b ++ a) ≡ runOf every l (runOf every l x a) b
+  pub run-join : (x : System) (a b : List SystemAct) → runOf every l x (b ++ a) ≡ runOf every l (runOf every l x a) b
   unfolding runOf
   run-join x a [] = refl
   run-join x a (d ∷ b) = ap (afterAct every l d) (run-join x a b)

@@ -1,0 +1,70 @@
+-- Which acts of the link an act of the drivers is.
+use mathlib.Core.List.{List, [], _∷_, _++_}
+use mathlib.Core.Bool.{Bool, false, cond, _&&_}
+use Prim.Native.Nat.{ℕ, zero, suc}
+use lib.ListN.{length, take}
+use lib.Dec.{eqb}
+use Rattle.lists.specs.Bytes.{same}
+use Rattle.lists.specs.Outcome.{Called}
+use Rattle.receiver_calls.specs.ReceiverCalls.{applicationFrom}
+use Rattle.receiver_calls.specs.declared.ApplicationMade.{ApplicationMade}
+use Rattle.receiver_calls.specs.declared.ApplicationMade.the-variants.{Unknown, Known}
+use Rattle.link.specs.System.{SystemAct, opens as linkOpens, ends as linkEnds, resets as linkResets, timer as linkTimer, submits as linkSubmits, senderPersists, senderWrites, senderReads}
+use Rattle.link.specs.System.{senderActs, senderDiscards, senderRestores, senderCrashes, receiverReads as linkReceiverReads, receiverActs, receiverDiscards, receiverPersists, receiverWrites}
+use Rattle.link.specs.System.{receiverRestores as linkReceiverRestores, receiverCrashes as linkReceiverCrashes, damagesForward as linkDamagesForward, damagesBack as linkDamagesBack}
+use Rattle.call_theorems.specs.Reading.{usedBytes}
+use Rattle.call_theorems.specs.Driver.{Passed, Named, Drivers, DriverAct, readBytes, blockOfNamed, enoughToSend, enoughToReceive, drivenBy}
+use Rattle.call_theorems.specs.Driver.{opens, ends, resets, timer, submits, stores, restores, receiverStores, receiverRestores, replies, sends, reads, takes, drops, receiverReads, receiverDrops}
+use Rattle.call_theorems.specs.Driver.{receives, crashes, receiverCrashes, damagesForward, damagesBack}
+
+unfoldable pub repeated : ℕ → SystemAct → List SystemAct
+repeated zero a = []
+repeated (suc n) a = a ∷ repeated n a
+
+abbrev pub once : Bool → SystemAct → List SystemAct
+once b a = cond b (a ∷ []) []
+
+-- each byte that a call used
+abbrev pub readings : Called → SystemAct → List SystemAct
+readings c a = cond (eqb (c .number) 0) (repeated (usedBytes c) a) []
+
+-- whether the oldest message named goes out
+abbrev pub goesOut : Passed → ℕ → Drivers → List Named → Bool
+goesOut k start x [] = false
+goesOut k start x (v ∷ ns) = eqb (blockOfNamed k start (x .sender .memory) v .number) 0 && same (take 5 (x .sender .memory .state)) (x .sender .stored)
+
+-- whether what the receiver holds is stored
+abbrev pub allStored : Drivers → Bool
+allStored x = same (take 1 (x .receiver .memory .state)) (x .receiver .stored) && eqb (length (x .receiver .has)) (length (x .receiver .«stored_has»))
+
+abbrev pub offers : ApplicationMade → ℕ → Drivers → List SystemAct
+offers Unknown start x = []
+offers (Known a) start x = receiverActs 0 a start (x .receiver .memory .reply) ∷ []
+
+abbrev pub actsOf : Passed → DriverAct → Drivers → List SystemAct
+actsOf k opens x = linkOpens ∷ []
+actsOf k ends x = linkEnds ∷ []
+actsOf k resets x = linkResets ∷ []
+actsOf k timer x = linkTimer ∷ []
+actsOf k (submits limit d) x = linkSubmits limit d ∷ []
+actsOf k stores x = senderPersists ∷ []
+actsOf k restores x = senderRestores ∷ []
+actsOf k (sends start) x = once (goesOut k start x (x .sender .named)) (senderWrites 0)
+actsOf k (reads n) x = readings (readBytes (k .numbers) n (x .sender .memory .reader) (x .back)) senderReads
+actsOf k (takes n) x = senderActs n ∷ []
+actsOf k (drops n) x = senderDiscards n ∷ []
+actsOf k (crashes m) x = once (enoughToSend (k .link .settings) m) senderCrashes
+actsOf k (receiverReads n) x = readings (readBytes (k .numbers) n (x .receiver .memory .reader) (x .forward)) linkReceiverReads
+actsOf k (receives application start) x = offers (applicationFrom application) start x
+actsOf k (receiverDrops n) x = receiverDiscards n ∷ []
+actsOf k receiverStores x = receiverPersists ∷ []
+actsOf k replies x = once (allStored x) receiverWrites
+actsOf k receiverRestores x = linkReceiverRestores ∷ []
+actsOf k (receiverCrashes m) x = once (enoughToReceive (k .link .settings) m) linkReceiverCrashes
+actsOf k (damagesForward xs) x = linkDamagesForward xs ∷ []
+actsOf k (damagesBack xs) x = linkDamagesBack xs ∷ []
+
+-- the run of the link that a run of the drivers is
+unfoldable pub linkRun : Passed → Drivers → List DriverAct → List SystemAct
+linkRun k x [] = []
+linkRun k x (a ∷ ds) = actsOf k a (drivenBy k x ds) ++ linkRun k x ds
