@@ -2,7 +2,9 @@
 use mathlib.Core.Path.{_≡_, refl, sym, ap, _∙_, subst}
 use mathlib.Core.List.{List, [], _∷_}
 use mathlib.Core.Bool.{Bool, true, false, cond, _&&_}
-use Prim.Native.Nat.{ℕ, _≤_}
+use mathlib.Core.Logic.{_⊎_, inl, inr}
+use Prim.Native.Nat.{ℕ, _+_, _≤_}
+use Prim.Native.Char.{code}
 use lib.ListN.{length, take, getD}
 use lib.Dec.{leb, eqb}
 use borrow.Author.Tests.{le-leb, leb-true, eqb-true}
@@ -10,27 +12,41 @@ use Rattle.lists.specs.Bytes.{over}
 use Rattle.lists.proofs.Tests.{and-left, and-right}
 use Rattle.settings.specs.Settings.{capacityOf}
 use Rattle.settings.specs.declared.Settings.{Settings}
+use Rattle.refusal.specs.declared.Verdict.the-variants.{Accepted}
+use Rattle.fields.specs.Fields.{bytesOf}
+use Rattle.numbers.specs.Numbers.{textOf}
+use Rattle.numbers.specs.declared.SequenceNumber.{SequenceNumber}
+use Rattle.numbers.specs.declared.SequenceNumber.the-variants.{Number}
+use Rattle.header.specs.Header.{answerField}
+use Rattle.stream.specs.Stream.{Judged}
 use Rattle.receiver.specs.Receiver.{validExpected}
 use Rattle.receiver.specs.declared.Expected.{Expected}
 use Rattle.receiver.specs.declared.Expected.the-variants.{Unknown, Next}
 use Rattle.receiver_calls.specs.ReceiverCalls.{expectedWord, expectedFrom}
-use Rattle.sender.specs.Sender.{freshSender, senderOf}
-use Rattle.sender_calls.specs.SenderCalls.{flagWord, senderWords, freshCall}
-use Rattle.link.specs.Duties.{every}
+use Rattle.sender.specs.Sender.{validSender, waitsOf, freshSender, senderOf}
+use Rattle.sender.specs.declared.Waiting.the-variants.{Sending}
+use Rattle.sender.specs.declared.Sender.{Sender}
+use Rattle.sender.specs.declared.NumberedMessage.the-variants.{Numbered}
+use Rattle.sender_calls.specs.SenderCalls.{flagWord, senderWords, sendWords, freshCall}
+use Rattle.link.specs.Duties.{every, oneAt}
+use Rattle.link.specs.SenderActs.{actOf}
 use Rattle.link.specs.Line.{Line, line, emptyLine, damages, disorders}
-use Rattle.link.specs.System.{Link, System, link, startOf, SystemAct, damagesForward as linkDamagesForward, damagesBack as linkDamagesBack, runOf}
+use Rattle.link.specs.System.{Link, System, nothingLeft, link, startOf, SystemAct, damagesForward as linkDamagesForward, damagesBack as linkDamagesBack, runOf}
 use Rattle.link.specs.Promise.{Ready, Safe, Covers}
 use Rattle.link.proofs.Queues.{each-none}
-use Rattle.link.proofs.Safety.{run-keeps, safety}
+use Rattle.link.proofs.Safety.{none-left, run-keeps, safety}
+use Rattle.link.proofs.Reports.{reports, sends-at-once, abandons-exactly}
+use Rattle.link.proofs.Delivery.{answer-moves}
 use Rattle.link.proofs.Invariant.{Inv}
 use Rattle.link.proofs.Runs.{run-join}
 use Rattle.call_theorems.specs.Driver.{Passed, ReaderMemory, SenderMemory, ReceiverMemory, Drivers, drivers, freshReader, enoughToSend, enoughToReceive, DriverAct, afterDriver, drivenBy, tenancyOf}
 use Rattle.call_theorems.specs.Driver.{opens, ends, resets, timer, submits, stores, restores, receiverStores, receiverRestores, replies, sends, reads, takes, drops, receiverReads, receiverDrops}
 use Rattle.call_theorems.specs.Driver.{receives, crashes, receiverCrashes, damagesForward, damagesBack}
 use Rattle.call_theorems.specs.DriversRun.{actsOf, linkRun}
-use Rattle.call_theorems.specs.DriversPromise.{Agrees, DriversSafe}
+use Rattle.call_theorems.specs.DriversPromise.{Agrees, DriversSafe, deliveredWord, SenderCall, calledBy, actBy, Offered, sendWordsOf, Tells}
 use Rattle.call_theorems.proofs.Shows.{Behind, StandsOn, Shows, over-behind}
 use Rattle.call_theorems.proofs.Driving.{Goes, stays, by-act, fresh-on, opens-goes, ends-goes, resets-goes, timer-goes, submits-goes, stores-goes, restores-goes}
+use Rattle.call_theorems.proofs.Telling.{call-told, due-resends}
 use Rattle.call_theorems.proofs.SenderDriving.{sends-goes, reads-goes, takes-goes, drops-goes, crashes-goes}
 use Rattle.call_theorems.proofs.ReceiverDriving.{receiver-reads-goes, receives-goes, receiver-drops-goes, receiver-stores-goes, receiver-restores-goes, receiver-crashes-goes, replies-goes}
 
@@ -230,3 +246,43 @@ module _ (k : Passed) (ag : Agrees k) (rd : Ready (k .link)) where
           unfrozen = ap (λ (ws : List ℕ). getD ws 4 0) (h .sender .state .is) ∙ ap flagWord (f .unfrozen);
           stored-unfrozen = ap (λ (ws : List ℕ). getD ws 4 0) (h .sender .stored) ∙ ap flagWord (f .persisted-unfrozen);
         }
+
+    -- ---- what the sender's calls tell, after any run
+    module _ (ds : List DriverAct) where
+      abbrev x : Drivers
+      x = drivenBy k begun ds
+
+      abbrev s : Sender
+      s = linkEnd ds .sending .sender
+
+      sender-valid : validSender (linkEnd ds .sending .sender) ≡ true
+      sender-valid = run-keeps l rd e state (linkRun k begun ds) .ends .valid
+
+      pub calls-tell : (q : SenderCall) → Offered (x .sender .arrived) q → eqb (calledBy k (x .sender .memory) q .number) 0 ≡ true
+          → Tells k (linkEnd ds .sending .sender) (linkEnd ds .sending .history) q (calledBy k (x .sender .memory) q)
+      calls-tell q o done =
+          let t = call-told k rd (drivenBy k begun ds) (linkEnd ds) sender-valid (calls-run ds) q o done in
+          let run = linkRun k begun ds in
+          record {
+            sends = t .sends ∙ reports l rd nothingLeft none-left e state run (actBy k q);
+            abandons = t .abandons ∙ abandons-exactly l rd nothingLeft none-left e state run (actBy k q) (due-resends k q);
+            at-once = λ m w. named m (t .send) (sends-at-once l rd nothingLeft none-left e state run (actBy k q) m w);
+          }
+        where
+          named : (m : SequenceNumber) → sendWordsOf (calledBy k (x .sender .memory) q) ≡ sendWords (actOf (actBy k q) s .send)
+              → (actOf (actBy k q) s .send ≡ Numbered m) ⊎ (waitsOf s ≡ Numbered m)
+              → (sendWordsOf (calledBy k (x .sender .memory) q) ≡ sendWords (Numbered m)) ⊎ (waitsOf s ≡ Numbered m)
+          named m is (inl z) = inl (is ∙ ap sendWords z)
+          named m is (inr z) = inr z
+
+      -- "An intact answer to the waiting transaction, read before that, moves the mark.": the driver acts on a data block whose MSA-2 is the number of the transaction that waits
+      module _ (i : ℕ) (j : Judged) (vs : List Judged) (arrived : oneAt i (linkEnd ds .sending .arrived) ≡ j ∷ vs) (size : ℕ) (is : j .verdict ≡ Accepted (code "D") size)
+          (waits : linkEnd ds .sending .sender .waiting ≡ Sending)
+          (own : bytesOf (answerField 2 (j .content)) (j .content) ≡ textOf (Number (deliveredWord (drivenBy k begun ds .sender .memory .state) + 1))) where
+        pub calls-move : deliveredWord (drivenBy k begun (takes i ∷ ds) .sender .memory .state) ≡ deliveredWord (drivenBy k begun ds .sender .memory .state) + 1
+        unfolding linkRun
+        calls-move =
+            let held = ap (λ (ws : List ℕ). getD ws 1 0) (calls-run ds .sender .state .is) in
+            ap (λ (ws : List ℕ). getD ws 1 0) (calls-run (takes i ∷ ds) .sender .state .is)
+            ∙ answer-moves l rd nothingLeft none-left e state (linkRun k begun ds) i j vs arrived size is waits (own ∙ ap (λ (d : ℕ). textOf (Number (d + 1))) held)
+            ∙ ap (λ (d : ℕ). d + 1) (sym held)

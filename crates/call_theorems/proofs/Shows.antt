@@ -90,7 +90,7 @@ pub data Does (s : Sender) (st p : List ℕ) (a : Acted) (c : Called) : Type 0 w
   refused : leb 1 (a .refusal) ≡ true → c .number ≡ a .refusal → c .state ≡ st → length (c .report) ≡ length p → a .sender ≡ s → a .send ≡ Nothing → Does s st p a c
 
 -- what the report names
-eight : (a : Acted) → length (actWords a) ≡ 8
+pub eight : (a : Acted) → length (actWords a) ≡ 8
 eight a = go (a .send) (a .event)
   where
     events : (e : Event) (n m : ℕ) → length (eventWords e ++ n ∷ m ∷ []) ≡ 5

@@ -1,14 +1,36 @@
--- Demand 3 of what two drivers have: of the words and bytes that they hold and have stored.
+-- Demand 3 of what two drivers have: of the words and bytes that they hold and have stored, and of what the sender's calls tell.
 use mathlib.Core.Path.{_≡_}
-use mathlib.Core.List.{List}
-use Prim.Native.Nat.{ℕ}
+use mathlib.Core.List.{List, [], _∷_}
+use mathlib.Core.Bool.{Bool, _&&_}
+use mathlib.Core.Logic.{_⊎_}
+use Prim.Native.Nat.{ℕ, _+_}
 use lib.ListN.{getD}
+use lib.Dec.{eqb}
+use Rattle.lists.specs.Outcome.{Called}
 use Rattle.settings.specs.declared.Made.the-variants.{Valid}
+use Rattle.refusal.specs.declared.Verdict.{Verdict}
+use Rattle.refusal.specs.declared.Verdict.the-variants.{Refused}
+use Rattle.numbers.specs.declared.SequenceNumber.{SequenceNumber}
 use Rattle.messages.specs.Messages.{messageType}
 use Rattle.messages.specs.declared.TypeMade.the-variants.{Known}
+use Rattle.words.specs.Words.{verdictFrom}
+use Rattle.words.specs.declared.VerdictMade.{VerdictMade}
+use Rattle.words.specs.declared.VerdictMade.the-variants.{Unknown as NoVerdict, Known as AVerdict}
+use Rattle.sender.specs.Sender.{waitsOf}
+use Rattle.sender.specs.declared.Sender.{Sender}
+use Rattle.sender.specs.declared.NumberedMessage.the-variants.{Numbered}
+use Rattle.sender_calls.specs.SenderCalls.{sendWords, openCall, endedCall, resetCall, timerCall, blockCall, submitCall}
+use Rattle.link.specs.SenderActs.{Act, opened, ended, reset, timer, block, submit, actOf, fallsDue}
+use Rattle.link.specs.SenderHistory.{Entry, countedOf, sendsToReport}
 use Rattle.link.specs.System.{Link}
 use Rattle.link.specs.Promise.{transactions, Covers}
-use Rattle.call_theorems.specs.Driver.{Passed, Drivers, madeOf}
+use Rattle.call_theorems.specs.Reading.{Shown}
+use Rattle.call_theorems.specs.Driver.{Passed, SenderMemory, Drivers, madeOf}
+
+-- one of a list
+pub data In {A : Type 0} (x : A) : List A → Type 0 where
+  here : {ys : List A} → In x (x ∷ ys)
+  there : {y : A} {ys : List A} → In x ys → In x (y ∷ ys)
 
 -- the numbers and letters stand for the link's settings and type
 pub record Agrees (k : Passed) : Type 0 where
@@ -34,3 +56,56 @@ pub record DriversSafe (l : Link) (x : Drivers) : Type 0 where
   pub stored-covers-stored : Covers l (deliveredWord (x .sender .stored)) stored
   pub unfrozen : frozenWord (x .sender .memory .state) ≡ 0
   pub stored-unfrozen : frozenWord (x .sender .stored) ≡ 0
+
+-- ---- "It sends at once what waits, gives up exactly when a resend falls due with its stated sends spent, and reports how many it made."
+-- the calls of the sender's driver, and the act that each is
+pub data SenderCall : Type 0 where
+  opening ending resetting timing : SenderCall
+  submitting : ℕ → List ℕ → SenderCall
+  taking : Shown → SenderCall
+
+abbrev pub calledBy : Passed → SenderMemory → SenderCall → Called
+calledBy k m opening = openCall (m .state) (m .report)
+calledBy k m ending = endedCall (m .state) (m .report)
+calledBy k m resetting = resetCall (m .state) (m .report)
+calledBy k m timing = timerCall (k .link .resends) (m .state) (m .report)
+calledBy k m (submitting limit d) = submitCall limit d (m .state) (m .report)
+calledBy k m (taking w) = blockCall (k .link .resends) (w .number) (w .type) (w .content) (m .state) (m .report)
+
+abbrev pub verdictBy : VerdictMade → Verdict
+verdictBy (AVerdict v) = v
+verdictBy NoVerdict = Refused 0 0
+
+abbrev pub actBy : Passed → SenderCall → Act
+actBy k opening = opened
+actBy k ending = ended
+actBy k resetting = reset
+actBy k timing = timer (k .link .resends)
+actBy k (submitting limit d) = submit limit d
+actBy k (taking w) = block (k .link .resends) (verdictBy (verdictFrom (w .number) (w .type))) (w .content)
+
+-- a verdict that is acted on is one that the driver was shown
+abbrev pub Offered : List Shown → SenderCall → Type 0
+Offered ws opening = ws ≡ ws
+Offered ws ending = ws ≡ ws
+Offered ws resetting = ws ≡ ws
+Offered ws timing = ws ≡ ws
+Offered ws (submitting limit d) = ws ≡ ws
+Offered ws (taking w) = In w ws
+
+-- GMV_ACT_SENDS, GMV_ACT_EVENT with GMV_EVENT_ABANDONED, GMV_ACT_SEND with GMV_ACT_SEND_NUMBER
+abbrev pub sendsWord : Called → ℕ
+sendsWord c = getD (c .report) 2 0
+
+abbrev pub abandonedWord : Called → Bool
+abandonedWord c = eqb (getD (c .report) 3 0) 2
+
+abbrev pub sendWordsOf : Called → List ℕ
+sendWordsOf c = getD (c .report) 0 0 ∷ getD (c .report) 1 0 ∷ []
+
+-- what a call tells that was done, at a sender s with the history h of the calls before it: the sends in the history; that it gave up, exactly when;
+-- and that what waits after it is named by it, or waited before
+pub record Tells (k : Passed) (s : Sender) (h : List Entry) (q : SenderCall) (c : Called) : Type 0 where
+  pub sends : sendsWord c ≡ sendsToReport s h (actOf (actBy k q) s)
+  pub abandons : abandonedWord c ≡ (fallsDue (actBy k q) && eqb (countedOf (waitsOf s) h) (k .link .resends + 1))
+  pub at-once : (m : SequenceNumber) → waitsOf (actOf (actBy k q) s .sender) ≡ Numbered m → (sendWordsOf c ≡ sendWords (Numbered m)) ⊎ (waitsOf s ≡ Numbered m)
