@@ -18,12 +18,10 @@ use Rattle.sender.specs.declared.NumberedMessage.{NumberedMessage}
 use Rattle.sender.specs.declared.NumberedMessage.the-variants.{Nothing}
 use Rattle.sender.specs.declared.Event.{Event}
 use Rattle.sender.specs.declared.Acted.{Acted}
-use Rattle.sender_calls.specs.SenderCalls.{senderWords, senderIn, actWords, actWritten, senderCall, openCall, endedCall, resetCall, timerCall, blockWith, blockCall, submitCall}
+use Rattle.sender_calls.specs.SenderCalls.{senderWords, senderIn, actWords, actWritten, senderCall, openCall, endedCall, resetCall, timerCall, blockCall, submitCall}
 use Rattle.sender_calls.specs.declared.Decoded.the-variants.{Known}
 use Rattle.sender_calls.proofs.Laws.{timer-resends, block-resends}
 use Rattle.sender_calls.proofs.ReadBack.{words-read}
-use Rattle.words.specs.Words.{verdictFrom}
-use Rattle.words.specs.declared.VerdictMade.{VerdictMade}
 use Rattle.link.specs.SenderActs.{Act, opened, ended, reset, timer, block, submit, actOf}
 use Rattle.link.proofs.Facts.{not-both}
 use Rattle.link.proofs.SenderSteps.{Step, refuses, keeps, starts, resends, abandons, shuts, steps}

@@ -31,7 +31,7 @@ use Rattle.sender_calls.specs.SenderCalls.{flagWord, senderWords, sendWords, fr
 use Rattle.link.specs.Duties.{every, oneAt}
 use Rattle.link.specs.SenderActs.{actOf}
 use Rattle.link.specs.Line.{Line, line, emptyLine, damages, disorders}
-use Rattle.link.specs.System.{Link, System, nothingLeft, link, startOf, SystemAct, damagesForward as linkDamagesForward, damagesBack as linkDamagesBack, runOf}
+use Rattle.link.specs.System.{Link, System, nothingLeft, link, startOf, damagesForward as linkDamagesForward, damagesBack as linkDamagesBack, runOf}
 use Rattle.link.specs.Promise.{Ready, Safe, Covers}
 use Rattle.link.proofs.Queues.{each-none}
 use Rattle.link.proofs.Safety.{none-left, run-keeps, safety}
@@ -39,16 +39,16 @@ use Rattle.link.proofs.Reports.{reports, sends-at-once, abandons-exactly}
 use Rattle.link.proofs.Delivery.{answer-moves}
 use Rattle.link.proofs.Invariant.{Inv}
 use Rattle.link.proofs.Runs.{run-join}
-use Rattle.call_theorems.specs.Driver.{Passed, ReaderMemory, SenderMemory, ReceiverMemory, Drivers, drivers, freshReader, enoughToSend, enoughToReceive, DriverAct, afterDriver, drivenBy, tenancyOf}
+use Rattle.call_theorems.specs.Driver.{Passed, ReaderMemory, SenderMemory, ReceiverMemory, Drivers, drivers, freshReader, enoughToSend, enoughToReceive, DriverAct, afterDriver, drivenBy, driversStart}
 use Rattle.call_theorems.specs.Driver.{opens, ends, resets, timer, submits, stores, restores, receiverStores, receiverRestores, replies, sends, reads, takes, drops, receiverReads, receiverDrops}
-use Rattle.call_theorems.specs.Driver.{receives, crashes, receiverCrashes, damagesForward, damagesBack}
+use Rattle.call_theorems.specs.Driver.{receives, replaces, receiverReplaces, tries, crashes, receiverCrashes, damagesForward, damagesBack}
 use Rattle.call_theorems.specs.DriversRun.{actsOf, linkRun}
 use Rattle.call_theorems.specs.DriversPromise.{Agrees, DriversSafe, deliveredWord, SenderCall, calledBy, actBy, Offered, sendWordsOf, Tells}
 use Rattle.call_theorems.proofs.Shows.{Behind, StandsOn, Shows, over-behind}
-use Rattle.call_theorems.proofs.Driving.{Goes, stays, by-act, fresh-on, opens-goes, ends-goes, resets-goes, timer-goes, submits-goes, stores-goes, restores-goes}
+use Rattle.call_theorems.proofs.Driving.{Goes, by-act, fresh-on, opens-goes, ends-goes, resets-goes, timer-goes, submits-goes, stores-goes, restores-goes}
 use Rattle.call_theorems.proofs.Telling.{call-told, due-resends}
-use Rattle.call_theorems.proofs.SenderDriving.{sends-goes, reads-goes, takes-goes, drops-goes, crashes-goes}
-use Rattle.call_theorems.proofs.ReceiverDriving.{receiver-reads-goes, receives-goes, receiver-drops-goes, receiver-stores-goes, receiver-restores-goes, receiver-crashes-goes, replies-goes}
+use Rattle.call_theorems.proofs.SenderDriving.{sends-goes, reads-goes, takes-goes, drops-goes, replaces-goes, crashes-goes}
+use Rattle.call_theorems.proofs.ReceiverDriving.{receiver-reads-goes, receives-goes, tries-goes, receiver-replaces-goes, receiver-drops-goes, receiver-stores-goes, receiver-restores-goes, receiver-crashes-goes, replies-goes}
 
 module _ (k : Passed) (ag : Agrees k) (rd : Ready (k .link)) where
   abbrev l : Link
@@ -138,6 +138,9 @@ module _ (k : Passed) (ag : Agrees k) (rd : Ready (k .link)) where
   act-goes (receiverReads n) x y i h = receiver-reads-goes k ag rd x y i h n
   act-goes (receiverDrops n) x y i h = receiver-drops-goes k ag rd x y i h n
   act-goes (receives a start) x y i h = receives-goes k ag rd x y i h a start
+  act-goes (replaces p b w) x y i h = replaces-goes k ag rd x y i h p b w
+  act-goes (receiverReplaces p b) x y i h = receiver-replaces-goes k ag rd x y i h p b
+  act-goes (tries a start) x y i h = tries-goes k ag rd x y i h a start
   act-goes (crashes m) x y i h = crashes-goes k ag rd x y i h m
   act-goes (receiverCrashes m) x y i h = receiver-crashes-goes k ag rd x y i h m
   act-goes (damagesForward xs) x y i h = forward-goes x y h xs (damages g (x .forward) xs) refl
@@ -149,7 +152,7 @@ module _ (k : Passed) (ag : Agrees k) (rd : Ready (k .link)) where
     e = expectedFrom w
 
     abbrev begun : Drivers
-    begun = tenancyOf k m n w
+    begun = driversStart k m n w
 
     -- the word stands for what it is read as
     word-is : expectedWord (expectedFrom w) ≡ w

@@ -29,7 +29,7 @@ use Rattle.link.proofs.Queues.{Each, each-none}
 use Rattle.link.proofs.Messages.{link-valid, link-limit}
 use Rattle.link.proofs.Invariant.{Inv}
 use Rattle.call_theorems.specs.Reading.{Shown, Taken, hybrid, minimal}
-use Rattle.call_theorems.specs.Driver.{Numbers, hybrid as hybridNumbers, minimal as minimalNumbers, Passed, madeOf, ReaderMemory, Drivers, freshReader}
+use Rattle.call_theorems.specs.Driver.{SettingNumbers, hybrid as hybridNumbers, minimal as minimalNumbers, Passed, madeFrom, ReaderMemory, Drivers, freshReader}
 use Rattle.call_theorems.specs.Driver.{bySender, openedBy, afterDriver}
 use Rattle.call_theorems.specs.Driver.{opens as opensDriver, ends as endsDriver, resets as resetsDriver, timer as timerDriver, submits as submitsDriver, stores, restores}
 use Rattle.call_theorems.specs.DriversPromise.{Agrees}
@@ -59,13 +59,13 @@ module _ (k : Passed) (ag : Agrees k) (rd : Ready (k .link)) where
   pub settings-valid : valid g ≡ true
   settings-valid = link-valid g (rd .settings)
 
-  pub link-made : linkOf (madeOf (k .numbers)) ≡ Valid g
+  pub link-made : linkOf (madeFrom (k .numbers)) ≡ Valid g
   link-made = ap linkOf (ag .settings) ∙ rw (le-leb 128 (g .«data_limit») (link-limit g (rd .settings)))
 
-  taken : Taken (madeOf (k .numbers)) g
+  taken : Taken (madeFrom (k .numbers)) g
   taken = go (k .numbers) (ag .settings)
     where
-      go : (n : Numbers) → madeOf n ≡ Valid g → Taken (madeOf n) g
+      go : (n : SettingNumbers) → madeFrom n ≡ Valid g → Taken (madeFrom n) g
       go (hybridNumbers sb eb d) e = hybrid sb eb d e
       go (minimalNumbers d) e = minimal d e
 
@@ -78,7 +78,7 @@ module _ (k : Passed) (ag : Agrees k) (rd : Ready (k .link)) where
   fresh-on m a b c =
       record {
         stands = subst (λ (st : List ℕ). StandsAt g 0 between (called 0 st (m .buffer) (m .verdict))) (sym (fresh-words (m .state) a))
-            (fresh-stands-at (madeOf (k .numbers)) g taken (m .state) (m .buffer) (m .verdict) a b c);
+            (fresh-stands-at (madeFrom (k .numbers)) g taken (m .state) (m .buffer) (m .verdict) a b c);
         within = omega arith;
       }
 

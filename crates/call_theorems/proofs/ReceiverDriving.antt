@@ -11,7 +11,7 @@ use borrow.Author.Tests.{le-leb, leb-true, eq-eqb}
 use Rattle.lists.specs.Bytes.{same, over}
 use Rattle.lists.specs.Outcome.{Outcome, Called, called}
 use Rattle.lists.proofs.Calls.{over-is}
-use Rattle.lists.proofs.Tests.{and-left, and-right}
+use Rattle.lists.proofs.Tests.{cond-ind, and-left, and-right}
 use Rattle.lists.proofs.Same.{same-is}
 use Rattle.settings.specs.Settings.{capacityOf, linkOf}
 use Rattle.settings.specs.declared.Settings.{Settings}
@@ -42,8 +42,8 @@ use Rattle.link.proofs.ReceiverInvariant.{some, receive-some}
 use Rattle.link.proofs.Invariant.{Inv}
 use Rattle.call_theorems.specs.Verdicts.{passedOn}
 use Rattle.call_theorems.specs.Reading.{Shown, usedBytes}
-use Rattle.call_theorems.specs.Driver.{Passed, madeOf, ReceiverMemory, Drivers, drivers, receiverEnd, receiverMemory, enoughToReceive, freshReader, afterReading, readerPast, linePast}
-use Rattle.call_theorems.specs.Driver.{readBytes, newVerdict, withTransaction, replyBy, receivedBy, requestTaken, replySent, afterDriver, receiverReads, receives, receiverDrops, receiverStores, replies}
+use Rattle.call_theorems.specs.Driver.{Passed, madeFrom, ReceiverMemory, Drivers, drivers, receiverEnd, receiverMemory, enoughToReceive, freshReader, afterReading, readerPast, linePast}
+use Rattle.call_theorems.specs.Driver.{readBytes, newVerdict, withTransaction, replyBy, receivedBy, requestTaken, triedBy, requestTried, replySent, afterDriver, receiverReads, receives, receiverReplaces, tries, receiverDrops, receiverStores, replies}
 use Rattle.call_theorems.specs.Driver.{receiverRestores as restoresReceiver, receiverCrashes}
 use Rattle.call_theorems.specs.DriversRun.{repeated, once, allStored, offers, actsOf}
 use Rattle.call_theorems.specs.DriversPromise.{Agrees}
@@ -158,7 +158,7 @@ module _ (k : Passed) (ag : Agrees k) (rd : Ready (k .link)) (x : Drivers) (y : 
         go : (b : Bool) → eqb (reading .number) 0 ≡ b → Goes l (cond b (repeated used linkReads) []) (cond b readBy x) y
         go false e = stays l x y h
         go true e =
-            let t = read-took g (settings-valid k ag rd) (x .receiver .memory .reader) (x .forward) (h .receiver .reader) n (madeOf (k .numbers)) (ag .settings) e in
+            let t = read-took g (settings-valid k ag rd) (x .receiver .memory .reader) (x .forward) (h .receiver .reader) n (madeFrom (k .numbers)) (ag .settings) e in
             record {
               shows =
                   subst (Shows l readBy) (sym (requests-run used (subst (λ (z : Line). used ≤ length (z .bytes)) (h .forward) (t .used))))
@@ -189,7 +189,7 @@ module _ (k : Passed) (ag : Agrees k) (rd : Ready (k .link)) (x : Drivers) (y : 
     word-back = ap (λ (s : List ℕ). expectedFrom (getD s 0 0)) (h .receiver .state .is) ∙ expected-back e valid-state
 
     abbrev offered : Called
-    offered = receiveCall (linkOf (madeOf (k .numbers))) application st (w .number) (w .type) (w .content) b start p
+    offered = receiveCall (linkOf (madeFrom (k .numbers))) application st (w .number) (w .type) (w .content) b start p
 
     enough-words : (leb 1 (length st) && leb 3 (length p)) ≡ true
     enough-words = rw (le-leb 1 (length st) (behind-length (h .receiver .state)), le-leb 3 (length p) (h .receiver .report))
@@ -291,6 +291,56 @@ module _ (k : Passed) (ag : Agrees k) (rd : Ready (k .link)) (x : Drivers) (y : 
       go : (ws : List Shown) → Each (SameVerdict g) ws (y .receiving .arrived) → Goes l (offers (applicationFrom application) start x) (requestTaken k application start x ws) y
       go [] e = none (applicationFrom application) (y .receiving .arrived) refl e
       go (w ∷ ws) e = first w ws (each-front e)
+
+  -- ---- a trial, and other memory: the link stays
+  tried-shows : (c : Called) → 3 ≤ length (c .report) → Shows l (triedBy x c) y
+  tried-shows c m =
+      record {
+        sender = h .sender;
+        receiver = record {
+          state = h .receiver .state;
+          report = m;
+          has = h .receiver .has;
+          stored = h .receiver .stored;
+          stored-has = h .receiver .stored-has;
+          pending = h .receiver .pending;
+          arrived = h .receiver .arrived;
+          reader = h .receiver .reader;
+        };
+        forward = h .forward;
+        back = h .back;
+      }
+
+  module _ (application start : ℕ) where
+    finished-long : (o : Outcome Received) → 3 ≤ length (finished (x .receiver .memory .state) (x .receiver .memory .report) o .report)
+    finished-long o =
+        cond-ind (λ (c : Called). 3 ≤ length (c .report)) (eqb (o .answer .refusal) 0) _ _
+        (λ z. let q = over-length (x .receiver .memory .report) (receivedWords (o .answer)) (h .receiver .report) in let m = h .receiver .report in omega arith) (λ z. h .receiver .report)
+
+    tried-long : (w : Shown) (ws : List Shown) (v : Judged) (vs : List Judged) (queue : y .receiving .arrived ≡ v ∷ vs) (is : SameVerdict g w v) (rest : Each (SameVerdict g) ws vs) (z : ApplicationMade)
+        → applicationFrom application ≡ z → 3 ≤ length (offered application start w ws v vs queue is rest .report)
+    tried-long w ws v vs queue is rest NoApplication q = subst (λ (c : Called). 3 ≤ length (c .report)) (sym (none-is application start w ws v vs queue is rest q)) (h .receiver .report)
+    tried-long w ws v vs queue is rest (AnApplication a) q =
+        subst (λ (c : Called). 3 ≤ length (c .report)) (sym (offered-is application start w ws v vs queue is rest a q)) (finished-long (outcome application start w ws v vs queue is rest a))
+
+    pub tries-goes : Goes l [] (afterDriver k (tries application start) x) y
+    tries-goes = go (x .receiver .arrived) (h .receiver .arrived)
+      where
+        first : (w : Shown) (ws : List Shown) → Front (SameVerdict g) w ws (y .receiving .arrived) → Goes l [] (requestTried k application start x (w ∷ ws)) y
+        first w ws (front v vs q is rest) = stays l _ y (tried-shows (offered application start w ws v vs q is rest) (tried-long w ws v vs q is rest (applicationFrom application) refl))
+
+        go : (ws : List Shown) → Each (SameVerdict g) ws (y .receiving .arrived) → Goes l [] (requestTried k application start x ws) y
+        go [] e = stays l x y h
+        go (w ∷ ws) e = first w ws (each-front e)
+
+  pub receiver-replaces-goes : (p b : List ℕ) → Goes l [] (afterDriver k (receiverReplaces p b) x) y
+  receiver-replaces-goes p b = go (leb 3 (length p)) refl
+    where
+      go : (c : Bool) → leb 3 (length p) ≡ c
+          → Goes l [] (cond c (drivers (x .sender) (receiverEnd (receiverMemory (x .receiver .memory .state) p (x .receiver .memory .reader) b) (x .receiver .has) (x .receiver .stored) (x .receiver .«stored_has»)
+          (x .receiver .pending) (x .receiver .arrived)) (x .forward) (x .back)) x) y
+      go false e = stays l x y h
+      go true e = stays l _ y (tried-shows (called 0 [] b p) (leb-true 3 (length p) e))
 
   pub receiver-drops-goes : (n : ℕ) → Goes l (receiverDiscards n ∷ []) (afterDriver k (receiverDrops n) x) y
   receiver-drops-goes n =

@@ -32,8 +32,8 @@ use Rattle.link.proofs.RequestsRead.{all-nameable}
 use Rattle.link.proofs.Invariant.{Inv}
 use Rattle.link.proofs.Runs.{run-join}
 use Rattle.call_theorems.specs.Reading.{Shown, shown, usedBytes}
-use Rattle.call_theorems.specs.Driver.{Passed, madeOf, Named, SenderMemory, Drivers, drivers, senderEnd, senderMemory, enoughToSend, readerPast, linePast, afterReading, freshReader}
-use Rattle.call_theorems.specs.Driver.{readBytes, newVerdict, blockOfNamed, oldestSent, verdictTaken, bySender, afterDriver, sends, reads, takes, drops, crashes}
+use Rattle.call_theorems.specs.Driver.{Passed, madeFrom, Named, SenderMemory, Drivers, drivers, senderEnd, senderMemory, enoughToSend, readerPast, linePast, afterReading, freshReader}
+use Rattle.call_theorems.specs.Driver.{readBytes, newVerdict, blockOfNamed, oldestSent, verdictTaken, bySender, afterDriver, sends, reads, takes, drops, replaces, crashes}
 use Rattle.call_theorems.specs.DriversRun.{repeated, once, goesOut, actsOf}
 use Rattle.call_theorems.specs.DriversPromise.{Agrees}
 use Rattle.call_theorems.proofs.Shows.{SameSend, SameVerdict, Shows}
@@ -222,7 +222,7 @@ module _ (k : Passed) (ag : Agrees k) (rd : Ready (k .link)) (x : Drivers) (y : 
         go : (b : Bool) → eqb (reading .number) 0 ≡ b → Goes l (cond b (repeated used senderReads) []) (cond b readBy x) y
         go false e = stays l x y h
         go true e =
-            let t = read-took g (settings-valid k ag rd) (x .sender .memory .reader) (x .back) (h .sender .reader) n (madeOf (k .numbers)) (ag .settings) e in
+            let t = read-took g (settings-valid k ag rd) (x .sender .memory .reader) (x .back) (h .sender .reader) n (madeFrom (k .numbers)) (ag .settings) e in
             record {
               shows =
                   subst (Shows l readBy) (sym (answers-run used (subst (λ (z : Line). used ≤ length (z .bytes)) (h .back) (t .used))))
@@ -266,6 +266,29 @@ module _ (k : Passed) (ag : Agrees k) (rd : Ready (k .link)) (x : Drivers) (y : 
         forward = h .forward;
         back = h .back;
       })
+
+  -- ---- other memory: the link stays
+  pub replaces-goes : (p b w : List ℕ) → Goes l [] (afterDriver k (replaces p b w) x) y
+  replaces-goes p b w = go (leb 8 (length p)) refl
+    where
+      go : (c : Bool) → leb 8 (length p) ≡ c
+          → Goes l [] (cond c (drivers (senderEnd (senderMemory (x .sender .memory .state) p (x .sender .memory .reader) b w) (x .sender .stored) (x .sender .named) (x .sender .arrived)) (x .receiver) (x .forward) (x .back)) x) y
+      go false e = stays l x y h
+      go true e =
+          stays l _ y
+          (record {
+            sender = record {
+              state = h .sender .state;
+              report = leb-true 8 (length p) e;
+              stored = h .sender .stored;
+              named = h .sender .named;
+              arrived = h .sender .arrived;
+              reader = h .sender .reader;
+            };
+            receiver = h .receiver;
+            forward = h .forward;
+            back = h .back;
+          })
 
   -- ---- a crash: the memory is new
   pub crashes-goes : (m : SenderMemory) → Goes l (actsOf k (crashes m) x) (afterDriver k (crashes m) x) y

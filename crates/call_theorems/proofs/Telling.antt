@@ -1,9 +1,8 @@
 -- What a call of the sender's driver tells: how many sends were made, that it gave up, and what is to be sent.
 use mathlib.Core.Path.{_≡_, refl, sym, ap, _∙_, subst}
 use mathlib.Core.List.{List, [], _∷_, _++_}
-use mathlib.Core.Bool.{Bool, true, false, cond, _&&_}
-use mathlib.Core.Logic.{_⊎_, inl, inr}
-use Prim.Native.Nat.{ℕ, _+_, _≤_}
+use mathlib.Core.Bool.{true}
+use Prim.Native.Nat.{ℕ, _≤_}
 use native.Mathlib.Omega.{arith}
 use lib.ListN.{length, drop, getD}
 use lib.Dec.{eqb}
@@ -12,11 +11,9 @@ use Rattle.lists.specs.Bytes.{over}
 use Rattle.lists.specs.Outcome.{Called}
 use Rattle.lists.proofs.Calls.{over-is}
 use Rattle.settings.specs.declared.Settings.{Settings}
-use Rattle.numbers.specs.declared.SequenceNumber.{SequenceNumber}
 use Rattle.numbers.specs.declared.SequenceNumber.the-variants.{MinusOne, Number}
 use Rattle.refusal.specs.declared.Verdict.{Verdict}
 use Rattle.stream.specs.Stream.{Judged}
-use Rattle.words.specs.Words.{verdictFrom}
 use Rattle.words.specs.declared.VerdictMade.{VerdictMade}
 use Rattle.sender.specs.Sender.{validSender, blockReadOf}
 use Rattle.sender.specs.declared.Sender.{Sender}
@@ -25,15 +22,14 @@ use Rattle.sender.specs.declared.NumberedMessage.the-variants.{Nothing, Numbere
 use Rattle.sender.specs.declared.Event.{Event}
 use Rattle.sender.specs.declared.Event.the-variants.{NoEvent, Delivered, DeliveredUnknown, Abandoned, Froze, Dropped}
 use Rattle.sender.specs.declared.Acted.{Acted}
-use Rattle.sender_calls.specs.SenderCalls.{senderWords, sendWords, eventWords, actWords, blockCall}
+use Rattle.sender_calls.specs.SenderCalls.{sendWords, eventWords, actWords}
 use Rattle.link.specs.SenderActs.{Act, actOf, fallsDue, resendsOf}
-use Rattle.link.specs.SenderHistory.{Entry, isAbandoned}
+use Rattle.link.specs.SenderHistory.{isAbandoned}
 use Rattle.link.specs.System.{System}
 use Rattle.link.specs.Promise.{Ready}
 use Rattle.link.proofs.Facts.{not-both}
 use Rattle.link.proofs.Queues.{Each, each-more}
-use Rattle.link.proofs.Invariant.{Inv}
-use Rattle.call_theorems.specs.Verdicts.{passedOn, readerGives}
+use Rattle.call_theorems.specs.Verdicts.{readerGives}
 use Rattle.call_theorems.specs.Reading.{Shown, shown}
 use Rattle.call_theorems.specs.Driver.{Passed, Drivers}
 use Rattle.call_theorems.specs.DriversPromise.{In, here, there, SenderCall, opening, ending, resetting, timing, submitting, taking, calledBy, verdictBy, actBy, Offered, sendsWord, abandonedWord, sendWordsOf}

@@ -39,7 +39,7 @@ use Rattle.sender_calls.specs.SenderCalls.{sendWords}
 use Rattle.link.specs.System.{Link, requestOf}
 use Rattle.link.specs.Promise.{Ready}
 use Rattle.link.proofs.Facts.{not-both}
-use Rattle.call_theorems.specs.Driver.{Passed, madeOf, Named, SenderMemory, blockOfNamed}
+use Rattle.call_theorems.specs.Driver.{Passed, madeFrom, Named, SenderMemory, blockOfNamed}
 use Rattle.call_theorems.specs.DriversPromise.{Agrees}
 use Rattle.call_theorems.proofs.Shows.{SameSend}
 use Rattle.call_theorems.proofs.Driving.{settings-valid, link-made}
@@ -97,7 +97,7 @@ module _ (k : Passed) (ag : Agrees k) (rd : Ready (k .link)) (start : ℕ) (m : 
       (sym (write-framed g (code "D") (controlMessage (l .name) c) start (m .block) (settings-valid k ag rd) ∙ control-framed g (l .name) c start (m .block) (rd .settings) (rd .name)))
 
   control-call : (n : ℕ) (c : Control) → controlBlockWith (Valid g) (KnownType (l .name)) (controlFrom n) (m .block) start (m .written) ≡ cond (validLink g) (control c) (called 1 [] (m .block) (m .written))
-      → controlBlockCall (linkOf (madeOf (k .numbers))) (k .letters) n (m .block) start (m .written) ≡ frame (controlMessage (l .name) c)
+      → controlBlockCall (linkOf (madeFrom (k .numbers))) (k .letters) n (m .block) start (m .written) ≡ frame (controlMessage (l .name) c)
   unfolding controlBlockCall
   control-call n c e =
       ap (λ (s : Made). controlBlockWith s (messageType (k .letters)) (controlFrom n) (m .block) start (m .written)) (link-made k ag rd)

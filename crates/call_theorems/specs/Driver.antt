@@ -24,18 +24,18 @@ use Rattle.call_theorems.specs.Reading.{Shown, foundBlock, usedBytes, sh
 
 -- ---- what is passed
 -- the numbers of the block settings: SB, EB and D of the gmv_hybrid_ functions, D of the gmv_minimal_ ones
-pub data Numbers : Type 0 where
-  hybrid : ℕ → ℕ → ℕ → Numbers
-  minimal : ℕ → Numbers
+pub data SettingNumbers : Type 0 where
+  hybrid : ℕ → ℕ → ℕ → SettingNumbers
+  minimal : ℕ → SettingNumbers
 
-abbrev pub madeOf : Numbers → Made
-madeOf (hybrid sb eb d) = hybridOf sb eb d
-madeOf (minimal d) = minimalOf d
+abbrev pub madeFrom : SettingNumbers → Made
+madeFrom (hybrid sb eb d) = hybridOf sb eb d
+madeFrom (minimal d) = minimalOf d
 
--- a link, the numbers of its settings, and the letters of its control messages' type
+-- a link, the numbers of its settings, and the letters of its control messages' type. The log is the link's: what the driver keeps under a number is what it sends under it
 pub record Passed : Type 0 where
   pub link : Link
-  pub numbers : Numbers
+  pub numbers : SettingNumbers
   pub letters : List ℕ
 
 -- ---- what a driver has
@@ -106,7 +106,7 @@ receiverEnd m ts d us bs ws = record { memory = m; has = ts; stored = d; «store
 abbrev pub drivers : SenderEnd → ReceiverEnd → Line → Line → Drivers
 drivers s e x b = record { sender = s; receiver = e; forward = x; back = b }
 
--- ---- enough memory, of any content
+-- ---- enough memory, of any content. The buffers for blocks and replies may have any length: where one is too short the call is refused by 2, and nothing goes out
 abbrev pub enoughToRead : Settings → ReaderMemory → Bool
 enoughToRead g m = leb 4 (length (m .state)) && (leb (capacityOf g) (length (m .buffer)) && leb 8 (length (m .verdict)))
 
@@ -122,8 +122,8 @@ abbrev pub freshReader : ReaderMemory → ReaderMemory
 freshReader m = readerMemory (freshReaderCall (m .state) .state) (m .buffer) (m .verdict)
 
 -- gmv_hybrid_read or gmv_minimal_read, of at most n of the bytes that came
-abbrev pub readBytes : Numbers → ℕ → ReaderMemory → Line → Called
-readBytes k n m x = readCall (madeOf k) (m .state) (take n (x .bytes)) (m .buffer) (m .verdict)
+abbrev pub readBytes : SettingNumbers → ℕ → ReaderMemory → Line → Called
+readBytes k n m x = readCall (madeFrom k) (m .state) (take n (x .bytes)) (m .buffer) (m .verdict)
 
 abbrev pub afterReading : Called → ReaderMemory
 afterReading c = readerMemory (c .state) (c .buffer) (c .report)
@@ -156,7 +156,8 @@ senderCalled e ws c = senderEnd (withCall (e .memory) c) (e .stored) (namedThen 
 abbrev pub bySender : Drivers → List Shown → Called → Drivers
 bySender x ws c = drivers (senderCalled (x .sender) ws c) (x .receiver) (x .forward) (x .back)
 
--- a new circuit: the lines are empty, both readers fresh, and what was read, named or still to be sent on the earlier one is dropped
+-- a new circuit: the lines are empty, both readers fresh, and what was read, named or still to be sent on the earlier one is dropped.
+-- Both drivers see to it in one act; what the receiver's still does on the old circuit comes before it
 abbrev pub openedBy : Drivers → Called → Drivers
 openedBy x c =
     let m = x .sender .memory in
@@ -168,9 +169,9 @@ openedBy x c =
 -- the block of a message named: gmv_*_control_block for -1 and 0, gmv_*_write for a transaction, from an offset of the buffer on
 abbrev pub blockOfNamed : Passed → ℕ → SenderMemory → Named → Called
 blockOfNamed k start m v =
-    cond (eqb (v .kind) 1) (controlBlockCall (linkOf (madeOf (k .numbers))) (k .letters) minusOne (m .block) start (m .written))
-    (cond (eqb (v .kind) 2) (controlBlockCall (linkOf (madeOf (k .numbers))) (k .letters) 0 (m .block) start (m .written))
-    (writeCall (madeOf (k .numbers)) (code "D") (k .link .log (v .number)) (m .block) start (m .written)))
+    cond (eqb (v .kind) 1) (controlBlockCall (linkOf (madeFrom (k .numbers))) (k .letters) minusOne (m .block) start (m .written))
+    (cond (eqb (v .kind) 2) (controlBlockCall (linkOf (madeFrom (k .numbers))) (k .letters) 0 (m .block) start (m .written))
+    (writeCall (madeFrom (k .numbers)) (code "D") (k .link .log (v .number)) (m .block) start (m .written)))
 
 -- it goes out once it could be written and the persisted words are stored
 abbrev pub sentBy : Drivers → ℕ → List Named → Called → Drivers
@@ -231,7 +232,19 @@ requestTaken k application start x [] = x
 requestTaken k application start x (w ∷ ws) =
     let m = x .receiver .memory in
     receivedBy x start (w .content) ws
-    (receiveCall (linkOf (madeOf (k .numbers))) application (m .state) (w .number) (w .type) (w .content) (m .reply) start (m .report))
+    (receiveCall (linkOf (madeFrom (k .numbers))) application (m .state) (w .number) (w .type) (w .content) (m .reply) start (m .report))
+
+abbrev pub triedBy : Drivers → Called → Drivers
+triedBy x c =
+    let e = x .receiver in
+    let m = x .receiver .memory in
+    drivers (x .sender) (receiverEnd (receiverMemory (m .state) (c .report) (m .reader) (c .buffer)) (e .has) (e .stored) (e .«stored_has») (e .pending) (e .arrived)) (x .forward) (x .back)
+
+abbrev pub requestTried : Passed → ℕ → ℕ → Drivers → List Shown → Drivers
+requestTried k application start x [] = x
+requestTried k application start x (w ∷ ws) =
+    let m = x .receiver .memory in
+    triedBy x (receiveCall (linkOf (madeFrom (k .numbers))) application (m .state) (w .number) (w .type) (w .content) (m .reply) start (m .report))
 
 -- the oldest reply goes out once the word and the transactions are stored
 abbrev pub replySent : Drivers → List (List ℕ) → Drivers
@@ -251,6 +264,11 @@ pub data DriverAct : Type 0 where
   receiverReads receiverDrops : ℕ → DriverAct
   -- the application's verdict, and the reply's offset
   receives : ℕ → ℕ → DriverAct
+  -- other memory for what calls only write: a report, a buffer for blocks and its report; a report and a buffer for replies
+  replaces : List ℕ → List ℕ → List ℕ → DriverAct
+  receiverReplaces : List ℕ → List ℕ → DriverAct
+  -- gmv_*_receive on a copy of the state, to see whether a transaction is due before the application is asked
+  tries : ℕ → ℕ → DriverAct
   -- the memory is new, of any content
   crashes : SenderMemory → DriverAct
   receiverCrashes : ReceiverMemory → DriverAct
@@ -303,6 +321,16 @@ afterDriver k (receiverCrashes m) x =
     cond (enoughToReceive (k .link .settings) m)
     (drivers (x .sender) (receiverEnd (receiverMemory (over (m .state) (e .stored)) (m .report) (freshReader (m .reader)) (m .reply)) (e .«stored_has») (e .stored) (e .«stored_has») [] [])
     emptyLine (line (x .back .reader) [])) x
+afterDriver k (replaces p b w) x =
+    let e = x .sender in
+    let m = x .sender .memory in
+    cond (leb 8 (length p)) (drivers (senderEnd (senderMemory (m .state) p (m .reader) b w) (e .stored) (e .named) (e .arrived)) (x .receiver) (x .forward) (x .back)) x
+afterDriver k (receiverReplaces p b) x =
+    let e = x .receiver in
+    let m = x .receiver .memory in
+    cond (leb 3 (length p))
+    (drivers (x .sender) (receiverEnd (receiverMemory (m .state) p (m .reader) b) (e .has) (e .stored) (e .«stored_has») (e .pending) (e .arrived)) (x .forward) (x .back)) x
+afterDriver k (tries application start) x = requestTried k application start x (x .receiver .arrived)
 afterDriver k (damagesForward xs) x = cond (damages (k .link .settings) (x .forward) xs) (drivers (x .sender) (x .receiver) (line (x .forward .reader) xs) (x .back)) x
 afterDriver k (damagesBack xs) x = cond (disorders (k .link .settings) (x .back) xs) (drivers (x .sender) (x .receiver) (x .forward) (line (x .back .reader) xs)) x
 
@@ -312,8 +340,8 @@ drivenBy k x [] = x
 drivenBy k x (a ∷ ds) = afterDriver k a (drivenBy k x ds)
 
 -- ---- a tenancy begins: gmv_sender_fresh, whose words are stored; a receiver whose word is stored, with none of the log; gmv_reader_fresh at both ends
-abbrev pub tenancyOf : Passed → SenderMemory → ReceiverMemory → ℕ → Drivers
-tenancyOf k m n e =
+abbrev pub driversStart : Passed → SenderMemory → ReceiverMemory → ℕ → Drivers
+driversStart k m n e =
     let s = freshCall (k .link .first) (m .state) .state in
     drivers (senderEnd (senderMemory s (m .report) (freshReader (m .reader)) (m .block) (m .written)) (take 5 s) [] [])
     (receiverEnd (receiverMemory (over (n .state) (e ∷ [])) (n .report) (freshReader (n .reader)) (n .reply)) [] (e ∷ []) [] [] []) emptyLine emptyLine

@@ -25,7 +25,7 @@ use Rattle.link.specs.SenderHistory.{Entry, countedOf, sendsToReport}
 use Rattle.link.specs.System.{Link}
 use Rattle.link.specs.Promise.{transactions, Covers}
 use Rattle.call_theorems.specs.Reading.{Shown}
-use Rattle.call_theorems.specs.Driver.{Passed, SenderMemory, Drivers, madeOf}
+use Rattle.call_theorems.specs.Driver.{Passed, SenderMemory, Drivers, madeFrom}
 
 -- one of a list
 pub data In {A : Type 0} (x : A) : List A → Type 0 where
@@ -34,7 +34,7 @@ pub data In {A : Type 0} (x : A) : List A → Type 0 where
 
 -- the numbers and letters stand for the link's settings and type
 pub record Agrees (k : Passed) : Type 0 where
-  pub settings : madeOf (k .numbers) ≡ Valid (k .link .settings)
+  pub settings : madeFrom (k .numbers) ≡ Valid (k .link .settings)
   pub letters : messageType (k .letters) ≡ Known (k .link .name)
 
 -- GMV_SENDER_DELIVERED, GMV_SENDER_FROZEN

@@ -15,7 +15,7 @@ use Rattle.link.specs.System.{receiverRestores as linkReceiverRestores, receive
 use Rattle.call_theorems.specs.Reading.{usedBytes}
 use Rattle.call_theorems.specs.Driver.{Passed, Named, Drivers, DriverAct, readBytes, blockOfNamed, enoughToSend, enoughToReceive, drivenBy}
 use Rattle.call_theorems.specs.Driver.{opens, ends, resets, timer, submits, stores, restores, receiverStores, receiverRestores, replies, sends, reads, takes, drops, receiverReads, receiverDrops}
-use Rattle.call_theorems.specs.Driver.{receives, crashes, receiverCrashes, damagesForward, damagesBack}
+use Rattle.call_theorems.specs.Driver.{receives, replaces, receiverReplaces, tries, crashes, receiverCrashes, damagesForward, damagesBack}
 
 unfoldable pub repeated : ℕ → SystemAct → List SystemAct
 repeated zero a = []
@@ -61,6 +61,10 @@ actsOf k receiverStores x = receiverPersists ∷ []
 actsOf k replies x = once (allStored x) receiverWrites
 actsOf k receiverRestores x = linkReceiverRestores ∷ []
 actsOf k (receiverCrashes m) x = once (enoughToReceive (k .link .settings) m) linkReceiverCrashes
+-- only memory changes
+actsOf k (replaces p b w) x = []
+actsOf k (receiverReplaces p b) x = []
+actsOf k (tries application start) x = []
 actsOf k (damagesForward xs) x = linkDamagesForward xs ∷ []
 actsOf k (damagesBack xs) x = linkDamagesBack xs ∷ []
 

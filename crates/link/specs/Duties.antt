@@ -52,9 +52,9 @@ dropped true xs = []
 dropped false xs = xs
 
 -- which one a host takes that was to take the oldest
-abbrev pub place : Bool → ℕ → ℕ
-place true n = 0
-place false n = n
+abbrev pub indexTaken : Bool → ℕ → ℕ
+indexTaken true n = 0
+indexTaken false n = n
 
 -- the one there, if there is one, and those without it
 unfoldable pub oneAt : {A : Type 0} → ℕ → List A → List A

@@ -32,7 +32,7 @@ use Rattle.link.specs.SenderHistory.{Entry, reported, crashed}
 use Rattle.link.specs.Line.{Line, line, newReader, emptyLine, readsByte, readerAfter, damages, disorders}
 use Rattle.link.specs.Duties.{Duty, exchanges, emptiesLines, dropsReplies, dropsVerdicts, bringsNothingLate, writesInOrder, offersInOrder}
 use Rattle.link.specs.Duties.{senderPersistsFirst, receiverPersistsFirst, persistsAsOne, decidesFromVolatile, dropsNamed, dropsUnpersisted, survives}
-use Rattle.link.specs.Duties.{every, dropped, place, oneAt, othersAt}
+use Rattle.link.specs.Duties.{every, dropped, indexTaken, oneAt, othersAt}
 
 -- what stands fixed: the block settings of both ends, f, r, the type of control messages, and the numbered log
 pub record Link : Type 0 where
@@ -262,7 +262,7 @@ afterAct h l senderPersists y =
     let e = y .sending in
     link (sending (e .sender) (e .sender .persisted) (e .named) (e .arrived) (e .history)) (y .receiving) (y .forward) (y .back)
 afterAct h l (senderWrites n) y =
-    let k = place (h writesInOrder) n in
+    let k = indexTaken (h writesInOrder) n in
     requestWritten h l y (oneAt k (y .sending .named)) (othersAt k (y .sending .named))
 afterAct h l senderReads y = senderRead l y (y .back .bytes)
 afterAct h l (senderActs n) y = answerTaken l y (oneAt n (y .sending .arrived)) (othersAt n (y .sending .arrived))
@@ -275,7 +275,7 @@ afterAct h l senderRestores y = link (senderRestored h (y .sending) (y .sending 
 afterAct h l senderCrashes y = link (senderRestored h (y .sending) []) (y .receiving) (line (y .forward .reader) []) emptyLine
 afterAct h l receiverReads y = receiverRead l y (y .forward .bytes)
 afterAct h l (receiverActs n a start b) y =
-    let k = place (h offersInOrder) n in
+    let k = indexTaken (h offersInOrder) n in
     requestTaken h l a start b y (oneAt k (y .receiving .arrived)) (othersAt k (y .receiving .arrived))
 afterAct h l (receiverDiscards n) y =
     let e = y .receiving in
