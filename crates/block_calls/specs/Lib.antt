@@ -2,3 +2,4 @@ pub mod ReaderWords
 pub mod ReadCalls
 pub mod CheckCalls
 pub mod WriteCalls
+pub mod Internal

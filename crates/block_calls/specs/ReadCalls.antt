@@ -1,5 +1,6 @@
 -- What gmv_reader_fresh, gmv_hybrid_read and gmv_minimal_read return and leave in what was lent, for every input (include/giamuvich.h). Order of refusals: 1, 2, 11. The report is the verdict.
 use mathlib.Core.List.{List, []}
+use mathlib.Core.Bool.{_&&_}
 use Prim.Native.Nat.{ℕ}
 use lib.ListN.{length}
 use lib.Dec.{leb}
@@ -40,7 +41,6 @@ unfoldable pub readCall : Made → List ℕ → List ℕ → List ℕ → List �
 readCall BadSetting st xs b v = called SETTING st b v
 readCall (Valid g) st xs b v =
     need (valid g) (called SETTING st b v)
-    (need (leb 4 (length st)) (called TOO-SHORT st b v)
-    (need (leb 8 (length v)) (called TOO-SHORT st b v)
+    (need (leb 4 (length st) && leb 8 (length v)) (called TOO-SHORT st b v)
     (need (leb (capacityOf g) (length b)) (called TOO-SHORT st b v)
-    (readDecoded g st xs b v (decoded st)))))
+    (readDecoded g st xs b v (decoded st))))

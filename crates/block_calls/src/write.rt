@@ -1,5 +1,6 @@
 // Writing one block.
 use settings::Made;
+use words::refuse_short;
 use words::report_written;
 use words::type_byte;
 ghost use mathlib.Core.Path.{_≡_};
@@ -20,11 +21,8 @@ pub fn write_words(
     let Made::Valid(settings) = made else {
         return refusal::SETTING;
     };
-    if !settings.is_valid() {
-        return refusal::SETTING;
-    }
     if report.len() < 2 {
-        return refusal::TOO_SHORT;
+        return refuse_short(settings.is_valid());
     }
     let written = writer::write(settings, type_byte(t), content, buffer, start);
     report_written(written, report)

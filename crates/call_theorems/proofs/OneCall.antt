@@ -27,10 +27,11 @@ use Rattle.stream.specs.declared.Answer.{Answer}
 use Rattle.stream.specs.declared.Answer.the-variants.{Refused, Pending, Found}
 use Rattle.block_theorems.proofs.Calls.{call-most, call-goes, call-whole}
 use Rattle.block_calls.specs.ReaderWords.{readerWords, decoded, verdictWords, pendingWords}
+use Rattle.block_calls.specs.Internal.{readKnown}
 use Rattle.block_calls.specs.ReadCalls.{readAnswered, readFinished, readDecoded, readCall}
 use Rattle.block_calls.specs.declared.Decoded.{Decoded}
 use Rattle.block_calls.specs.declared.Decoded.the-variants.{Unknown, Known}
-use Rattle.block_calls.proofs.ReadLaws.{read-done}
+use Rattle.block_calls.proofs.ReadLaws.{read-enough}
 use Rattle.call_theorems.specs.Reading.{shown, foundBlock, usedBytes, shownBy, Driven, partCalls}
 use Rattle.call_theorems.proofs.Verdicts.{answerGives, read-gives}
 
@@ -109,12 +110,11 @@ module _ (g : Settings) (c : Called) (h : 8 ≤ length (c .report)) (r : Reader)
   found-shows s v = rw (over-is (c .report) (verdictWords s v (dataOffsetOf g) n) h) (words-show s v (drop 8 (c .report)))
 
 -- ---- from words that encode a reader, the call is its reading
-pub call-is : (g : Settings) (c : Called) (xs : List ℕ) (r : Reader) → valid g ≡ true → 4 ≤ length (c .state) → 8 ≤ length (c .report) → capacityOf g ≤ length (c .buffer)
-    → decoded (c .state) ≡ Known r
+pub call-is : (g : Settings) (c : Called) (xs : List ℕ) (r : Reader) → 4 ≤ length (c .state) → 8 ≤ length (c .report) → decoded (c .state) ≡ Known r
     → readCall (Valid g) (c .state) xs (c .buffer) (c .report) ≡ readFinished g (c .state) (c .report) (readOf g r xs (c .buffer))
-call-is g c xs r v h l m e =
-    sym (read-done g (c .state) xs (c .buffer) (c .report) v h l (le-leb (capacityOf g) (length (c .buffer)) m))
-    ∙ ap (readDecoded g (c .state) xs (c .buffer) (c .report)) e
+call-is g c xs r h l e =
+    sym (read-enough g (c .state) xs (c .buffer) (c .report) (rw (le-leb 4 (length (c .state)) h, le-leb 8 (length (c .report)) l)))
+    ∙ ap (readKnown g (c .state) xs (c .buffer) (c .report)) e
 
 -- ---- from any words whatever
 pub record Uses (xs : List ℕ) (d : Called) : Type 0 where
@@ -163,13 +163,13 @@ pub call-uses : (s : Made) (c : Called) (xs : List ℕ) → Uses xs (readCall s 
 unfolding readCall
 call-uses BadSetting c xs = refused-uses xs _ _ _ 1 refl
 call-uses (Valid g) c xs =
+    let states = leb 4 (length (c .state)) in
+    let reports = leb 8 (length (c .report)) in
     cond-ind (Uses xs) (valid g) _ _
-    (λ v. cond-ind (Uses xs) (leb 4 (length (c .state))) _ _
-    (λ e. cond-ind (Uses xs) (leb 8 (length (c .report))) _ _
-    (λ f. cond-ind (Uses xs) (leb (capacityOf g) (length (c .buffer))) _ _ (λ i. decoded-uses g c xs (decoded (c .state)) (leb-true 8 (length (c .report)) f))
-    (λ i. refused-uses xs _ _ _ 2 refl))
+    (λ v. cond-ind (Uses xs) (states && reports) _ _
+    (λ f. cond-ind (Uses xs) (leb (capacityOf g) (length (c .buffer))) _ _
+    (λ i. decoded-uses g c xs (decoded (c .state)) (leb-true 8 (length (c .report)) (and-right states reports f))) (λ i. refused-uses xs _ _ _ 2 refl))
     (λ f. refused-uses xs _ _ _ 2 refl))
-    (λ e. refused-uses xs _ _ _ 2 refl))
     (λ v. refused-uses xs _ _ _ 1 refl)
 
 -- so the loop over a part ends: with more calls allowed than bytes, it is not the allowed number that stops it

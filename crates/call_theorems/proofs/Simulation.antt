@@ -128,7 +128,7 @@ part-matches g v (suc n) xs k m r b c l e h f =
     let w = read-reaches g k m r xs b v l h in
     let most : u ≤ length xs = w .most in
     let is =
-    call-is g c xs r v (f .state-words) (f .verdict-words) (rw e (h .enough)) (f .reader)
+    call-is g c xs r (f .state-words) (f .verdict-words) (f .reader)
     ∙ ap (λ (z : List ℕ). readFinished g (c .state) (c .report) (readOf g r xs z)) e in
     rw is
     (after-call g n xs c r (o .answer .reader) (o .buffer) u f (o .answer .answer) (w .ends)

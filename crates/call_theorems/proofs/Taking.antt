@@ -174,7 +174,7 @@ module _ (g : Settings) (v : valid g ≡ true) (m : ReaderMemory) (x : Line) (h 
       is : readCall s (m .state) part (m .buffer) (m .verdict) ≡ readFinished g (m .state) (m .verdict) reading
       is =
           ap (λ (z : Made). readCall z (m .state) part (m .buffer) (m .verdict)) made
-          ∙ call-is g memory part state v (h .stands .encodes .state-words) (h .stands .encodes .verdict-words) (h .stands .stands .enough) (h .stands .encodes .reader)
+          ∙ call-is g memory part state (h .stands .encodes .state-words) (h .stands .encodes .verdict-words) (h .stands .encodes .reader)
 
       go : (b : Bool) → leb (length part) (greatestWord - offset) ≡ b → Took g x (readFinished g (m .state) (m .verdict) reading)
       go true e = let k = leb-true (length part) (greatestWord - offset) e in let w = h .within in finished (omega (arith, k, w))

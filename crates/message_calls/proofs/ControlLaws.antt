@@ -1,8 +1,10 @@
 -- The ways in which a call for a control block returns.
-use mathlib.Core.Path.{_≡_, sym, ap, _∙_}
+use mathlib.Core.Path.{_≡_, refl, sym, ap, _∙_}
 use mathlib.Core.List.{List, []}
-use mathlib.Core.Bool.{true, false}
-use Prim.Native.Nat.{ℕ}
+use mathlib.Core.Bool.{Bool, true, false}
+use Prim.Native.Nat.{ℕ, _≤_, _<_}
+use lib.ListN.{length}
+use borrow.Author.Tests.{lt-leb, le-leb}
 use Rattle.lists.specs.Outcome.{called}
 use Rattle.settings.specs.Settings.{validLink}
 use Rattle.settings.specs.declared.Settings.{Settings}
@@ -14,7 +16,7 @@ use Rattle.messages.specs.declared.MessageType.{MessageType}
 use Rattle.messages.specs.declared.TypeMade.{TypeMade}
 use Rattle.messages.specs.declared.TypeMade.the-variants.{Known as KnownType}
 use Rattle.control_block.specs.ControlBlock.{controlBlockOf}
-use Rattle.words.specs.Words.{withReport}
+use Rattle.words.specs.Words.{shortRefusal, writeFinished, withReport}
 use Rattle.message_calls.specs.MessageCalls.{controlFrom}
 use Rattle.message_calls.specs.declared.ControlMade.{ControlMade}
 use Rattle.message_calls.specs.declared.ControlMade.the-variants.{Known}
@@ -29,8 +31,18 @@ module _ (letters : List ℕ) (n : ℕ) (b : List ℕ) (start : ℕ) (p : List �
       ∙ ap (λ (z : ControlMade). controlBlockWith m (messageType letters) z b start p) (sym g)
 
 module _ (g : Settings) (t : MessageType) (c : Control) (b : List ℕ) (start : ℕ) (p : List ℕ) where
-  pub block-bad : validLink g ≡ false → called 1 [] b p ≡ controlBlockWith (Valid g) (KnownType t) (Known c) b start p
-  block-bad e = rw e
+  pub block-few : length p < 2 → called (shortRefusal (validLink g)) [] b p ≡ controlBlockWith (Valid g) (KnownType t) (Known c) b start p
+  block-few h = go (validLink g) refl
+    where
+      go : (f : Bool) → validLink g ≡ f → called (shortRefusal (validLink g)) [] b p ≡ controlBlockWith (Valid g) (KnownType t) (Known c) b start p
+      go true e = rw (e, lt-leb 2 (length p) h)
+      go false e = rw e
 
-  pub block-good : validLink g ≡ true → withReport b p (controlBlockOf g t c start b) ≡ controlBlockWith (Valid g) (KnownType t) (Known c) b start p
-  block-good e = rw e
+  -- what `write_control_block` answers, its 1 too
+  pub block-done : 2 ≤ length p → withReport b p (controlBlockOf g t c start b) ≡ controlBlockWith (Valid g) (KnownType t) (Known c) b start p
+  unfolding controlBlockOf writeFinished
+  block-done h = go (validLink g) refl
+    where
+      go : (f : Bool) → validLink g ≡ f → withReport b p (controlBlockOf g t c start b) ≡ controlBlockWith (Valid g) (KnownType t) (Known c) b start p
+      go true e = rw e
+      go false e = rw (e, le-leb 2 (length p) h)

@@ -30,11 +30,8 @@ pub fn control_block_words(
     let ControlMade::Known(control) = control_from(number) else {
         return refusal::SETTING;
     };
-    if !settings.is_link() {
-        return refusal::SETTING;
-    }
     if report.len() < 2 {
-        return refusal::TOO_SHORT;
+        return words::refuse_short(settings.is_link());
     }
     let written = control_block::write_control_block(settings, name, control, buffer, start);
     report_control(written, report)

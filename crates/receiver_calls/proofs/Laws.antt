@@ -16,7 +16,7 @@ use Rattle.settings.specs.declared.Made.{Made}
 use Rattle.settings.specs.declared.Made.the-variants.{Valid}
 use Rattle.settings.specs.declared.Settings.{Settings}
 use Rattle.refusal.specs.declared.Verdict.{Verdict}
-use Rattle.words.specs.Words.{verdictFrom}
+use Rattle.words.specs.Words.{shortRefusal, verdictFrom}
 use Rattle.words.specs.declared.VerdictMade.{VerdictMade}
 use Rattle.words.specs.declared.VerdictMade.the-variants.{Known as KnownVerdict}
 use Rattle.receiver.specs.Receiver.{receiveOf}
@@ -65,13 +65,21 @@ module _ (st d b : List ℕ) (start : ℕ) (p : List ℕ) where
       ∙ ap (λ (z : VerdictMade). receiveWith m (applicationFrom application) z st d b start p) (sym g)
 
   module _ (g : Settings) (a : Application) (v : Verdict) where
-    pub call-bad : validLink g ≡ false → called 1 st b p ≡ receiveWith (Valid g) (Known a) (KnownVerdict v) st d b start p
-    call-bad e = sym (rw e)
+    pub call-short : (leb 1 (length st) && leb 3 (length p)) ≡ false
+        → called (shortRefusal (validLink g)) st b p ≡ receiveWith (Valid g) (Known a) (KnownVerdict v) st d b start p
+    call-short h = go (validLink g) refl
+      where
+        go : (t : Bool) → validLink g ≡ t → called (shortRefusal (validLink g)) st b p ≡ receiveWith (Valid g) (Known a) (KnownVerdict v) st d b start p
+        go true e = rw (e, h)
+        go false e = rw e
 
-    pub call-short : validLink g ≡ true → (leb 1 (length st) && leb 3 (length p)) ≡ false
-        → called 2 st b p ≡ receiveWith (Valid g) (Known a) (KnownVerdict v) st d b start p
-    call-short e h = sym (rw (e, h))
-
-    pub call-done : validLink g ≡ true → (leb 1 (length st) && leb 3 (length p)) ≡ true
+    -- what `receive` answers, its 1 too
+    pub call-done : (leb 1 (length st) && leb 3 (length p)) ≡ true
         → finished st p (receiveOf g a (expectedFrom (getD st 0 0)) v d start b) ≡ receiveWith (Valid g) (Known a) (KnownVerdict v) st d b start p
-    call-done e h = sym (rw (e, h))
+    unfolding receiveOf
+    call-done h = go (validLink g) refl
+      where
+        go : (t : Bool) → validLink g ≡ t
+            → finished st p (receiveOf g a (expectedFrom (getD st 0 0)) v d start b) ≡ receiveWith (Valid g) (Known a) (KnownVerdict v) st d b start p
+        go true e = rw (e, h)
+        go false e = rw e

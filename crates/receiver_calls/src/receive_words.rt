@@ -67,12 +67,9 @@ pub fn received_words(
     let VerdictMade::Known(verdict) = words::verdict_from(number, t) else {
         return refusal::SETTING;
     };
-    if !settings.is_link() {
-        return refusal::SETTING;
-    }
     let enough = (1 <= state.len()) & (3 <= report.len());
     if !enough {
-        return refusal::TOO_SHORT;
+        return words::refuse_short(settings.is_link());
     }
     let expected = expected_from(state[0]);
     let received = receiver::receive(

@@ -2,6 +2,8 @@
 use mathlib.Core.Path.{refl, sym, _∙_}
 use Rattle.uniqueness.specs.Unique.{Unique}
 use Rattle.uniqueness.proofs.Once.{once}
+use Rattle.words.proofs.refuse_short as refuse-short-contract
+use Rattle.words.proofs.refuse_short.Reads as refuse-short-reads
 use Rattle.words.proofs.write_report as write-report-contract
 use Rattle.words.proofs.write_report.Reads as write-report-reads
 use Rattle.words.proofs.report_written as report-written-contract
@@ -10,6 +12,13 @@ use Rattle.words.proofs.type_byte as type-byte-contract
 use Rattle.words.proofs.type_byte.Reads as type-byte-reads
 use Rattle.words.proofs.verdict_from as verdict-from-contract
 use Rattle.words.proofs.verdict_from.Reads as verdict-from-reads
+
+pub refuse-short : Unique refuse-short-contract.ended (λ M. refuse-short-contract.clauses {M = M})
+refuse-short = record {
+  holds = refuse-short-reads.Learnt;
+  says = λ M 𝓤 H A mem run. refl;
+  one = λ κs a z z′ ws ws′ h h′. (h ∙ sym h′, refl);
+}
 
 pub write-report : Unique write-report-contract.ended (λ M. write-report-contract.clauses {M = M})
 write-report = record {

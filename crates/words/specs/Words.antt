@@ -1,17 +1,21 @@
 -- What the numbers of a C driver mean that hand a verdict on, and the words of a writer's report.
 use mathlib.Core.List.{List, [], _∷_}
-use mathlib.Core.Bool.{cond, _&&_}
+use mathlib.Core.Bool.{Bool, cond, _&&_}
 use Prim.Native.Nat.{ℕ}
 use lib.ListN.{length}
 use lib.Dec.{leb, ltb, eqb}
 use Rattle.lists.specs.Bytes.{over}
 use Rattle.lists.specs.Outcome.{need, Outcome, Called, called}
-use Rattle.refusal.specs.Refusal.{TOO-SHORT, BYTE, INTERRUPTED}
+use Rattle.refusal.specs.Refusal.{SETTING, TOO-SHORT, BYTE, INTERRUPTED}
 use Rattle.refusal.specs.declared.Verdict.the-variants.{Accepted, Refused}
 use Rattle.refusal.specs.declared.Written.{Written}
 use Rattle.refusal.specs.declared.Written.the-variants.{Done, Refused as NotWritten}
 use Rattle.words.specs.declared.VerdictMade.{VerdictMade}
 use Rattle.words.specs.declared.VerdictMade.the-variants.{Unknown, Known}
+
+-- "every act first 1, 2": memory is too short, and the settings are valid or not
+abbrev pub shortRefusal : Bool → ℕ
+shortRefusal valid = cond valid TOO-SHORT SETTING
 
 -- GMV_REPORT_BLOCK_LENGTH or GMV_REPORT_MESSAGE_LENGTH, then GMV_REPORT_FORBIDDEN_OFFSET
 abbrev pub reportWords : ℕ → ℕ → List ℕ

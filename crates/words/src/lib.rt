@@ -5,7 +5,7 @@ ghost use mathlib.Core.Path.{_≡_};
 ghost use mathlib.Core.List.{[]};
 ghost use Rattle.lists.specs.Bytes.{over};
 ghost use Rattle.lists.specs.Outcome.{called};
-ghost use Rattle.words.specs.Words.{reportWords, writeFinished, typeByte, verdictFrom};
+ghost use Rattle.words.specs.Words.{shortRefusal, reportWords, writeFinished, typeByte, verdictFrom};
 
 // What a block's number and type from C stand for.
 pub enum VerdictMade {
@@ -17,6 +17,17 @@ fn word(x: usize) -> u64
     ensures { λ r. ⌜ r ≡ x ⌝ }
 {
     x as u64
+}
+
+// The number for memory that is too short: 2, where the settings are valid.
+pub fn refuse_short(valid: bool) -> u64
+    ensures { λ r. ⌜ r ≡ shortRefusal valid ⌝ }
+{
+    if valid {
+        refusal::TOO_SHORT
+    } else {
+        refusal::SETTING
+    }
 }
 
 // Writes a writer's report over the first two words; nothing where there are fewer.

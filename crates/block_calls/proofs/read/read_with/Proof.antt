@@ -13,11 +13,19 @@ enum-known-reader c = search needs
 enum-told : tie.Need-enum-told
 enum-told c = search needs
 
+refuse-unknown-requires : tie.Need-refuse-unknown-requires
+refuse-unknown-requires c κs = search needs
+
 same-length : tie.Need-same-length
 same-length c = search needs
 
+same-length-2 : tie.Need-same-length-2
+same-length-2 c = search needs
+
 returns : tie.Need-returns
-returns c = rw (← (c .before .before .read-reader .ensures), c .enum-told .given .1)
+returns c =
+    let at-told = c .before .before in
+    rw (c .refuse-unknown .ensures, ← (at-told .before .before .read-reader .ensures), at-told .enum-told .given .1)
 
 read-requires : tie.Need-read-requires
 read-requires c κs = search needs
@@ -25,14 +33,14 @@ read-requires c κs = search needs
 finish-requires : tie.Need-finish-requires
 finish-requires c κs = search needs
 
-same-length-2 : tie.Need-same-length-2
-same-length-2 c = search needs
-
 same-length-3 : tie.Need-same-length-3
 same-length-3 c = search needs
 
 same-length-4 : tie.Need-same-length-4
 same-length-4 c = search needs
+
+same-length-5 : tie.Need-same-length-5
+same-length-5 c = search needs
 
 returns-2 : tie.Need-returns-2
 returns-2 c =
@@ -51,11 +59,13 @@ read-with-spec =
     read-reader-requires
     enum-known-reader
     enum-told
+    refuse-unknown-requires
     same-length
+    same-length-2
     returns
     read-requires
     finish-requires
-    same-length-2
     same-length-3
     same-length-4
+    same-length-5
     returns-2)

@@ -1,9 +1,8 @@
 -- `message_calls::control::control_block_words` meets its contract.
 use borrow.Author.Needs.{needs}
-use borrow.Author.Tests.{not-true, not-false}
 use mathlib.Core.Path.{refl, sym, _∙_}
-use Rattle.message_calls.proofs.Laws.{done, block-refused, few}
-use Rattle.message_calls.proofs.ControlLaws.{call-is, block-bad, block-good}
+use Rattle.message_calls.proofs.Laws.{done, block-refused}
+use Rattle.message_calls.proofs.ControlLaws.{call-is, block-few, block-done}
 use Rattle.message_calls.proofs.control.control_block_words.Statement.{statement}
 use Rattle.message_calls.proofs.control.control_block_words.Tie as tie
 
@@ -51,29 +50,20 @@ returns-3 c =
 is-link-requires : tie.Need-is-link-requires
 is-link-requires c κs = search needs
 
+refuse-short-requires : tie.Need-refuse-short-requires
+refuse-short-requires c κs = search needs
+
 returns-4 : tie.Need-returns-4
 returns-4 c =
-    let control = c .before .before .before in
+    let test = c .before .before in
+    let control = test .before .before in
     let name = control .before .before .before .before in
     let made = name .before .before .before .before in
     let a = made .before .before .before .before .before .args in
-    block-bad (made .made .given .0 .0) (name .name .given .0 .0) (control .control .given .0 .0) (a .buffer .now) (a .start) (a .report .now)
-    (sym (c .before .is-link .ensures) ∙ not-true _ (c .if1 .taken))
+    rw (c .refuse-short .ensures, c .before .is-link .ensures)
+    (block-few (made .made .given .0 .0) (name .name .given .0 .0) (control .control .given .0 .0) (a .buffer .now) (a .start) (a .report .now) (test .if1 .taken)
     ∙ call-is (a .letters .now) (a .number) (a .buffer .now) (a .start) (a .report .now) (a .made) _ _ _ (made .made .given .1)
-    (sym (name .before .before .from-letters .ensures) ∙ name .name .given .1) (sym (control .before .before .control-from .ensures) ∙ control .control .given .1)
-
-returns-5 : tie.Need-returns-5
-returns-5 c =
-    let linked = c .before in
-    let control = linked .before .before .before in
-    let name = control .before .before .before .before in
-    let made = name .before .before .before .before in
-    let a = made .before .before .before .before .before .args in
-    few (a .buffer .now) (a .report .now) _ (c .if2 .taken)
-    ∙ block-good (made .made .given .0 .0) (name .name .given .0 .0) (control .control .given .0 .0) (a .buffer .now) (a .start) (a .report .now)
-    (sym (linked .before .is-link .ensures) ∙ not-false _ (linked .if1 .left))
-    ∙ call-is (a .letters .now) (a .number) (a .buffer .now) (a .start) (a .report .now) (a .made) _ _ _ (made .made .given .1)
-    (sym (name .before .before .from-letters .ensures) ∙ name .name .given .1) (sym (control .before .before .control-from .ensures) ∙ control .control .given .1)
+    (sym (name .before .before .from-letters .ensures) ∙ name .name .given .1) (sym (control .before .before .control-from .ensures) ∙ control .control .given .1))
 
 write-control-block-requires : tie.Need-write-control-block-requires
 write-control-block-requires c κs = search needs
@@ -87,19 +77,17 @@ same-length c = search needs
 same-length-2 : tie.Need-same-length-2
 same-length-2 c = search needs
 
-returns-6 : tie.Need-returns-6
-returns-6 c =
+returns-5 : tie.Need-returns-5
+returns-5 c =
     let test = c .before .before .before .before .before .before .before .before in
-    let linked = test .before in
-    let control = linked .before .before .before in
+    let control = test .before .before in
     let name = control .before .before .before .before in
     let made = name .before .before .before .before in
     let a = made .before .before .before .before .before .args in
     let written = c .before .before .before .before .before .before .write-control-block in
     let report = c .before .before .report-control in
-    done (a .buffer .now) (a .report .now) _ _ (written .result) (report .result) _ (test .if2 .left) (report .ensures) (written .ensures)
-    ∙ block-good (made .made .given .0 .0) (name .name .given .0 .0) (control .control .given .0 .0) (a .buffer .now) (a .start) (a .report .now)
-    (sym (linked .before .is-link .ensures) ∙ not-false _ (linked .if1 .left))
+    done (a .buffer .now) (a .report .now) _ _ (written .result) (report .result) _ (test .if1 .left) (report .ensures) (written .ensures)
+    ∙ block-done (made .made .given .0 .0) (name .name .given .0 .0) (control .control .given .0 .0) (a .buffer .now) (a .start) (a .report .now) (test .if1 .left)
     ∙ call-is (a .letters .now) (a .number) (a .buffer .now) (a .start) (a .report .now) (a .made) _ _ _ (made .made .given .1)
     (sym (name .before .before .from-letters .ensures) ∙ name .name .given .1) (sym (control .before .before .control-from .ensures) ∙ control .control .given .1)
 
@@ -119,10 +107,10 @@ control-block-words-spec =
     enum-told-3
     returns-3
     is-link-requires
+    refuse-short-requires
     returns-4
-    returns-5
     write-control-block-requires
     report-control-requires
     same-length
     same-length-2
-    returns-6)
+    returns-5)
