@@ -1,7 +1,7 @@
 -- One call of gmv_*_read: what its words say of the answer. From any words whatever it uses at most the part, and a verdict takes at least one byte.
 use mathlib.Core.Path.{_≡_, refl, sym, ap, _∙_}
 use mathlib.Core.List.{List, _++_}
-use mathlib.Core.Bool.{true, false, true≢false}
+use mathlib.Core.Bool.{true, false, _&&_, true≢false}
 use Prim.Native.Nat.{ℕ, zero, suc, _≤_, _<_}
 use native.Mathlib.Omega.{arith}
 use lib.ListN.{length, drop, length-append, length-drop}
@@ -10,7 +10,7 @@ use lib.Dec.{eqb, leb}
 use borrow.Author.Tests.{le-leb, leb-true, eqb-true}
 use Rattle.lists.specs.Bytes.{over}
 use Rattle.lists.specs.Outcome.{Called, called}
-use Rattle.lists.proofs.Tests.{and-left, cond-ind}
+use Rattle.lists.proofs.Tests.{and-left, and-right, cond-ind}
 use Rattle.lists.proofs.Calls.{over-is}
 use Rattle.settings.specs.Settings.{valid, capacityOf, dataOffsetOf}
 use Rattle.settings.specs.declared.Settings.{Settings}
