@@ -38,6 +38,28 @@ pub record Passed : Type 0 where
   pub numbers : SettingNumbers
   pub letters : List ℕ
 
+-- ---- the words of a report that a driver looks at, by their names in the header
+abbrev pub reportWord : ℕ → Called → ℕ
+reportWord i c = getD (c .report) i 0
+
+-- GMV_ACT_SEND, GMV_ACT_SEND_NUMBER
+abbrev pub sendKind : Called → ℕ
+sendKind c = reportWord 0 c
+
+abbrev pub sendNumber : Called → ℕ
+sendNumber c = reportWord 1 c
+
+-- GMV_REPORT_BLOCK_LENGTH
+abbrev pub blockLength : Called → ℕ
+blockLength c = reportWord 0 c
+
+-- GMV_RECEIVED_TRANSACTION, GMV_RECEIVED_REPLY_LENGTH
+abbrev pub transactionNumber : Called → ℕ
+transactionNumber c = reportWord 0 c
+
+abbrev pub replyLength : Called → ℕ
+replyLength c = reportWord 1 c
+
 -- ---- what a driver has
 -- for a reader: GMV_READER words, the buffer, GMV_VERDICT words
 pub record ReaderMemory : Type 0 where
@@ -141,11 +163,14 @@ linePast g n x = line (readerPast g (x .reader) (take n (x .bytes))) (drop n (x 
 -- ---- the sender's end
 -- what a report names, if the call was done
 abbrev pub namedBy : Called → List Named
-namedBy c = cond (eqb (c .number) 0 && not (eqb (getD (c .report) 0 0) 0)) (record { kind = getD (c .report) 0 0; number = getD (c .report) 1 0 } ∷ []) []
+namedBy c = cond (eqb (c .number) 0 && not (eqb (sendKind c) 0)) (record { kind = sendKind c; number = sendNumber c } ∷ []) []
 
 -- GMV_SENDER_WAITING is 0 where no circuit is open: what was named is dropped then
+abbrev pub waitingWordOf : Called → ℕ
+waitingWordOf c = getD (c .state) 5 0
+
 abbrev pub namedThen : List Named → Called → List Named
-namedThen ns c = cond (eqb (getD (c .state) 5 0) 0) [] (ns ++ namedBy c)
+namedThen ns c = cond (eqb (waitingWordOf c) 0) [] (ns ++ namedBy c)
 
 abbrev pub withCall : SenderMemory → Called → SenderMemory
 withCall m c = senderMemory (c .state) (c .report) (m .reader) (m .block) (m .written)
@@ -180,7 +205,7 @@ sentBy x start ns c =
     let m = x .sender .memory in
     cond (eqb (c .number) 0 && same (take 5 (m .state)) (e .stored))
     (drivers (senderEnd (senderMemory (m .state) (m .report) (m .reader) (c .buffer) (c .report)) (e .stored) ns (e .arrived)) (x .receiver)
-    (line (x .forward .reader) (x .forward .bytes ++ take (getD (c .report) 0 0) (drop start (c .buffer)))) (x .back)) x
+    (line (x .forward .reader) (x .forward .bytes ++ take (blockLength c) (drop start (c .buffer)))) (x .back)) x
 
 abbrev pub oldestSent : Passed → ℕ → Drivers → List Named → Drivers
 oldestSent k start x [] = x
@@ -205,11 +230,11 @@ restoredWords e s = over s (e .stored ++ 0 ∷ 0 ∷ [])
 
 -- ---- the receiver's end
 abbrev pub replyBy : ℕ → Called → List (List ℕ)
-replyBy start c = cond (eqb (getD (c .report) 1 0) 0) [] (take (getD (c .report) 1 0) (drop start (c .buffer)) ∷ [])
+replyBy start c = cond (eqb (replyLength c) 0) [] (take (replyLength c) (drop start (c .buffer)) ∷ [])
 
 -- GMV_RECEIVED_TRANSACTION is 0 where there is none
 abbrev pub withTransaction : List (List ℕ) → List ℕ → Called → List (List ℕ)
-withTransaction ts d c = cond (eqb (getD (c .report) 0 0) 0) ts (ts ++ d ∷ [])
+withTransaction ts d c = cond (eqb (transactionNumber c) 0) ts (ts ++ d ∷ [])
 
 abbrev pub requestRead : Passed → Drivers → Called → Drivers
 requestRead k x c =

@@ -272,7 +272,11 @@ pub fn station_other_lengths(compare: &mut Compare) -> Outcome {
             };
             let block = matches!(call.unit, Unit::Block { .. });
             too_long += u64::from(block && memory.state[2] > length as u64);
-            same("number", &[compare.station_call(&mut memory, &call)?.number], &[0])?;
+            same(
+                "number",
+                &[compare.station_call(&mut memory, &call)?.number],
+                &[0],
+            )?;
         }
     }
     if too_long < 2_000 {
