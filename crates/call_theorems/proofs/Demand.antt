@@ -1,54 +1,76 @@
 -- Demand 3 of the C functions: every run of two drivers that call them is a run of the link, and so what they hold and have stored is as the demand says.
 use mathlib.Core.Path.{_≡_, refl, sym, ap, _∙_, subst}
-use mathlib.Core.List.{List, [], _∷_}
+use mathlib.Core.List.{List, [], _∷_, _++_, map}
 use mathlib.Core.Bool.{Bool, true, false, cond, _&&_}
 use mathlib.Core.Logic.{_⊎_, inl, inr}
 use Prim.Native.Nat.{ℕ, _+_, _≤_}
 use Prim.Native.Char.{code}
+use native.Mathlib.Omega.{arith}
 use lib.ListN.{length, take, getD}
 use lib.Dec.{leb, eqb}
 use borrow.Author.Tests.{le-leb, leb-true, eqb-true}
-use Rattle.lists.specs.Bytes.{over}
+use Rattle.lists.specs.Bytes.{same, over}
+use Rattle.lists.specs.Outcome.{Called}
 use Rattle.lists.proofs.Tests.{and-left, and-right}
-use Rattle.settings.specs.Settings.{capacityOf}
+use Rattle.settings.specs.Settings.{linkOf}
 use Rattle.settings.specs.declared.Settings.{Settings}
-use Rattle.refusal.specs.declared.Verdict.the-variants.{Accepted}
+use Rattle.refusal.specs.Refusal.{numberOf, typeOf}
+use Rattle.refusal.specs.declared.Verdict.{Verdict}
+use Rattle.refusal.specs.declared.Verdict.the-variants.{Accepted, Refused}
+use Rattle.block.specs.Format.{blockOf}
 use Rattle.fields.specs.Fields.{bytesOf}
 use Rattle.numbers.specs.Numbers.{textOf}
-use Rattle.numbers.specs.declared.SequenceNumber.{SequenceNumber}
 use Rattle.numbers.specs.declared.SequenceNumber.the-variants.{Number}
 use Rattle.header.specs.Header.{answerField}
 use Rattle.stream.specs.Stream.{Judged}
-use Rattle.receiver.specs.Receiver.{validExpected}
+use Rattle.receiver.specs.Receiver.{replySpace, validExpected}
+use Rattle.receiver.specs.declared.Application.{Application}
 use Rattle.receiver.specs.declared.Expected.{Expected}
 use Rattle.receiver.specs.declared.Expected.the-variants.{Unknown, Next}
-use Rattle.receiver_calls.specs.ReceiverCalls.{expectedWord, expectedFrom}
+use Rattle.receiver_calls.specs.ReceiverCalls.{expectedWord, expectedFrom, applicationFrom, receiveCall}
+use Rattle.receiver_calls.specs.declared.ApplicationMade.the-variants.{Known}
 use Rattle.sender.specs.Sender.{validSender, waitsOf, freshSender, senderOf}
-use Rattle.sender.specs.declared.Waiting.the-variants.{Sending}
 use Rattle.sender.specs.declared.Sender.{Sender}
-use Rattle.sender.specs.declared.NumberedMessage.the-variants.{Numbered}
-use Rattle.sender_calls.specs.SenderCalls.{flagWord, senderWords, sendWords, freshCall}
+use Rattle.sender.specs.declared.NumberedMessage.{NumberedMessage}
+use Rattle.sender.specs.declared.NumberedMessage.the-variants.{Nothing, Numbered}
+use Rattle.sender.specs.declared.Acted.{Acted}
+use Rattle.sender_calls.specs.SenderCalls.{flagWord, waitingOf, senderWords, sendWords, freshCall, submitCall}
 use Rattle.link.specs.Duties.{every, oneAt}
-use Rattle.link.specs.SenderActs.{actOf}
-use Rattle.link.specs.Line.{Line, line, emptyLine, damages, disorders}
-use Rattle.link.specs.System.{Link, System, nothingLeft, link, startOf, damagesForward as linkDamagesForward, damagesBack as linkDamagesBack, runOf}
-use Rattle.link.specs.Promise.{Ready, Safe, Covers}
-use Rattle.link.proofs.Queues.{each-none}
-use Rattle.link.proofs.Safety.{none-left, run-keeps, safety}
-use Rattle.link.proofs.Reports.{reports, sends-at-once, abandons-exactly}
+use Rattle.link.specs.SenderActs.{actOf, fallsDue}
+use Rattle.link.specs.SenderHistory.{Entry, reported, countedOf}
+use Rattle.link.specs.Line.{Line, line, damages, disorders}
+use Rattle.link.specs.System.{Link, System, Remains, SystemAct, beginning, link, damagesForward as linkDamagesForward, damagesBack as linkDamagesBack, runOf}
+use Rattle.link.specs.Promise.{Logged, Ready, Covers, OnlyAnswers}
+use Rattle.link.proofs.Queues.{Each, each-none, each-more, Front, front, each-front}
+use Rattle.link.proofs.SenderDue.{due-sends}
+use Rattle.link.proofs.Submitted.{submit-logged}
+use Rattle.link.proofs.Early.{Standing}
+use Rattle.link.proofs.Safety.{run-stands, safety-from}
+use Rattle.link.proofs.Reports.{reports, sends-at-once, nothing-left, abandons-exactly}
 use Rattle.link.proofs.Delivery.{answer-moves}
-use Rattle.link.proofs.Invariant.{Inv}
+use Rattle.link.proofs.Facts.{not-both}
 use Rattle.link.proofs.Runs.{run-join}
-use Rattle.call_theorems.specs.Driver.{Passed, ReaderMemory, SenderMemory, ReceiverMemory, Drivers, drivers, freshReader, enoughToSend, enoughToReceive, DriverAct, afterDriver, drivenBy, driversStart}
+use Rattle.call_theorems.specs.Driver.{Passed, madeFrom, Named, SenderMemory, ReceiverMemory, Drivers, drivers, enoughToRead, enoughToSend, enoughToReceive, waitsWords, reportOf, DriverAct, afterDriver, drivenBy, DriversLeft, driversStart}
 use Rattle.call_theorems.specs.Driver.{opens, ends, resets, timer, submits, stores, restores, receiverStores, receiverRestores, replies, sends, reads, takes, drops, receiverReads, receiverDrops}
 use Rattle.call_theorems.specs.Driver.{receives, replaces, receiverReplaces, tries, crashes, receiverCrashes, damagesForward, damagesBack}
+use Rattle.call_theorems.specs.Verdicts.{readerGives}
+use Rattle.call_theorems.specs.Reading.{Shown, shown}
 use Rattle.call_theorems.specs.DriversRun.{actsOf, linkRun}
-use Rattle.call_theorems.specs.DriversPromise.{Agrees, DriversSafe, deliveredWord, SenderCall, calledBy, actBy, Offered, sendWordsOf, Tells}
-use Rattle.call_theorems.proofs.Shows.{Behind, StandsOn, Shows, over-behind}
-use Rattle.call_theorems.proofs.Driving.{Goes, by-act, fresh-on, opens-goes, ends-goes, resets-goes, timer-goes, submits-goes, stores-goes, restores-goes}
-use Rattle.call_theorems.proofs.Telling.{call-told, due-resends}
-use Rattle.call_theorems.proofs.SenderDriving.{sends-goes, reads-goes, takes-goes, drops-goes, replaces-goes, crashes-goes}
-use Rattle.call_theorems.proofs.ReceiverDriving.{receiver-reads-goes, receives-goes, tries-goes, receiver-replaces-goes, receiver-drops-goes, receiver-stores-goes, receiver-restores-goes, receiver-crashes-goes, replies-goes}
+use Rattle.call_theorems.specs.DriversPromise.{Agrees, allGiven, DriversSafe, deliveredWord, lastWord, waitsWord, SenderCall, submitting, calledBy, actBy, Offered, abandonedWord, sendWordsOf, applies, messageNamed, sendsShown, Tells}
+use Rattle.call_theorems.proofs.Shows.{SameVerdict, Behind, Shows, waits-is, over-behind}
+use Rattle.call_theorems.proofs.Driving.{Goes, by-act, fresh-enough, opens-goes, ends-goes, resets-goes, timer-goes, submits-goes, stores-goes, restores-goes}
+use Rattle.call_theorems.proofs.Telling.{Words, sends-shown, call-told, call-showed, call-number, waiting-back, call-taken, due-resends}
+use Rattle.call_theorems.proofs.SenderDriving.{each-one, named-goes-out, sends-goes, reads-goes, takes-goes, drops-goes, replaces-goes, crashes-goes}
+use Rattle.call_theorems.proofs.ReceiverDriving.{receiver-reads-goes, block-taken, receives-goes, tries-goes, receiver-replaces-goes, receiver-drops-goes, receiver-stores-goes, receiver-restores-goes, receiver-crashes-goes, replies-goes}
+
+-- a verdict with the number 0 and the type D is that of an accepted data block
+record AcceptedData (v : Verdict) : Type 0 where
+  size : ℕ
+  is : v ≡ Accepted (code "D") size
+
+accepted-data : (v : Verdict) → readerGives v ≡ true → numberOf v ≡ 0 → typeOf v ≡ code "D" → AcceptedData v
+accepted-data (Accepted t n) g z d = record { size = n; is = ap (λ (k : ℕ). Accepted k n) d }
+accepted-data (Refused n i) g z d = let a = leb-true 3 n (and-left (leb 3 n) (leb n 8) g) in absurd (omega arith)
 
 module _ (k : Passed) (ag : Agrees k) (rd : Ready (k .link)) where
   abbrev l : Link
@@ -102,6 +124,7 @@ module _ (k : Passed) (ag : Agrees k) (rd : Ready (k .link)) where
             stored = h .sender .stored;
             named = h .sender .named;
             arrived = h .sender .arrived;
+            reports = h .sender .reports;
             reader = record { stands = h .sender .reader .stands; within = h .sender .reader .within };
           };
           receiver = h .receiver;
@@ -120,8 +143,8 @@ module _ (k : Passed) (ag : Agrees k) (rd : Ready (k .link)) where
         (sym (ap (λ (z : Line). disorders g z xs) (sym (h .back)) ∙ e)) disordered-shows)
 
   -- ---- each act
-  act-goes : (a : DriverAct) (x : Drivers) (y : System) → Inv l y → Shows l x y → Goes l (actsOf k a x) (afterDriver k a x) y
-  act-goes opens x y i h = opens-goes k ag rd x y i h
+  act-goes : (a : DriverAct) (x : Drivers) (y : System) → Standing l y → Shows l x y → Goes l (actsOf k a x) (afterDriver k a x) y
+  act-goes (opens r q) x y i h = opens-goes k ag rd x y i h r q
   act-goes ends x y i h = ends-goes k ag rd x y i h
   act-goes resets x y i h = resets-goes k ag rd x y i h
   act-goes timer x y i h = timer-goes k ag rd x y i h
@@ -138,8 +161,8 @@ module _ (k : Passed) (ag : Agrees k) (rd : Ready (k .link)) where
   act-goes (receiverReads n) x y i h = receiver-reads-goes k ag rd x y i h n
   act-goes (receiverDrops n) x y i h = receiver-drops-goes k ag rd x y i h n
   act-goes (receives a start) x y i h = receives-goes k ag rd x y i h a start
-  act-goes (replaces p b w) x y i h = replaces-goes k ag rd x y i h p b w
-  act-goes (receiverReplaces p b) x y i h = receiver-replaces-goes k ag rd x y i h p b
+  act-goes (replaces p v b w) x y i h = replaces-goes k ag rd x y i h p v b w
+  act-goes (receiverReplaces p v b) x y i h = receiver-replaces-goes k ag rd x y i h p v b
   act-goes (tries a start) x y i h = tries-goes k ag rd x y i h a start
   act-goes (crashes m) x y i h = crashes-goes k ag rd x y i h m
   act-goes (receiverCrashes m) x y i h = receiver-crashes-goes k ag rd x y i h m
@@ -147,12 +170,26 @@ module _ (k : Passed) (ag : Agrees k) (rd : Ready (k .link)) where
   act-goes (damagesBack xs) x y i h = back-goes x y h xs (disorders g (x .back) xs) refl
 
   -- ---- the beginning
-  module _ (m : SenderMemory) (n : ReceiverMemory) (w : ℕ) (enough : enoughToSend g m ≡ true) (space : enoughToReceive g n ≡ true) (state : validExpected (expectedFrom w) ≡ true) where
+  -- the verdicts that are left are shown as the reader gave them
+  all-shown : (ws : List Judged) → allGiven ws ≡ true → Each (SameVerdict g) (map (shown g) ws) ws
+  all-shown [] e = each-none
+  all-shown (w ∷ ws) e =
+      each-more {y = w} (record { is = refl; given = and-left (readerGives (w .verdict)) (allGiven ws) e }) (all-shown ws (and-right (readerGives (w .verdict)) (allGiven ws) e))
+
+  module _ (left : DriversLeft) (given : allGiven (left .answers) ≡ true) (m : SenderMemory) (n : ReceiverMemory) (w : ℕ) (enough : enoughToSend g m ≡ true) (space : enoughToReceive g n ≡ true)
+      (state : validExpected (expectedFrom w) ≡ true) where
     abbrev e : Expected
     e = expectedFrom w
 
     abbrev begun : Drivers
-    begun = driversStart k m n w
+    begun = driversStart k left m n w
+
+    -- the same as the link has it
+    abbrev remains : Remains
+    remains = record { forward = []; back = left .back; pending = left .pending; requests = []; answers = left .answers }
+
+    only : OnlyAnswers remains
+    only = record { forward = refl; requests = refl }
 
     -- the word stands for what it is read as
     word-is : expectedWord (expectedFrom w) ≡ w
@@ -162,26 +199,14 @@ module _ (k : Passed) (ag : Agrees k) (rd : Ready (k .link)) where
         go true z = sym (eqb-true w 0 z)
         go false z = refl
 
-    abbrev enoughReader : ReaderMemory → Bool
-    enoughReader r = leb 4 (length (r .state)) && (leb (capacityOf g) (length (r .buffer)) && leb 8 (length (r .verdict)))
-
-    fresh-enough : (r : ReaderMemory) → enoughReader r ≡ true → StandsOn g (freshReader r) emptyLine
-    fresh-enough r q =
-        let readers = leb 4 (length (r .state)) in
-        let buffers = leb (capacityOf g) (length (r .buffer)) in
-        let verdicts = leb 8 (length (r .verdict)) in
-        let more = and-right readers (buffers && verdicts) q in
-        fresh-on k ag rd r (leb-true 4 (length (r .state)) (and-left readers (buffers && verdicts) q)) (leb-true (capacityOf g) (length (r .buffer)) (and-left buffers verdicts more))
-        (leb-true 8 (length (r .verdict)) (and-right buffers verdicts more))
-
     state-words : 7 ≤ length (m .state)
-    state-words = leb-true 7 (length (m .state)) (and-left (leb 7 (length (m .state))) (leb 8 (length (m .report)) && enoughReader (m .reader)) enough)
+    state-words = leb-true 7 (length (m .state)) (and-left (leb 7 (length (m .state))) (leb 8 (length (m .report)) && enoughToRead g (m .reader)) enough)
 
-    sender-rest : (leb 8 (length (m .report)) && enoughReader (m .reader)) ≡ true
-    sender-rest = and-right (leb 7 (length (m .state))) (leb 8 (length (m .report)) && enoughReader (m .reader)) enough
+    sender-rest : (leb 8 (length (m .report)) && enoughToRead g (m .reader)) ≡ true
+    sender-rest = and-right (leb 7 (length (m .state))) (leb 8 (length (m .report)) && enoughToRead g (m .reader)) enough
 
-    receiver-rest : (leb 3 (length (n .report)) && enoughReader (n .reader)) ≡ true
-    receiver-rest = and-right (leb 1 (length (n .state))) (leb 3 (length (n .report)) && enoughReader (n .reader)) space
+    receiver-rest : (leb 3 (length (n .report)) && enoughToRead g (n .reader)) ≡ true
+    receiver-rest = and-right (leb 1 (length (n .state))) (leb 3 (length (n .report)) && enoughToRead g (n .reader)) space
 
     fresh-words : freshCall (l .first) (m .state) .state ≡ over (m .state) (senderWords (freshSender (l .first)))
     unfolding freshCall senderOf
@@ -193,27 +218,29 @@ module _ (k : Passed) (ag : Agrees k) (rd : Ready (k .link)) where
     behind : Behind (senderWords (freshSender (l .first))) (freshCall (l .first) (m .state) .state)
     behind = subst (Behind (senderWords (freshSender (l .first)))) (sym fresh-words) (over-behind (senderWords (freshSender (l .first))) (m .state) state-words)
 
-    start-shows : Shows l begun (startOf l e)
+    start-shows : Shows l begun (beginning every l e remains)
     start-shows =
+        let answers = fresh-enough k ag rd (m .reader) (and-right (leb 8 (length (m .report))) (enoughToRead g (m .reader)) sender-rest) in
         record {
           sender = record {
             state = behind;
-            report = leb-true 8 (length (m .report)) (and-left (leb 8 (length (m .report))) (enoughReader (m .reader)) sender-rest);
+            report = leb-true 8 (length (m .report)) (and-left (leb 8 (length (m .report))) (enoughToRead g (m .reader)) sender-rest);
             stored = ap (take 5) (behind .is);
             named = each-none;
-            arrived = each-none;
-            reader = fresh-enough (m .reader) (and-right (leb 8 (length (m .report))) (enoughReader (m .reader)) sender-rest);
+            arrived = all-shown (left .answers) given;
+            reports = each-none;
+            reader = record { stands = answers .stands; within = answers .within };
           };
           receiver = record {
             state = subst (λ (v : ℕ). Behind (v ∷ []) (over (n .state) (w ∷ []))) (sym word-is)
-                (over-behind (w ∷ []) (n .state) (leb-true 1 (length (n .state)) (and-left (leb 1 (length (n .state))) (leb 3 (length (n .report)) && enoughReader (n .reader)) space)));
-            report = leb-true 3 (length (n .report)) (and-left (leb 3 (length (n .report))) (enoughReader (n .reader)) receiver-rest);
+                (over-behind (w ∷ []) (n .state) (leb-true 1 (length (n .state)) (and-left (leb 1 (length (n .state))) (leb 3 (length (n .report)) && enoughToRead g (n .reader)) space)));
+            report = leb-true 3 (length (n .report)) (and-left (leb 3 (length (n .report))) (enoughToRead g (n .reader)) receiver-rest);
             has = refl;
             stored = ap (λ (v : ℕ). v ∷ []) (sym word-is);
             stored-has = refl;
             pending = refl;
             arrived = each-none;
-            reader = fresh-enough (n .reader) (and-right (leb 3 (length (n .report))) (enoughReader (n .reader)) receiver-rest);
+            reader = fresh-enough k ag rd (n .reader) (and-right (leb 3 (length (n .report))) (enoughToRead g (n .reader)) receiver-rest);
           };
           forward = refl;
           back = refl;
@@ -221,22 +248,26 @@ module _ (k : Passed) (ag : Agrees k) (rd : Ready (k .link)) where
 
     -- ---- every run of the drivers is a run of the link, act by act
     abbrev pub linkEnd : List DriverAct → System
-    linkEnd ds = runOf every l (startOf l e) (linkRun k begun ds)
+    linkEnd ds = runOf every l (beginning every l e remains) (linkRun k begun ds)
+
+    standing : (ds : List DriverAct) → Standing l (linkEnd ds)
+    standing ds = run-stands l rd remains only e state (linkRun k begun ds)
 
     pub calls-run : (ds : List DriverAct) → Shows l (drivenBy k begun ds) (linkEnd ds)
     unfolding drivenBy runOf linkRun
     calls-run [] = start-shows
     calls-run (a ∷ ds) =
-        subst (Shows l (afterDriver k a (drivenBy k begun ds))) (sym (run-join l (startOf l e) (linkRun k begun ds) (actsOf k a (drivenBy k begun ds))))
-        (act-goes a (drivenBy k begun ds) (linkEnd ds) (run-keeps l rd e state (linkRun k begun ds)) (calls-run ds) .shows)
+        subst (Shows l (afterDriver k a (drivenBy k begun ds))) (sym (run-join l (beginning every l e remains) (linkRun k begun ds) (actsOf k a (drivenBy k begun ds))))
+        (act-goes a (drivenBy k begun ds) (linkEnd ds) (standing ds) (calls-run ds) .shows)
 
     -- ---- so demand 3 holds of what C sees
     pub calls-safe : (ds : List DriverAct) → DriversSafe l (drivenBy k begun ds)
     calls-safe ds =
         let h = calls-run ds in
-        let f = safety l rd e state (linkRun k begun ds) in
+        let f = safety-from l rd remains only e state (linkRun k begun ds) in
         let held = ap (λ (ws : List ℕ). getD ws 1 0) (h .sender .state .is) in
         let kept = ap (λ (ws : List ℕ). getD ws 1 0) (h .sender .stored) in
+        let last = ap (λ (ws : List ℕ). getD ws 2 0) (h .sender .stored) in
         record {
           held = f .volatile;
           stored = f .persisted;
@@ -246,46 +277,121 @@ module _ (k : Passed) (ag : Agrees k) (rd : Ready (k .link)) where
           covers-stored = subst (λ (n : ℕ). Covers l n (f .persisted)) (sym held) (f .covers-persisted);
           stored-covers = subst (λ (n : ℕ). Covers l n (f .volatile)) (sym kept) (f .persisted-covers);
           stored-covers-stored = subst (λ (n : ℕ). Covers l n (f .persisted)) (sym kept) (f .persisted-covers-persisted);
+          submitted = subst (λ (n : ℕ). l .first + f .volatile ≤ n + 1) (sym last) (f .submitted);
           unfrozen = ap (λ (ws : List ℕ). getD ws 4 0) (h .sender .state .is) ∙ ap flagWord (f .unfrozen);
           stored-unfrozen = ap (λ (ws : List ℕ). getD ws 4 0) (h .sender .stored) ∙ ap flagWord (f .persisted-unfrozen);
         }
 
-    -- ---- what the sender's calls tell, after any run
+    -- ---- what the calls do and show, after any run
     module _ (ds : List DriverAct) where
       abbrev x : Drivers
       x = drivenBy k begun ds
 
+      abbrev st : List ℕ
+      st = x .sender .memory .state
+
+      abbrev run : List SystemAct
+      run = linkRun k begun ds
+
       abbrev s : Sender
       s = linkEnd ds .sending .sender
 
+      abbrev h : List Entry
+      h = linkEnd ds .sending .history
+
       sender-valid : validSender (linkEnd ds .sending .sender) ≡ true
-      sender-valid = run-keeps l rd e state (linkRun k begun ds) .ends .valid
+      sender-valid = standing ds .ends .valid
 
-      pub calls-tell : (q : SenderCall) → Offered (x .sender .arrived) q → eqb (calledBy k (x .sender .memory) q .number) 0 ≡ true
-          → Tells k (linkEnd ds .sending .sender) (linkEnd ds .sending .history) q (calledBy k (x .sender .memory) q)
-      calls-tell q o done =
-          let t = call-told k rd (drivenBy k begun ds) (linkEnd ds) sender-valid (calls-run ds) q o done in
-          let run = linkRun k begun ds in
-          record {
-            sends = t .sends ∙ reports l rd nothingLeft none-left e state run (actBy k q);
-            abandons = t .abandons ∙ abandons-exactly l rd nothingLeft none-left e state run (actBy k q) (due-resends k q);
-            at-once = λ m w. named m (t .send) (sends-at-once l rd nothingLeft none-left e state run (actBy k q) m w);
-          }
-        where
-          named : (m : SequenceNumber) → sendWordsOf (calledBy k (x .sender .memory) q) ≡ sendWords (actOf (actBy k q) s .send)
-              → (actOf (actBy k q) s .send ≡ Numbered m) ⊎ (waitsOf s ≡ Numbered m)
-              → (sendWordsOf (calledBy k (x .sender .memory) q) ≡ sendWords (Numbered m)) ⊎ (waitsOf s ≡ Numbered m)
-          named m is (inl z) = inl (is ∙ ap sendWords z)
-          named m is (inr z) = inr z
+      -- a call that applies is done: opening where no circuit is open, the timer, the end and each verdict on one
+      pub calls-taken : (q : SenderCall) → Offered (x .sender .arrived) q → applies q st ≡ true → calledBy k (x .sender .memory) q .number ≡ 0
+      calls-taken = call-taken k rd (drivenBy k begun ds) (linkEnd ds) sender-valid (calls-run ds) (standing ds .core .senders .unfrozen)
 
-      -- "An intact answer to the waiting transaction, read before that, moves the mark.": the driver acts on a data block whose MSA-2 is the number of the transaction that waits
-      module _ (i : ℕ) (j : Judged) (vs : List Judged) (arrived : oneAt i (linkEnd ds .sending .arrived) ≡ j ∷ vs) (size : ℕ) (is : j .verdict ≡ Accepted (code "D") size)
-          (waits : linkEnd ds .sending .sender .waiting ≡ Sending)
-          (own : bytesOf (answerField 2 (j .content)) (j .content) ≡ textOf (Number (deliveredWord (drivenBy k begun ds .sender .memory .state) + 1))) where
-        pub calls-move : deliveredWord (drivenBy k begun (takes i ∷ ds) .sender .memory .state) ≡ deliveredWord (drivenBy k begun ds .sender .memory .state) + 1
+      -- what is submitted under the link's limit and taken is a message of its log, under the next number
+      pub calls-submit : (d : List ℕ) → submitCall (g .«data_limit») d st (x .sender .memory .report) .number ≡ 0 → Logged g (lastWord st + 1) d
+      calls-submit d z =
+          let last = ap (λ (ws : List ℕ). getD ws 2 0) (calls-run ds .sender .state .is) in
+          subst (λ (n : ℕ). Logged g (n + 1) d) (sym last)
+          (submit-logged g s d (sym (call-number k rd (drivenBy k begun ds) (linkEnd ds) sender-valid (calls-run ds) (submitting (g .«data_limit») d) refl) ∙ z))
+
+      before-is : sendsShown (waitsWords st) (x .sender .reports) ≡ countedOf (waitsOf s) h
+      before-is = ap (λ (ws : List ℕ). sendsShown ws (x .sender .reports)) (waits-is s st (calls-run ds .sender .state)) ∙ sends-shown (waitsOf s) (calls-run ds .sender .reports)
+
+      module _ (q : SenderCall) (o : Offered (x .sender .arrived) q) (done : eqb (calledBy k (x .sender .memory) q .number) 0 ≡ true) where
+        abbrev c : Called
+        c = calledBy k (x .sender .memory) q
+
+        abbrev a : Acted
+        a = actOf (actBy k q) s
+
+        words : Words a c
+        words = call-told k rd (drivenBy k begun ds) (linkEnd ds) sender-valid (calls-run ds) q o done
+
+        after-is : sendsShown (waitsWords (c .state)) (reportOf c ∷ x .sender .reports) ≡ countedOf (waitsOf (a .sender)) (reported a ∷ h)
+        after-is =
+            ap (λ (ws : List ℕ). sendsShown ws (reportOf c ∷ x .sender .reports)) (words .waits)
+            ∙ sends-shown (waitsOf (a .sender)) (each-more {y = reported a} (call-showed k rd (drivenBy k begun ds) (linkEnd ds) sender-valid (calls-run ds) q o) (calls-run ds .sender .reports))
+
+        named : (m : NumberedMessage) → waitsOf (a .sender) ≡ m → (waitsWords (c .state) ≡ sendWordsOf c) ⊎ ((waitsWords (c .state) ≡ 0 ∷ 0 ∷ []) ⊎ (waitsWords (c .state) ≡ waitsWords st))
+        named Nothing z = inr (inl (words .waits ∙ ap sendWords z))
+        named (Numbered m) z = go (sends-at-once l rd remains only e state run (actBy k q) m z)
+          where
+            go : (a .send ≡ Numbered m) ⊎ (waitsOf s ≡ Numbered m) → (waitsWords (c .state) ≡ sendWordsOf c) ⊎ ((waitsWords (c .state) ≡ 0 ∷ 0 ∷ []) ⊎ (waitsWords (c .state) ≡ waitsWords st))
+            go (inl y) = inl (words .waits ∙ ap sendWords (z ∙ sym y) ∙ sym (words .send))
+            go (inr y) = inr (inr (words .waits ∙ ap sendWords (z ∙ sym y) ∙ sym (waits-is s st (calls-run ds .sender .state))))
+
+        pub calls-tell : Tells k (x .sender) q c
+        calls-tell =
+            let t = words in
+            record {
+              sends =
+                  t .sends
+                  ∙ reports l rd remains only e state run (actBy k q)
+                  ∙ ap (λ (b : Bool). cond b (countedOf (waitsOf s) h) (countedOf (waitsOf (a .sender)) (reported a ∷ h))) (sym (t .abandons))
+                  ∙ ap (λ (i : ℕ). cond (abandonedWord c) i (countedOf (waitsOf (a .sender)) (reported a ∷ h))) (sym before-is)
+                  ∙ ap (λ (i : ℕ). cond (abandonedWord c) (sendsShown (waitsWords st) (x .sender .reports)) i) (sym after-is);
+              abandons =
+                  t .abandons
+                  ∙ abandons-exactly l rd remains only e state run (actBy k q) (due-resends k q)
+                  ∙ ap (λ (i : ℕ). fallsDue (actBy k q) && eqb i (l .resends + 1)) (sym before-is);
+              resends = λ d u. t .send ∙ ap sendWords (due-sends s (actBy k q) d (t .refusal) (sym (t .abandons) ∙ u)) ∙ sym (waits-is s st (calls-run ds .sender .state));
+              at-once = named (waitsOf (a .sender)) refl;
+            }
+
+      -- where nothing waits on an open circuit, all that was submitted is delivered
+      pub calls-idle : waitsWord st ≡ 1 → deliveredWord st ≡ lastWord st
+      calls-idle z =
+          let is = calls-run ds .sender .state .is in
+          ap (λ (ws : List ℕ). getD ws 1 0) is
+          ∙ nothing-left l rd remains only e state run (sym (waiting-back k rd (drivenBy k begun ds) (linkEnd ds) sender-valid (calls-run ds)) ∙ ap waitingOf z)
+          ∙ sym (ap (λ (ws : List ℕ). getD ws 2 0) is)
+
+      -- what a report named goes out, once the words are stored
+      pub calls-send : (start : ℕ) (v : Named) (vs : List Named) → x .sender .named ≡ v ∷ vs → same (take 5 st) (x .sender .stored) ≡ true
+          → start + replySpace g ≤ length (x .sender .memory .block) → 2 ≤ length (x .sender .memory .written)
+          → drivenBy k begun (sends start ∷ ds) .forward .bytes ≡ x .forward .bytes ++ blockOf g (code "D") (messageNamed k v)
+      unfolding drivenBy
+      calls-send = named-goes-out k ag rd (drivenBy k begun ds) (linkEnd ds) (standing ds) (calls-run ds)
+
+      -- and each block that was read is taken by gmv_*_receive
+      pub calls-receive : (application start : ℕ) (a : Application) → applicationFrom application ≡ Known a → start + replySpace g ≤ length (x .receiver .memory .reply)
+          → (v : Shown) (vs : List Shown) → x .receiver .arrived ≡ v ∷ vs
+          → receiveCall (linkOf (madeFrom (k .numbers))) application (x .receiver .memory .state) (v .number) (v .type) (v .content) (x .receiver .memory .reply) start (x .receiver .memory .report) .number ≡ 0
+      calls-receive = block-taken k ag rd (drivenBy k begun ds) (linkEnd ds) (standing ds) (calls-run ds)
+
+      -- "An intact answer to the waiting transaction, read before that, moves the mark.": the driver acts on an accepted data block whose MSA-2 is the number of the transaction that waits
+      module _ (i : ℕ) (v : Shown) (vs : List Shown) (shows : oneAt i (x .sender .arrived) ≡ v ∷ vs) (accepted : v .number ≡ 0) (kind : v .type ≡ code "D") (waits : waitsWord st ≡ 4)
+          (own : bytesOf (answerField 2 (v .content)) (v .content) ≡ textOf (Number (deliveredWord st + 1))) where
+        moves : Front (SameVerdict g) v vs (oneAt i (linkEnd ds .sending .arrived)) → deliveredWord (drivenBy k begun (takes i ∷ ds) .sender .memory .state) ≡ deliveredWord st + 1
         unfolding linkRun
-        calls-move =
+        moves (front j js q is rest) =
             let held = ap (λ (ws : List ℕ). getD ws 1 0) (calls-run ds .sender .state .is) in
+            let verdict = accepted-data (j .verdict) (is .given) (ap (λ (z : Shown). z .number) (sym (is .is)) ∙ accepted) (ap (λ (z : Shown). z .type) (sym (is .is)) ∙ kind) in
+            let content = ap (λ (z : Shown). z .content) (is .is) in
             ap (λ (ws : List ℕ). getD ws 1 0) (calls-run (takes i ∷ ds) .sender .state .is)
-            ∙ answer-moves l rd nothingLeft none-left e state (linkRun k begun ds) i j vs arrived size is waits (own ∙ ap (λ (d : ℕ). textOf (Number (d + 1))) held)
+            ∙ answer-moves l rd remains only e state run i j js q (verdict .size) (verdict .is)
+            (sym (waiting-back k rd (drivenBy k begun ds) (linkEnd ds) sender-valid (calls-run ds)) ∙ ap waitingOf waits)
+            (ap (λ (d : List ℕ). bytesOf (answerField 2 d) d) (sym content) ∙ own ∙ ap (λ (d : ℕ). textOf (Number (d + 1))) held)
             ∙ ap (λ (d : ℕ). d + 1) (sym held)
+
+        pub calls-move : deliveredWord (drivenBy k begun (takes i ∷ ds) .sender .memory .state) ≡ deliveredWord st + 1
+        calls-move = moves (each-front (subst (λ (us : List Shown). Each (SameVerdict g) us (oneAt i (linkEnd ds .sending .arrived))) shows (each-one i (calls-run ds .sender .arrived))))

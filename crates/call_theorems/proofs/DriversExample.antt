@@ -2,8 +2,10 @@
 use mathlib.Core.Path.{_≡_, refl}
 use mathlib.Core.List.{List, [], _∷_, _++_}
 use mathlib.Core.Bool.{true}
+use Prim.Native.Nat.{ℕ}
 use native.Mathlib.Omega.{arith}
 use Prim.Native.Char.{code}
+use lib.ListN.{getD}
 use Rattle.lists.specs.Bytes.{bytes, same, put, over}
 use Rattle.settings.specs.Settings.{valid, validLink}
 use Rattle.settings.specs.declared.Kind.{Kind}
@@ -16,7 +18,11 @@ use Rattle.stream.specs.Scan.{storedVerdict, step, fold, readOf}
 use Rattle.writer.specs.Write.{frameOf}
 use Rattle.fields.specs.Fields.{fieldStart, fieldOf, bytesOf}
 use Rattle.header.specs.Header.{begins, readableHeader, headerOf, readableAnswer, acknowledgmentOf, codeField}
-use Rattle.numbers.specs.Numbers.{numberField, decimal}
+use Rattle.numbers.specs.Numbers.{numberField, decimal, textOf}
+use Rattle.numbers.specs.declared.SequenceNumber.{SequenceNumber}
+use Rattle.numbers.specs.declared.SequenceNumber.the-variants.{MinusOne, Number}
+use Rattle.header.specs.declared.Code.the-variants.{AA}
+use Rattle.refusal.specs.declared.Verdict.the-variants.{Accepted}
 use Rattle.messages.specs.Messages.{answerMessage, controlMessage, validType, messageType}
 use Rattle.control_block.specs.ControlBlock.{controlBlockOf}
 use Rattle.receiver.specs.Receiver.{validExpected, rowOf, decisionOf, receiveOf}
@@ -29,14 +35,14 @@ use Rattle.message_calls.specs.ControlCalls.{controlBlockCall}
 use Rattle.sender_calls.specs.SenderCalls.{senderIn, freshCall, openCall, endedCall, timerCall, blockCall, submitCall}
 use Rattle.receiver_calls.specs.ReceiverCalls.{receiveCall}
 use Rattle.link.specs.Duties.{oneAt, othersAt}
-use Rattle.link.specs.Line.{acceptedOf, someOf}
+use Rattle.link.specs.Line.{acceptedOf, someOf, oneOf, eachOf}
 use Rattle.link.specs.Example.{exampleLog, exampleLink}
 use Rattle.link.proofs.Exchange.{blank}
 use Rattle.link.proofs.ReceiverInvariant.{expects-next}
 use Rattle.link.proofs.Example.{ready}
-use Rattle.call_theorems.specs.Driver.{SettingNumbers, hybrid, minimal, Passed, ReaderMemory, readerMemory, SenderMemory, senderMemory, ReceiverMemory, receiverMemory, Drivers, readerPast, drivenBy, driversStart}
-use Rattle.call_theorems.specs.Driver.{DriverAct, opens, ends, timer, submits, stores, receiverStores, receiverRestores, replies, sends, reads, takes, receiverReads, receives, tries, crashes, damagesForward, enoughToSend, enoughToReceive}
-use Rattle.call_theorems.specs.DriversPromise.{Agrees, DriversSafe, deliveredWord, frozenWord}
+use Rattle.call_theorems.specs.Driver.{SettingNumbers, hybrid, minimal, Passed, ReaderMemory, readerMemory, SenderMemory, senderMemory, ReceiverMemory, receiverMemory, Drivers, readerPast, drivenBy, DriversLeft, driversStart}
+use Rattle.call_theorems.specs.Driver.{DriverAct, opens, ends, timer, submits, stores, receiverStores, receiverRestores, replies, sends, reads, takes, receiverReads, receives, tries, crashes, receiverCrashes, damagesForward, damagesBack, enoughToSend, enoughToReceive}
+use Rattle.call_theorems.specs.DriversPromise.{Agrees, allGiven, DriversSafe, deliveredWord, frozenWord}
 use Rattle.call_theorems.proofs.Demand.{calls-safe}
 
 numbersOf : Kind → SettingNumbers
@@ -64,39 +70,90 @@ reversed : List DriverAct → List DriverAct → List DriverAct
 reversed [] ds = ds
 reversed (a ∷ more) ds = reversed more (a ∷ ds)
 
+newCircuit : DriverAct
+newCircuit = opens readerSpace readerSpace
+
 -- 1 is submitted and lost after the exchange for -1, the sender crashes, and on the next circuit 0 and then 1 get through
 lostRun : List DriverAct
 lostRun =
     reversed
-    (submits 128 (exampleLog 1) ∷ stores ∷ opens ∷ (exchanged ++ stores ∷ sends 0 ∷ damagesForward [] ∷ crashes senderSpace ∷ opens ∷ (exchanged ++ (exchanged ++ stores ∷ [])))) []
+    (submits 128 (exampleLog 1) ∷ stores ∷ newCircuit ∷ (exchanged ++ stores ∷ sends 0 ∷ damagesForward [] ∷ crashes senderSpace ∷ newCircuit ∷ (exchanged ++ (exchanged ++ stores ∷ [])))) []
 
 -- 1 is sent twice, as the timer ran out, and both come in one part. The first could not be stored, and the receiver goes on from what is stored; the second is tried, stored and answered
 restoredRun : List DriverAct
 restoredRun =
     reversed
-    (submits 128 (exampleLog 1) ∷ stores ∷ opens ∷ (exchanged ++ stores ∷ sends 0 ∷ timer ∷ sends 0 ∷ receiverReads 200 ∷ receiverReads 200 ∷ receives 1 0 ∷ receiverRestores ∷ tries 1 0 ∷ receives 2 0
+    (submits 128 (exampleLog 1) ∷ stores ∷ newCircuit ∷ (exchanged ++ stores ∷ sends 0 ∷ timer ∷ sends 0 ∷ receiverReads 200 ∷ receiverReads 200 ∷ receives 1 0 ∷ receiverRestores ∷ tries 1 0 ∷ receives 2 0
     ∷ receiverStores ∷ replies ∷ reads 200 ∷ takes 0 ∷ stores ∷ ends ∷ [])) []
 
+-- The beginning of the night of slot 7: an earlier tenant's answers to -1 and to 1 are on the line, one to 1 is still to be sent, and one to 1 was read.
+oldAnswer : Kind → SequenceNumber → List ℕ
+oldAnswer k v = blockOf (exampleLink k .settings) (code "D") (answerMessage (textOf v) AA v)
+
+answersLeft : Kind → DriversLeft
+answersLeft k =
+    record {
+      back = oldAnswer k MinusOne ++ oldAnswer k (Number 1);
+      pending = oldAnswer k (Number 1) ∷ [];
+      answers = record { offset = 0; verdict = Accepted (code "D") 42; content = answerMessage (textOf (Number 1)) AA (Number 1) } ∷ [];
+    }
+
+noneLeft : DriversLeft
+noneLeft = record { back = []; pending = []; answers = [] }
+
+-- 1 and 2 are submitted. After the exchange for -1 the receiver stores 1, and its answer is lost. 1 is sent three times more, and each is lost; when the timer runs out again, it is given up
+abandonedRun : List DriverAct
+abandonedRun =
+    submits 128 (exampleLog 1) ∷ submits 128 (exampleLog 2) ∷ stores ∷ newCircuit ∷ (exchanged ++ stores ∷ sends 0 ∷ receiverReads 200 ∷ receives 1 0 ∷ receiverStores ∷ replies ∷ damagesBack []
+    ∷ timer ∷ sends 0 ∷ damagesForward [] ∷ timer ∷ sends 0 ∷ damagesForward [] ∷ timer ∷ sends 0 ∷ damagesForward [] ∷ timer ∷ [])
+
+-- the receiver crashes, and on the next circuit the answer to 0 says that 1 is there, and 2 gets through
+resumedRun : List DriverAct
+resumedRun = abandonedRun ++ receiverCrashes receiverSpace ∷ newCircuit ∷ (exchanged ++ (exchanged ++ stores ∷ []))
+
+begun : Kind → DriversLeft → Drivers
+begun k d = driversStart (passed k) d senderSpace receiverSpace 7
+
 pub delivered : Kind → Drivers
-delivered k = drivenBy (passed k) (driversStart (passed k) senderSpace receiverSpace 7) lostRun
+delivered k = drivenBy (passed k) (begun k noneLeft) lostRun
 
 pub restored : Kind → Drivers
-restored k = drivenBy (passed k) (driversStart (passed k) senderSpace receiverSpace 7) restoredRun
+restored k = drivenBy (passed k) (begun k noneLeft) restoredRun
 
--- the receiver has stored 1 and expects 2, and at the sender 1 is stored as delivered
-abbrev Got : Drivers → Type 0
-Got x = (x .receiver .«stored_has» ≡ exampleLog 1 ∷ []) × (x .receiver .stored ≡ 2 ∷ []) × (deliveredWord (x .sender .stored) ≡ 1) × (frozenWord (x .sender .stored) ≡ 0)
+pub abandoned : Kind → Drivers
+abandoned k = drivenBy (passed k) (begun k (answersLeft k)) (reversed abandonedRun [])
 
-abbrev Delivered : Kind → Type 0
-Delivered k = Got (delivered k) × Got (restored k)
+pub resumed : Kind → Drivers
+resumed k = drivenBy (passed k) (begun k (answersLeft k)) (reversed resumedRun [])
+
+-- what is seen where a run ends: what the receiver has stored and its word; GMV_SENDER_DELIVERED and GMV_SENDER_FROZEN as stored, GMV_SENDER_WAITING; GMV_ACT_SENDS and GMV_ACT_EVENT
+pub record Seen : Type 0 where
+  pub has : List (List ℕ)
+  pub words : List ℕ
+
+unfoldable pub seenOf : Drivers → Seen
+seenOf x =
+    let m = x .sender .memory in
+    record {
+      has = x .receiver .«stored_has»;
+      words = getD (x .receiver .stored) 0 0 ∷ deliveredWord (x .sender .stored) ∷ frozenWord (x .sender .stored) ∷ getD (m .state) 5 0 ∷ getD (m .report) 2 0 ∷ getD (m .report) 3 0 ∷ [];
+    }
+
+-- 1 is stored and 2 expected, and 1 is stored as delivered; and so where storing failed once. Given up after 4 sends (2 is GMV_EVENT_ABANDONED), 1 is stored at the receiver alone;
+-- and where that goes on, 1 and 2 are stored as delivered
+pub record Delivered (k : Kind) : Type 0 where
+  pub lost : seenOf (delivered k) ≡ record { has = exampleLog 1 ∷ []; words = 2 ∷ 1 ∷ 0 ∷ 1 ∷ 0 ∷ 1 ∷ [] }
+  pub restored : seenOf (restored k) ≡ record { has = exampleLog 1 ∷ []; words = 2 ∷ 1 ∷ 0 ∷ 0 ∷ 0 ∷ 0 ∷ [] }
+  pub abandoned : seenOf (abandoned k) ≡ record { has = exampleLog 1 ∷ []; words = 2 ∷ 0 ∷ 0 ∷ 0 ∷ 4 ∷ 2 ∷ [] }
+  pub resumed : seenOf (resumed k) ≡ record { has = exampleLog 1 ∷ exampleLog 2 ∷ []; words = 3 ∷ 2 ∷ 0 ∷ 1 ∷ 0 ∷ 1 ∷ [] }
 
 delivered-hybrid : Delivered Hybrid
-unfolding numbersOf passed readerSpace senderSpace receiverSpace exchanged reversed delivered restored lostRun restoredRun fiveDigits threeDigits countField checksumOf hybridBody hybridBlock minimalBlock blockOf typeMatches headerOk checksumMatches judgeParts dataOf judgeHybrid judgeMinimal judge contentOf same put over valid validLink endVerdict move run storedVerdict step fold readOf frameOf fieldStart fieldOf bytesOf begins readableHeader headerOf readableAnswer acknowledgmentOf codeField numberField decimal answerMessage controlMessage validType messageType controlBlockOf validExpected rowOf decisionOf receiveOf validSender senderOf submitOf openOf endedOf timerOf blockReadOf timerActOf blockActOf writeFinished readerWords decoded verdictWords pendingWords freshReaderCall readCall writeCall controlBlockCall senderIn freshCall openCall endedCall timerCall blockCall submitCall receiveCall oneAt othersAt acceptedOf someOf blank readerPast drivenBy
-delivered-hybrid = ((refl, refl, refl, refl), (refl, refl, refl, refl))
+unfolding seenOf numbersOf passed readerSpace senderSpace receiverSpace exchanged newCircuit reversed oldAnswer answersLeft noneLeft begun abandonedRun resumedRun delivered restored abandoned resumed lostRun restoredRun fiveDigits threeDigits countField checksumOf hybridBody hybridBlock minimalBlock blockOf typeMatches headerOk checksumMatches judgeParts dataOf judgeHybrid judgeMinimal judge contentOf same put over valid validLink endVerdict move run storedVerdict step fold readOf frameOf fieldStart fieldOf bytesOf begins readableHeader headerOf readableAnswer acknowledgmentOf codeField numberField decimal answerMessage controlMessage validType messageType controlBlockOf validExpected rowOf decisionOf receiveOf validSender senderOf submitOf openOf endedOf timerOf blockReadOf timerActOf blockActOf writeFinished readerWords decoded verdictWords pendingWords freshReaderCall readCall writeCall controlBlockCall senderIn freshCall openCall endedCall timerCall blockCall submitCall receiveCall oneAt othersAt acceptedOf someOf oneOf eachOf blank readerPast drivenBy
+delivered-hybrid = record { lost = refl; restored = refl; abandoned = refl; resumed = refl }
 
 delivered-minimal : Delivered Minimal
-unfolding numbersOf passed readerSpace senderSpace receiverSpace exchanged reversed delivered restored lostRun restoredRun fiveDigits threeDigits countField checksumOf hybridBody hybridBlock minimalBlock blockOf typeMatches headerOk checksumMatches judgeParts dataOf judgeHybrid judgeMinimal judge contentOf same put over valid validLink endVerdict move run storedVerdict step fold readOf frameOf fieldStart fieldOf bytesOf begins readableHeader headerOf readableAnswer acknowledgmentOf codeField numberField decimal answerMessage controlMessage validType messageType controlBlockOf validExpected rowOf decisionOf receiveOf validSender senderOf submitOf openOf endedOf timerOf blockReadOf timerActOf blockActOf writeFinished readerWords decoded verdictWords pendingWords freshReaderCall readCall writeCall controlBlockCall senderIn freshCall openCall endedCall timerCall blockCall submitCall receiveCall oneAt othersAt acceptedOf someOf blank readerPast drivenBy
-delivered-minimal = ((refl, refl, refl, refl), (refl, refl, refl, refl))
+unfolding seenOf numbersOf passed readerSpace senderSpace receiverSpace exchanged newCircuit reversed oldAnswer answersLeft noneLeft begun abandonedRun resumedRun delivered restored abandoned resumed lostRun restoredRun fiveDigits threeDigits countField checksumOf hybridBody hybridBlock minimalBlock blockOf typeMatches headerOk checksumMatches judgeParts dataOf judgeHybrid judgeMinimal judge contentOf same put over valid validLink endVerdict move run storedVerdict step fold readOf frameOf fieldStart fieldOf bytesOf begins readableHeader headerOf readableAnswer acknowledgmentOf codeField numberField decimal answerMessage controlMessage validType messageType controlBlockOf validExpected rowOf decisionOf receiveOf validSender senderOf submitOf openOf endedOf timerOf blockReadOf timerActOf blockActOf writeFinished readerWords decoded verdictWords pendingWords freshReaderCall readCall writeCall controlBlockCall senderIn freshCall openCall endedCall timerCall blockCall submitCall receiveCall oneAt othersAt acceptedOf someOf oneOf eachOf blank readerPast drivenBy
+delivered-minimal = record { lost = refl; restored = refl; abandoned = refl; resumed = refl }
 
 pub drivers-deliver : (k : Kind) → Delivered k
 drivers-deliver Hybrid = delivered-hybrid
@@ -118,6 +175,12 @@ unfolding receiverSpace readerSpace blank
 receiver-enough Hybrid = refl
 receiver-enough Minimal = refl
 
-pub drivers-safe : (k : Kind) → DriversSafe (exampleLink k) (restored k)
-unfolding passed restored
-drivers-safe k = calls-safe (passed k) (agrees k) (ready k) senderSpace receiverSpace 7 (sender-enough k) (receiver-enough k) (expects-next 7 (omega arith) (omega arith)) restoredRun
+given : (k : Kind) → allGiven (answersLeft k .answers) ≡ true
+unfolding answersLeft
+given k = refl
+
+pub drivers-safe : (k : Kind) → DriversSafe (exampleLink k) (resumed k)
+unfolding passed begun resumed
+drivers-safe k =
+    calls-safe (passed k) (agrees k) (ready k) (answersLeft k) (given k) senderSpace receiverSpace 7 (sender-enough k) (receiver-enough k) (expects-next 7 (omega arith) (omega arith))
+    (reversed resumedRun [])

@@ -1,7 +1,7 @@
 -- Each act of the drivers is some acts of the link, or none.
 use mathlib.Core.Path.{_≡_, refl, sym, ap, _∙_, subst}
 use mathlib.Core.List.{List, [], _∷_, _++_}
-use mathlib.Core.Bool.{Bool, true, false, cond}
+use mathlib.Core.Bool.{Bool, true, false, cond, _&&_}
 use Prim.Native.Nat.{ℕ, _≤_}
 use Prim.Native.Char.{code}
 use native.Mathlib.Omega.{arith}
@@ -10,6 +10,7 @@ use lib.Dec.{leb, eqb}
 use borrow.Author.Tests.{le-leb, leb-true, ne-eqb}
 use Rattle.lists.specs.Bytes.{same, over}
 use Rattle.lists.specs.Outcome.{Called, called}
+use Rattle.lists.proofs.Tests.{and-left, and-right}
 use Rattle.settings.specs.Settings.{valid, capacityOf, linkOf}
 use Rattle.settings.specs.declared.Settings.{Settings}
 use Rattle.settings.specs.declared.Made.the-variants.{Valid}
@@ -22,19 +23,21 @@ use Rattle.sender.specs.declared.Acted.{Acted}
 use Rattle.sender_calls.specs.SenderCalls.{senderWords, openCall, endedCall, resetCall, timerCall, submitCall, actWords}
 use Rattle.link.specs.Duties.{every}
 use Rattle.link.specs.SenderActs.{afterCrash}
+use Rattle.link.specs.SenderHistory.{reported, crashed}
 use Rattle.link.specs.Line.{Reader, Line, emptyLine}
 use Rattle.link.specs.System.{Link, System, sending, senderActed, newCircuit, circuitOpened, SystemAct, opens, ends, resets, timer, submits, senderPersists, senderRestores, afterAct, runOf}
 use Rattle.link.specs.Promise.{Ready}
-use Rattle.link.proofs.Queues.{Each, each-none}
+use Rattle.link.proofs.Queues.{Each, each-none, each-more}
 use Rattle.link.proofs.Messages.{link-valid, link-limit}
-use Rattle.link.proofs.Invariant.{Inv}
+use Rattle.link.proofs.Early.{Standing}
 use Rattle.call_theorems.specs.Reading.{Shown, Taken, hybrid, minimal}
 use Rattle.call_theorems.specs.Driver.{SettingNumbers, hybrid as hybridNumbers, minimal as minimalNumbers, Passed, madeFrom, ReaderMemory, Drivers, freshReader}
-use Rattle.call_theorems.specs.Driver.{bySender, openedBy, afterDriver}
+use Rattle.call_theorems.specs.Driver.{enoughToRead, reportOf, restarted, bySender, openedBy, afterDriver}
 use Rattle.call_theorems.specs.Driver.{opens as opensDriver, ends as endsDriver, resets as resetsDriver, timer as timerDriver, submits as submitsDriver, stores, restores}
+use Rattle.call_theorems.specs.DriversRun.{once, actsOf}
 use Rattle.call_theorems.specs.DriversPromise.{Agrees}
 use Rattle.call_theorems.proofs.Streams.{StandsAt, fresh-stands-at}
-use Rattle.call_theorems.proofs.Shows.{SameVerdict, Behind, StandsOn, Shows, over-behind, behind-length, Does, done, refused, named-is, report-length, call-shows}
+use Rattle.call_theorems.proofs.Shows.{SameVerdict, SameReport, Behind, StandsOn, Shows, over-behind, behind-length, Does, done, refused, named-is, report-length, same-report, call-shows}
 use Rattle.call_theorems.proofs.Acting.{open-does, ended-does, reset-does, timer-does, submit-does}
 
 -- by these acts the link comes from y to what the drivers have
@@ -82,11 +85,17 @@ module _ (k : Passed) (ag : Agrees k) (rd : Ready (k .link)) where
         within = omega arith;
       }
 
-  pub fresh-again : (m : ReaderMemory) (x : Line) → StandsOn g m x → StandsOn g (freshReader m) emptyLine
-  fresh-again m x h = fresh-on m (h .stands .encodes .state-words) (h .stands .stands .enough) (h .stands .encodes .verdict-words)
+  pub fresh-enough : (m : ReaderMemory) → enoughToRead g m ≡ true → StandsOn g (freshReader m) emptyLine
+  fresh-enough m e =
+      let states = leb 4 (length (m .state)) in
+      let buffers = leb (capacityOf g) (length (m .buffer)) in
+      let verdicts = leb 8 (length (m .verdict)) in
+      let more = and-right states (buffers && verdicts) e in
+      fresh-on m (leb-true 4 (length (m .state)) (and-left states (buffers && verdicts) e)) (leb-true (capacityOf g) (length (m .buffer)) (and-left buffers verdicts more))
+      (leb-true 8 (length (m .verdict)) (and-right buffers verdicts more))
 
   -- ---- acts of the sender
-  module _ (x : Drivers) (y : System) (i : Inv l y) (h : Shows l x y) where
+  module _ (x : Drivers) (y : System) (i : Standing l y) (h : Shows l x y) where
     abbrev st : List ℕ
     st = x .sender .memory .state
 
@@ -120,8 +129,9 @@ module _ (k : Passed) (ag : Agrees k) (rd : Ready (k .link)) where
         (submit-does (y .sending .sender) (i .ends .valid) st p (h .sender .state) (h .sender .report) limit d)
 
     -- a new circuit
-    new-circuit : (a : Acted) → Shows l (openedBy x (called 0 (over st (senderWords (a .sender))) [] (over p (actWords a)))) (newCircuit every y a)
-    new-circuit a =
+    new-circuit : (r q : ReaderMemory) → StandsOn g (freshReader r) emptyLine → StandsOn g (freshReader q) emptyLine → (a : Acted) → SameReport (reportOf (called 0 (over st (senderWords (a .sender))) [] (over p (actWords a)))) (reported a)
+        → Shows l (openedBy x r q (called 0 (over st (senderWords (a .sender))) [] (over p (actWords a)))) (newCircuit every y a)
+    new-circuit r q readable read a showed =
         record {
           sender = record {
             state = over-behind (senderWords (a .sender)) st (behind-length (h .sender .state));
@@ -129,7 +139,8 @@ module _ (k : Passed) (ag : Agrees k) (rd : Ready (k .link)) where
             stored = h .sender .stored;
             named = named-is a (over st (senderWords (a .sender))) p (h .sender .report);
             arrived = each-none;
-            reader = fresh-again (x .sender .memory .reader) (x .back) (h .sender .reader);
+            reports = each-more showed (h .sender .reports);
+            reader = readable;
           };
           receiver = record {
             state = h .receiver .state;
@@ -139,31 +150,40 @@ module _ (k : Passed) (ag : Agrees k) (rd : Ready (k .link)) where
             stored-has = h .receiver .stored-has;
             pending = refl;
             arrived = each-none;
-            reader = fresh-again (x .receiver .memory .reader) (x .forward) (h .receiver .reader);
+            reader = read;
           };
           forward = refl;
           back = refl;
         }
 
-    opened-by : (c : Called) → Does (y .sending .sender) st p (openOf (y .sending .sender)) c
-        → Shows l (cond (eqb (c .number) 0) (openedBy x c) (bySender x (x .sender .arrived) c)) (circuitOpened every y (openOf (y .sending .sender)))
-    opened-by c (done o z) =
-        subst (λ (c : Called). Shows l (cond (eqb (c .number) 0) (openedBy x c) (bySender x (x .sender .arrived) c)) (circuitOpened every y (openOf (y .sending .sender)))) (sym z)
-        (subst (λ (n : ℕ). Shows l (openedBy x (called 0 (over st (senderWords (openOf (y .sending .sender) .sender))) [] (over p (actWords (openOf (y .sending .sender))))))
-        (cond (eqb n 0) (newCircuit every y (openOf (y .sending .sender))) (senderActed y (y .sending .arrived) (openOf (y .sending .sender))))) (sym o)
-        (new-circuit (openOf (y .sending .sender))))
-    opened-by c (refused n o z t same none) =
-        let a = openOf (y .sending .sender) in
-        let no : eqb (openOf (y .sending .sender) .refusal) 0 ≡ false = ne-eqb (openOf (y .sending .sender) .refusal) 0 (λ q. let m = leb-true 1 (openOf (y .sending .sender) .refusal) n in omega arith) in
-        let number : eqb (c .number) 0 ≡ false = ap (λ (m : ℕ). eqb m 0) o ∙ no in
-        subst (λ (b : Bool). Shows l (cond b (openedBy x c) (bySender x (x .sender .arrived) c)) (circuitOpened every y (openOf (y .sending .sender)))) (sym number)
-        (subst (λ (b : Bool). Shows l (bySender x (x .sender .arrived) c) (cond b (newCircuit every y (openOf (y .sending .sender))) (senderActed y (y .sending .arrived) (openOf (y .sending .sender))))) (sym no)
-        (by-call a c (x .sender .arrived) (y .sending .arrived) (refused n o z t same none) (h .sender .arrived)))
+    module _ (r q : ReaderMemory) where
+      opened-by : StandsOn g (freshReader r) emptyLine → StandsOn g (freshReader q) emptyLine → (c : Called) → Does (y .sending .sender) st p (openOf (y .sending .sender)) c
+          → Shows l (cond (eqb (c .number) 0) (openedBy x r q c) (bySender x (x .sender .arrived) c)) (circuitOpened every y (openOf (y .sending .sender)))
+      opened-by readable read c (done o z) =
+          let a = openOf (y .sending .sender) in
+          let showed = same-report (y .sending .sender) st p a c (h .sender .state) (h .sender .report) (done o z) in
+          subst (λ (c : Called). Shows l (cond (eqb (c .number) 0) (openedBy x r q c) (bySender x (x .sender .arrived) c)) (circuitOpened every y (openOf (y .sending .sender)))) (sym z)
+          (subst (λ (n : ℕ). Shows l (openedBy x r q (called 0 (over st (senderWords (openOf (y .sending .sender) .sender))) [] (over p (actWords (openOf (y .sending .sender))))))
+          (cond (eqb n 0) (newCircuit every y (openOf (y .sending .sender))) (senderActed y (y .sending .arrived) (openOf (y .sending .sender))))) (sym o)
+          (new-circuit r q readable read a (subst (λ (t : Called). SameReport (reportOf t) (reported (openOf (y .sending .sender)))) z showed)))
+      opened-by readable read c (refused n o z t same none) =
+          let a = openOf (y .sending .sender) in
+          let no : eqb (openOf (y .sending .sender) .refusal) 0 ≡ false = ne-eqb (openOf (y .sending .sender) .refusal) 0 (λ w. let m = leb-true 1 (openOf (y .sending .sender) .refusal) n in omega arith) in
+          let number : eqb (c .number) 0 ≡ false = ap (λ (m : ℕ). eqb m 0) o ∙ no in
+          subst (λ (b : Bool). Shows l (cond b (openedBy x r q c) (bySender x (x .sender .arrived) c)) (circuitOpened every y (openOf (y .sending .sender)))) (sym number)
+          (subst (λ (b : Bool). Shows l (bySender x (x .sender .arrived) c) (cond b (newCircuit every y (openOf (y .sending .sender))) (senderActed y (y .sending .arrived) (openOf (y .sending .sender))))) (sym no)
+          (by-call a c (x .sender .arrived) (y .sending .arrived) (refused n o z t same none) (h .sender .arrived)))
 
-    pub opens-goes : Goes l (opens ∷ []) (afterDriver k opensDriver x) y
-    opens-goes =
-        by-act l (afterDriver k opensDriver x) y opens
-        (opened-by (openCall st p) (open-does (y .sending .sender) (i .ends .valid) st p (h .sender .state) (h .sender .report)))
+      pub opens-goes : Goes l (actsOf k (opensDriver r q) x) (afterDriver k (opensDriver r q) x) y
+      opens-goes = go (enoughToRead g r && enoughToRead g q) refl
+        where
+          go : (b : Bool) → (enoughToRead g r && enoughToRead g q) ≡ b
+              → Goes l (once b opens) (cond b (cond (eqb (openCall st p .number) 0) (openedBy x r q (openCall st p)) (bySender x (x .sender .arrived) (openCall st p))) x) y
+          go false e = stays l x y h
+          go true e =
+              by-act l _ y opens
+              (opened-by (fresh-enough r (and-left (enoughToRead g r) (enoughToRead g q) e)) (fresh-enough q (and-right (enoughToRead g r) (enoughToRead g q) e)) (openCall st p)
+              (open-does (y .sending .sender) (i .ends .valid) st p (h .sender .state) (h .sender .report)))
 
     -- storing, and going on from what is stored
     pub stores-goes : Goes l (senderPersists ∷ []) (afterDriver k stores x) y
@@ -176,6 +196,7 @@ module _ (k : Passed) (ag : Agrees k) (rd : Ready (k .link)) where
             stored = ap (take 5) (h .sender .state .is);
             named = h .sender .named;
             arrived = h .sender .arrived;
+            reports = h .sender .reports;
             reader = h .sender .reader;
           };
           receiver = h .receiver;
@@ -198,6 +219,7 @@ module _ (k : Passed) (ag : Agrees k) (rd : Ready (k .link)) where
             stored = h .sender .stored;
             named = each-none;
             arrived = h .sender .arrived;
+            reports = each-more {x = restarted} {y = crashed} refl (h .sender .reports);
             reader = h .sender .reader;
           };
           receiver = h .receiver;

@@ -2,7 +2,7 @@
 use mathlib.Core.Path.{_≡_, refl, sym, ap, _∙_, subst}
 use mathlib.Core.List.{List, [], _∷_, _++_, append-assoc, append-nil}
 use mathlib.Core.Bool.{Bool, true, false, cond, not, _&&_}
-use Prim.Native.Nat.{ℕ, _≤_}
+use Prim.Native.Nat.{ℕ, _+_, _≤_}
 use native.Mathlib.Omega.{arith}
 use lib.ListN.{length, take, drop, getD, take-append-drop}
 use lib.Seq.{length-take-le}
@@ -13,12 +13,12 @@ use Rattle.lists.specs.Outcome.{Outcome, Called, called}
 use Rattle.lists.proofs.Calls.{over-is}
 use Rattle.lists.proofs.Tests.{cond-ind, and-left, and-right}
 use Rattle.lists.proofs.Same.{same-is}
-use Rattle.settings.specs.Settings.{capacityOf, linkOf}
+use Rattle.settings.specs.Settings.{linkOf}
 use Rattle.settings.specs.declared.Settings.{Settings}
 use Rattle.settings.specs.declared.Made.{Made}
 use Rattle.settings.specs.declared.Made.the-variants.{Valid}
 use Rattle.stream.specs.Stream.{Judged, run}
-use Rattle.receiver.specs.Receiver.{validExpected, receiveOf}
+use Rattle.receiver.specs.Receiver.{replySpace, validExpected, receiveOf}
 use Rattle.receiver.specs.declared.Application.{Application}
 use Rattle.receiver.specs.declared.Expected.{Expected}
 use Rattle.receiver.specs.declared.Expected.the-variants.{Unknown, Next}
@@ -38,20 +38,20 @@ use Rattle.link.specs.System.{receiverActs, receiverDiscards, receiverPersists,
 use Rattle.link.specs.Promise.{Ready}
 use Rattle.link.proofs.Facts.{not-both}
 use Rattle.link.proofs.Queues.{Each, each-none, Front, front, each-front}
-use Rattle.link.proofs.ReceiverInvariant.{some, receive-some}
-use Rattle.link.proofs.Invariant.{Inv}
+use Rattle.link.proofs.ReceiverInvariant.{some, receive-some, receive-taken}
+use Rattle.link.proofs.Early.{Standing}
 use Rattle.call_theorems.specs.Verdicts.{passedOn}
 use Rattle.call_theorems.specs.Reading.{Shown, usedBytes}
-use Rattle.call_theorems.specs.Driver.{Passed, madeFrom, ReceiverMemory, Drivers, drivers, receiverEnd, receiverMemory, enoughToReceive, freshReader, afterReading, readerPast, linePast}
+use Rattle.call_theorems.specs.Driver.{Passed, madeFrom, ReceiverMemory, Drivers, drivers, receiverEnd, receiverMemory, withVerdict, enoughToRead, enoughToReceive, freshReader, afterReading, readerPast, linePast}
 use Rattle.call_theorems.specs.Driver.{readBytes, newVerdict, withTransaction, replyBy, receivedBy, requestTaken, triedBy, requestTried, replySent, afterDriver, receiverReads, receives, receiverReplaces, tries, receiverDrops, receiverStores, replies}
 use Rattle.call_theorems.specs.Driver.{receiverRestores as restoresReceiver, receiverCrashes}
 use Rattle.call_theorems.specs.DriversRun.{repeated, once, allStored, offers, actsOf}
 use Rattle.call_theorems.specs.DriversPromise.{Agrees}
 use Rattle.call_theorems.proofs.Verdicts.{made-again, receives-the-same}
 use Rattle.call_theorems.proofs.OneCall.{over-length}
-use Rattle.call_theorems.proofs.Shows.{SameVerdict, Behind, Shows, over-behind, behind-length}
+use Rattle.call_theorems.proofs.Shows.{SameVerdict, Behind, Shows, other-verdict, over-behind, behind-length}
 use Rattle.call_theorems.proofs.Taking.{Took, brought, read-took}
-use Rattle.call_theorems.proofs.Driving.{Goes, stays, by-act, settings-valid, link-made, fresh-on}
+use Rattle.call_theorems.proofs.Driving.{Goes, stays, by-act, settings-valid, link-made, fresh-enough}
 use Rattle.call_theorems.proofs.SenderDriving.{each-others, each-both, repeated-run}
 
 -- ---- the report's words
@@ -98,7 +98,7 @@ requests-repeated l (x ∷ xs) ys r s e b =
 nothing-changed : (x : Drivers) (start : ℕ) (d : List ℕ) (ws : List Shown) (c : Called) → eqb (c .number) 0 ≡ false → receivedBy x start d ws c ≡ x
 nothing-changed x start d ws c e = rw e
 
-module _ (k : Passed) (ag : Agrees k) (rd : Ready (k .link)) (x : Drivers) (y : System) (i : Inv (k .link) y) (h : Shows (k .link) x y) where
+module _ (k : Passed) (ag : Agrees k) (rd : Ready (k .link)) (x : Drivers) (y : System) (i : Standing (k .link) y) (h : Shows (k .link) x y) where
   abbrev l : Link
   l = k .link
 
@@ -278,6 +278,21 @@ module _ (k : Passed) (ag : Agrees k) (rd : Ready (k .link)) (x : Drivers) (y : 
     offered-goes NoApplication q = subst (λ (c : Called). Goes l [] (receivedBy x start (w .content) ws c) y) (sym (none-is q)) (stays l x y h)
     offered-goes (AnApplication a) q = known-goes a q
 
+    -- it is taken, where the reply has its space
+    offered-taken : (a : Application) → applicationFrom application ≡ AnApplication a → start + replySpace g ≤ length b → offered .number ≡ 0
+    offered-taken a q f =
+        let taken = receive-taken g a e (v .verdict) (v .content) start b (rd .settings) f valid-state in
+        ap (λ (c : Called). c .number) (offered-is a q) ∙ rw taken
+
+  pub block-taken : (application start : ℕ) (a : Application) → applicationFrom application ≡ AnApplication a → start + replySpace g ≤ length (x .receiver .memory .reply)
+      → (w : Shown) (ws : List Shown) → x .receiver .arrived ≡ w ∷ ws
+      → receiveCall (linkOf (madeFrom (k .numbers))) application (x .receiver .memory .state) (w .number) (w .type) (w .content) (x .receiver .memory .reply) start (x .receiver .memory .report) .number ≡ 0
+  block-taken application start a q f w ws z = go (each-front (subst (λ (us : List Shown). Each (SameVerdict g) us (y .receiving .arrived)) z (h .receiver .arrived)))
+    where
+      go : Front (SameVerdict g) w ws (y .receiving .arrived)
+          → receiveCall (linkOf (madeFrom (k .numbers))) application (x .receiver .memory .state) (w .number) (w .type) (w .content) (x .receiver .memory .reply) start (x .receiver .memory .report) .number ≡ 0
+      go (front v vs t is rest) = offered-taken application start w ws v vs t is rest a q f
+
   pub receives-goes : (application start : ℕ) → Goes l (actsOf k (receives application start) x) (afterDriver k (receives application start) x) y
   receives-goes application start = go (x .receiver .arrived) (h .receiver .arrived)
     where
@@ -333,14 +348,30 @@ module _ (k : Passed) (ag : Agrees k) (rd : Ready (k .link)) (x : Drivers) (y : 
         go [] e = stays l x y h
         go (w ∷ ws) e = first w ws (each-front e)
 
-  pub receiver-replaces-goes : (p b : List ℕ) → Goes l [] (afterDriver k (receiverReplaces p b) x) y
-  receiver-replaces-goes p b = go (leb 3 (length p)) refl
+  pub receiver-replaces-goes : (p v b : List ℕ) → Goes l [] (afterDriver k (receiverReplaces p v b) x) y
+  receiver-replaces-goes p v b = go (leb 3 (length p) && leb 8 (length v)) refl
     where
-      go : (c : Bool) → leb 3 (length p) ≡ c
-          → Goes l [] (cond c (drivers (x .sender) (receiverEnd (receiverMemory (x .receiver .memory .state) p (x .receiver .memory .reader) b) (x .receiver .has) (x .receiver .stored) (x .receiver .«stored_has»)
+      go : (c : Bool) → (leb 3 (length p) && leb 8 (length v)) ≡ c
+          → Goes l [] (cond c (drivers (x .sender) (receiverEnd (receiverMemory (x .receiver .memory .state) p (withVerdict v (x .receiver .memory .reader)) b) (x .receiver .has) (x .receiver .stored) (x .receiver .«stored_has»)
           (x .receiver .pending) (x .receiver .arrived)) (x .forward) (x .back)) x) y
       go false e = stays l x y h
-      go true e = stays l _ y (tried-shows (called 0 [] b p) (leb-true 3 (length p) e))
+      go true e =
+          stays l _ y
+          (record {
+            sender = h .sender;
+            receiver = record {
+              state = h .receiver .state;
+              report = leb-true 3 (length p) (and-left (leb 3 (length p)) (leb 8 (length v)) e);
+              has = h .receiver .has;
+              stored = h .receiver .stored;
+              stored-has = h .receiver .stored-has;
+              pending = h .receiver .pending;
+              arrived = h .receiver .arrived;
+              reader = other-verdict g (x .receiver .memory .reader) (x .forward) (h .receiver .reader) v (leb-true 8 (length v) (and-right (leb 3 (length p)) (leb 8 (length v)) e));
+            };
+            forward = h .forward;
+            back = h .back;
+          })
 
   pub receiver-drops-goes : (n : ℕ) → Goes l (receiverDiscards n ∷ []) (afterDriver k (receiverDrops n) x) y
   receiver-drops-goes n =
@@ -416,13 +447,7 @@ module _ (k : Passed) (ag : Agrees k) (rd : Ready (k .link)) (x : Drivers) (y : 
       go true e =
           let states = leb 1 (length (m .state)) in
           let reports = leb 3 (length (m .report)) in
-          let r = m .reader in
-          let readers = leb 4 (length (r .state)) in
-          let buffers = leb (capacityOf g) (length (r .buffer)) in
-          let verdicts = leb 8 (length (r .verdict)) in
-          let rest = and-right states (reports && (readers && (buffers && verdicts))) e in
-          let read = and-right reports (readers && (buffers && verdicts)) rest in
-          let more = and-right readers (buffers && verdicts) read in
+          let rest = and-right states (reports && enoughToRead g (m .reader)) e in
           by-act l _ y endCrashes
           (record {
             sender = record {
@@ -431,18 +456,18 @@ module _ (k : Passed) (ag : Agrees k) (rd : Ready (k .link)) (x : Drivers) (y : 
               stored = h .sender .stored;
               named = h .sender .named;
               arrived = h .sender .arrived;
+              reports = h .sender .reports;
               reader = record { stands = h .sender .reader .stands; within = h .sender .reader .within };
             };
             receiver = record {
-              state = word-restored (m .state) (leb-true 1 (length (m .state)) (and-left states (reports && (readers && (buffers && verdicts))) e));
-              report = leb-true 3 (length (m .report)) (and-left reports (readers && (buffers && verdicts)) rest);
+              state = word-restored (m .state) (leb-true 1 (length (m .state)) (and-left states (reports && enoughToRead g (m .reader)) e));
+              report = leb-true 3 (length (m .report)) (and-left reports (enoughToRead g (m .reader)) rest);
               has = h .receiver .stored-has;
               stored = h .receiver .stored;
               stored-has = h .receiver .stored-has;
               pending = refl;
               arrived = each-none;
-              reader = fresh-on k ag rd (m .reader) (leb-true 4 (length (r .state)) (and-left readers (buffers && verdicts) read))
-                  (leb-true (capacityOf g) (length (r .buffer)) (and-left buffers verdicts more)) (leb-true 8 (length (r .verdict)) (and-right buffers verdicts more));
+              reader = fresh-enough k ag rd (m .reader) (and-right reports (enoughToRead g (m .reader)) rest);
             };
             forward = refl;
             back = ap (λ (z : Line). line (z .reader) []) (h .back);
@@ -469,6 +494,7 @@ module _ (k : Passed) (ag : Agrees k) (rd : Ready (k .link)) (x : Drivers) (y : 
             stored = h .sender .stored;
             named = h .sender .named;
             arrived = h .sender .arrived;
+            reports = h .sender .reports;
             reader = record { stands = h .sender .reader .stands; within = h .sender .reader .within };
           };
           receiver = record {

@@ -2,7 +2,7 @@
 use mathlib.Core.Path.{_≡_, refl, sym, ap, _∙_, subst}
 use mathlib.Core.List.{List, [], _∷_, _++_, append-assoc, append-nil}
 use mathlib.Core.Bool.{Bool, true, false, cond, _&&_}
-use Prim.Native.Nat.{ℕ, zero, suc, _≤_}
+use Prim.Native.Nat.{ℕ, zero, suc, _+_, _≤_}
 use Prim.Native.Char.{code}
 use native.Mathlib.Omega.{arith}
 use lib.ListN.{length, take, drop, getD, take-append-drop}
@@ -13,14 +13,15 @@ use Rattle.lists.specs.Bytes.{same, over}
 use Rattle.lists.specs.Outcome.{Called}
 use Rattle.lists.proofs.Tests.{and-left, and-right}
 use Rattle.lists.proofs.Same.{same-is}
-use Rattle.settings.specs.Settings.{capacityOf}
 use Rattle.settings.specs.declared.Settings.{Settings}
 use Rattle.block.specs.Format.{blockOf}
 use Rattle.numbers.specs.declared.SequenceNumber.{SequenceNumber}
 use Rattle.stream.specs.Stream.{Judged, run}
+use Rattle.receiver.specs.Receiver.{replySpace}
 use Rattle.sender.specs.Sender.{blockReadOf}
 use Rattle.sender.specs.declared.Persisted.{Persisted}
 use Rattle.sender_calls.specs.SenderCalls.{flagWord, persistedWords, blockCall}
+use Rattle.link.specs.SenderHistory.{crashed}
 use Rattle.link.specs.Duties.{every, oneAt, othersAt}
 use Rattle.link.specs.Line.{Reader, Line, line, emptyLine, readsByte, readerAfter}
 use Rattle.link.specs.System.{Link, System, SendingEnd, ReceivingEnd, SystemAct, sending, link, requestOf, sameFlag, samePersisted, requestWritten, answerTaken, senderActed}
@@ -29,18 +30,18 @@ use Rattle.link.specs.Promise.{Ready}
 use Rattle.link.proofs.Queues.{All, all-head, all-right, Each, each-none, each-more, Front, front, each-front}
 use Rattle.link.proofs.Messages.{Nameable, request-writable}
 use Rattle.link.proofs.RequestsRead.{all-nameable}
-use Rattle.link.proofs.Invariant.{Inv}
+use Rattle.link.proofs.Early.{Standing}
 use Rattle.link.proofs.Runs.{run-join}
 use Rattle.call_theorems.specs.Reading.{Shown, shown, usedBytes}
-use Rattle.call_theorems.specs.Driver.{Passed, madeFrom, Named, SenderMemory, Drivers, drivers, senderEnd, senderMemory, enoughToSend, readerPast, linePast, afterReading, freshReader}
+use Rattle.call_theorems.specs.Driver.{Passed, madeFrom, Named, SenderMemory, Drivers, drivers, senderEnd, senderMemory, withVerdict, restarted, enoughToRead, enoughToSend, readerPast, linePast, afterReading, freshReader}
 use Rattle.call_theorems.specs.Driver.{readBytes, newVerdict, blockOfNamed, oldestSent, verdictTaken, bySender, afterDriver, sends, reads, takes, drops, replaces, crashes}
 use Rattle.call_theorems.specs.DriversRun.{repeated, once, goesOut, actsOf}
-use Rattle.call_theorems.specs.DriversPromise.{Agrees}
-use Rattle.call_theorems.proofs.Shows.{SameSend, SameVerdict, Shows}
+use Rattle.call_theorems.specs.DriversPromise.{Agrees, messageNamed}
+use Rattle.call_theorems.proofs.Shows.{SameSend, SameVerdict, Shows, other-verdict}
 use Rattle.call_theorems.proofs.Acting.{block-does}
 use Rattle.call_theorems.proofs.Taking.{Took, brought, read-took}
-use Rattle.call_theorems.proofs.Writing.{named-written}
-use Rattle.call_theorems.proofs.Driving.{Goes, stays, by-act, settings-valid, fresh-on, by-call, restored}
+use Rattle.call_theorems.proofs.Writing.{named-written, named-done, message-is}
+use Rattle.call_theorems.proofs.Driving.{Goes, stays, by-act, settings-valid, fresh-enough, by-call, restored}
 
 -- ---- the persisted words are stored
 flags-same : (a b : Bool) → flagWord a ≡ flagWord b → sameFlag a b ≡ true
@@ -100,7 +101,7 @@ answers-repeated l (x ∷ xs) ys r e v b =
     ∙ ap (λ (ws : List Judged). link (sending (e .sender) (e .persisted) (e .named) ws (e .history)) v b (line (readerPast (l .settings) q xs) ys))
     (append-assoc (e .arrived) us (run (l .settings) (q .offset) (q .mode) xs))
 
-module _ (k : Passed) (ag : Agrees k) (rd : Ready (k .link)) (x : Drivers) (y : System) (i : Inv (k .link) y) (h : Shows (k .link) x y) where
+module _ (k : Passed) (ag : Agrees k) (rd : Ready (k .link)) (x : Drivers) (y : System) (i : Standing (k .link) y) (h : Shows (k .link) x y) where
   abbrev l : Link
   l = k .link
 
@@ -119,7 +120,7 @@ module _ (k : Passed) (ag : Agrees k) (rd : Ready (k .link)) (x : Drivers) (y : 
     sent =
         let e = x .sender in
         let m = x .sender .memory in
-        drivers (senderEnd (senderMemory (m .state) (m .report) (m .reader) (call .buffer) (call .report)) (e .stored) ns (e .arrived)) (x .receiver)
+        drivers (senderEnd (senderMemory (m .state) (m .report) (m .reader) (call .buffer) (call .report)) (e .stored) ns (e .arrived) (e .reports)) (x .receiver)
         (line (x .forward .reader) (x .forward .bytes ++ take (getD (call .report) 0 0) (drop start (call .buffer)))) (x .back)
 
     abbrev written : System
@@ -136,7 +137,7 @@ module _ (k : Passed) (ag : Agrees k) (rd : Ready (k .link)) (x : Drivers) (y : 
     sent-shows : eqb (call .number) 0 ≡ true → Shows l sent written
     sent-shows d =
         record {
-          sender = record { state = h .sender .state; report = h .sender .report; stored = h .sender .stored; named = rest; arrived = h .sender .arrived; reader = h .sender .reader };
+          sender = record { state = h .sender .state; report = h .sender .report; stored = h .sender .stored; named = rest; arrived = h .sender .arrived; reports = h .sender .reports; reader = h .sender .reader };
           receiver = record {
             state = h .receiver .state;
             report = h .receiver .report;
@@ -160,6 +161,24 @@ module _ (k : Passed) (ag : Agrees k) (rd : Ready (k .link)) (x : Drivers) (y : 
         let words = same-is (take 5 (x .sender .memory .state)) (x .sender .stored) (and-right (eqb (call .number) 0) (same (take 5 (x .sender .memory .state)) (x .sender .stored)) e) in
         let kept = words-same (y .sending .sender .persisted) (y .sending .persisted) (sym (ap (take 5) (h .sender .state .is)) ∙ words ∙ h .sender .stored) in
         by-act l sent y (senderWrites 0) (subst (Shows l sent) (sym (written-is kept)) (sent-shows done))
+
+    -- what is named and stored goes out, where the memory is long enough
+    goes-out : same (take 5 (x .sender .memory .state)) (x .sender .stored) ≡ true → start + replySpace g ≤ length (x .sender .memory .block) → 2 ≤ length (x .sender .memory .written)
+        → oldestSent k start x (n ∷ ns) .forward .bytes ≡ x .forward .bytes ++ blockOf g (code "D") (messageNamed k n)
+    goes-out e f p =
+        let w = request-writable l rd v nameable in
+        let done = eq-eqb (call .number) 0 (named-done k ag rd start (x .sender .memory) n v is w f p) in
+        ap (λ (b : Bool). cond b sent x .forward .bytes) (ap (λ (b : Bool). b && same (take 5 (x .sender .memory .state)) (x .sender .stored)) done ∙ e)
+        ∙ ap (λ (bs : List ℕ). x .forward .bytes ++ bs) (named-written k ag rd start (x .sender .memory) n v is w done ∙ ap (blockOf g (code "D")) (sym (message-is k ag rd start (x .sender .memory) n v is)))
+
+  pub named-goes-out : (start : ℕ) (n : Named) (ns : List Named) → x .sender .named ≡ n ∷ ns → same (take 5 (x .sender .memory .state)) (x .sender .stored) ≡ true
+      → start + replySpace g ≤ length (x .sender .memory .block) → 2 ≤ length (x .sender .memory .written)
+      → afterDriver k (sends start) x .forward .bytes ≡ x .forward .bytes ++ blockOf g (code "D") (messageNamed k n)
+  named-goes-out start n ns q e f p =
+      ap (λ (ms : List Named). oldestSent k start x ms .forward .bytes) q ∙ go (each-front (subst (λ (ms : List Named). Each SameSend ms (y .sending .named)) q (h .sender .named)))
+    where
+      go : Front SameSend n ns (y .sending .named) → oldestSent k start x (n ∷ ns) .forward .bytes ≡ x .forward .bytes ++ blockOf g (code "D") (messageNamed k n)
+      go (front v vs z is rest) = goes-out start n ns v vs z is rest e f p
 
   pub sends-goes : (start : ℕ) → Goes l (actsOf k (sends start) x) (afterDriver k (sends start) x) y
   sends-goes start = go (x .sender .named) (h .sender .named)
@@ -197,7 +216,7 @@ module _ (k : Passed) (ag : Agrees k) (rd : Ready (k .link)) (x : Drivers) (y : 
     readBy =
         let e = x .sender in
         let m = x .sender .memory in
-        drivers (senderEnd (senderMemory (m .state) (m .report) (afterReading reading) (m .block) (m .written)) (e .stored) (e .named) (e .arrived ++ newVerdict reading)) (x .receiver)
+        drivers (senderEnd (senderMemory (m .state) (m .report) (afterReading reading) (m .block) (m .written)) (e .stored) (e .named) (e .arrived ++ newVerdict reading) (e .reports)) (x .receiver)
         (x .forward) (linePast g used (x .back))
 
     read-shows : Took g (x .back) reading → Shows l readBy (readEnd used)
@@ -209,6 +228,7 @@ module _ (k : Passed) (ag : Agrees k) (rd : Ready (k .link)) (x : Drivers) (y : 
             stored = h .sender .stored;
             named = h .sender .named;
             arrived = each-both (h .sender .arrived) (subst (λ (z : Line). Each (SameVerdict g) (newVerdict reading) (brought g used z)) (h .back) (t .shows));
+            reports = h .sender .reports;
             reader = t .stands;
           };
           receiver = h .receiver;
@@ -260,6 +280,7 @@ module _ (k : Passed) (ag : Agrees k) (rd : Ready (k .link)) (x : Drivers) (y : 
           stored = h .sender .stored;
           named = h .sender .named;
           arrived = each-others n (h .sender .arrived);
+          reports = h .sender .reports;
           reader = h .sender .reader;
         };
         receiver = h .receiver;
@@ -268,22 +289,23 @@ module _ (k : Passed) (ag : Agrees k) (rd : Ready (k .link)) (x : Drivers) (y : 
       })
 
   -- ---- other memory: the link stays
-  pub replaces-goes : (p b w : List ℕ) → Goes l [] (afterDriver k (replaces p b w) x) y
-  replaces-goes p b w = go (leb 8 (length p)) refl
+  pub replaces-goes : (p v b w : List ℕ) → Goes l [] (afterDriver k (replaces p v b w) x) y
+  replaces-goes p v b w = go (leb 8 (length p) && leb 8 (length v)) refl
     where
-      go : (c : Bool) → leb 8 (length p) ≡ c
-          → Goes l [] (cond c (drivers (senderEnd (senderMemory (x .sender .memory .state) p (x .sender .memory .reader) b w) (x .sender .stored) (x .sender .named) (x .sender .arrived)) (x .receiver) (x .forward) (x .back)) x) y
+      go : (c : Bool) → (leb 8 (length p) && leb 8 (length v)) ≡ c
+          → Goes l [] (cond c (drivers (senderEnd (senderMemory (x .sender .memory .state) p (withVerdict v (x .sender .memory .reader)) b w) (x .sender .stored) (x .sender .named) (x .sender .arrived) (x .sender .reports)) (x .receiver) (x .forward) (x .back)) x) y
       go false e = stays l x y h
       go true e =
           stays l _ y
           (record {
             sender = record {
               state = h .sender .state;
-              report = leb-true 8 (length p) e;
+              report = leb-true 8 (length p) (and-left (leb 8 (length p)) (leb 8 (length v)) e);
               stored = h .sender .stored;
               named = h .sender .named;
               arrived = h .sender .arrived;
-              reader = h .sender .reader;
+              reports = h .sender .reports;
+              reader = other-verdict g (x .sender .memory .reader) (x .back) (h .sender .reader) v (leb-true 8 (length v) (and-right (leb 8 (length p)) (leb 8 (length v)) e));
             };
             receiver = h .receiver;
             forward = h .forward;
@@ -295,29 +317,23 @@ module _ (k : Passed) (ag : Agrees k) (rd : Ready (k .link)) (x : Drivers) (y : 
   crashes-goes m = go (enoughToSend g m) refl
     where
       go : (b : Bool) → enoughToSend g m ≡ b
-          → Goes l (once b senderCrashes) (cond b (drivers (senderEnd (senderMemory (over (m .state) (x .sender .stored ++ 0 ∷ 0 ∷ [])) (m .report) (freshReader (m .reader)) (m .block) (m .written)) (x .sender .stored) [] []) (x .receiver)
+          → Goes l (once b senderCrashes) (cond b (drivers (senderEnd (senderMemory (over (m .state) (x .sender .stored ++ 0 ∷ 0 ∷ [])) (m .report) (freshReader (m .reader)) (m .block) (m .written)) (x .sender .stored) [] [] (restarted ∷ x .sender .reports)) (x .receiver)
           (line (x .forward .reader) []) emptyLine) x) y
       go false e = stays l x y h
       go true e =
           let states = leb 7 (length (m .state)) in
           let reports = leb 8 (length (m .report)) in
-          let r = m .reader in
-          let readers = leb 4 (length (r .state)) in
-          let buffers = leb (capacityOf g) (length (r .buffer)) in
-          let verdicts = leb 8 (length (r .verdict)) in
-          let rest = and-right states (reports && (readers && (buffers && verdicts))) e in
-          let read = and-right reports (readers && (buffers && verdicts)) rest in
-          let more = and-right readers (buffers && verdicts) read in
+          let rest = and-right states (reports && enoughToRead g (m .reader)) e in
           by-act l _ y senderCrashes
           (record {
             sender = record {
-              state = restored k ag rd x y i h (m .state) (leb-true 7 (length (m .state)) (and-left states (reports && (readers && (buffers && verdicts))) e));
-              report = leb-true 8 (length (m .report)) (and-left reports (readers && (buffers && verdicts)) rest);
+              state = restored k ag rd x y i h (m .state) (leb-true 7 (length (m .state)) (and-left states (reports && enoughToRead g (m .reader)) e));
+              report = leb-true 8 (length (m .report)) (and-left reports (enoughToRead g (m .reader)) rest);
               stored = h .sender .stored;
               named = each-none;
               arrived = each-none;
-              reader = fresh-on k ag rd (m .reader) (leb-true 4 (length (r .state)) (and-left readers (buffers && verdicts) read))
-                  (leb-true (capacityOf g) (length (r .buffer)) (and-left buffers verdicts more)) (leb-true 8 (length (r .verdict)) (and-right buffers verdicts more));
+              reports = each-more {x = restarted} {y = crashed} refl (h .sender .reports);
+              reader = fresh-enough k ag rd (m .reader) (and-right reports (enoughToRead g (m .reader)) rest);
             };
             receiver = record {
               state = h .receiver .state;

@@ -14,7 +14,7 @@ use Rattle.settings.specs.declared.Settings.{Settings}
 use Rattle.numbers.specs.declared.SequenceNumber.{SequenceNumber}
 use Rattle.numbers.specs.declared.SequenceNumber.the-variants.{MinusOne, Number}
 use Rattle.stream.specs.Stream.{Judged}
-use Rattle.sender.specs.Sender.{isOpen}
+use Rattle.sender.specs.Sender.{isOpen, waitingMessage, waitsOf}
 use Rattle.sender.specs.declared.Waiting.{Waiting}
 use Rattle.sender.specs.declared.Waiting.the-variants.{Closed, Idle, Resynchronizing, Querying, Sending}
 use Rattle.sender.specs.declared.Sender.{Sender}
@@ -25,12 +25,13 @@ use Rattle.sender.specs.declared.Event.the-variants.{NoEvent, Delivered, Delive
 use Rattle.sender.specs.declared.Acted.{Acted}
 use Rattle.sender_calls.specs.SenderCalls.{waitingWord, persistedWords, senderWords, sendWords, eventWords, actWords}
 use Rattle.receiver_calls.specs.ReceiverCalls.{expectedWord}
+use Rattle.link.specs.SenderHistory.{Entry, reported, crashed}
 use Rattle.link.specs.Line.{Line}
 use Rattle.link.specs.System.{Link, System, SendingEnd, ReceivingEnd, sendsOf, namedAfter, actedEnd}
 use Rattle.link.proofs.Queues.{Each, each-none, each-more}
 use Rattle.call_theorems.specs.Verdicts.{readerGives}
 use Rattle.call_theorems.specs.Reading.{Shown, shown}
-use Rattle.call_theorems.specs.Driver.{ReaderMemory, Named, SenderEnd, ReceiverEnd, Drivers, namedBy, senderCalled}
+use Rattle.call_theorems.specs.Driver.{ReaderMemory, Named, CallReport, SenderEnd, ReceiverEnd, Drivers, withVerdict, namedBy, waitsWords, reportOf, senderCalled}
 use Rattle.call_theorems.proofs.OneCall.{over-length}
 use Rattle.call_theorems.proofs.Streams.{StandsAt}
 
@@ -53,12 +54,18 @@ pub record StandsOn (g : Settings) (m : ReaderMemory) (x : Line) : Type 0 where
   pub stands : StandsAt g (x .reader .offset) (x .reader .mode) (called 0 (m .state) (m .buffer) (m .verdict))
   pub within : x .reader .offset ≤ greatestWord
 
+-- what a call showed, and what the history has for it
+abbrev pub SameReport : CallReport → Entry → Type 0
+SameReport r (reported a) = (r .send ≡ sendWords (a .send)) × (r .waits ≡ sendWords (waitsOf (a .sender)))
+SameReport r crashed = r .waits ≡ 0 ∷ 0 ∷ []
+
 pub record SenderShows (g : Settings) (e : SenderEnd) (y : SendingEnd) (x : Line) : Type 0 where
   pub state : Behind (senderWords (y .sender)) (e .memory .state)
   pub report : 8 ≤ length (e .memory .report)
   pub stored : e .stored ≡ persistedWords (y .persisted)
   pub named : Each SameSend (e .named) (y .named)
   pub arrived : Each (SameVerdict g) (e .arrived) (y .arrived)
+  pub reports : Each SameReport (e .reports) (y .history)
   pub reader : StandsOn g (e .memory .reader) x
 
 pub record ReceiverShows (g : Settings) (e : ReceiverEnd) (y : ReceivingEnd) (x : Line) : Type 0 where
@@ -77,12 +84,36 @@ pub record Shows (l : Link) (x : Drivers) (y : System) : Type 0 where
   pub forward : x .forward ≡ y .forward
   pub back : x .back ≡ y .back
 
+-- other words for the verdict, which calls only write
+pub other-verdict : (g : Settings) (m : ReaderMemory) (x : Line) → StandsOn g m x → (v : List ℕ) → 8 ≤ length v → StandsOn g (withVerdict v m) x
+other-verdict g m x h v e =
+    let c = h .stands .encodes in
+    record {
+      stands = record {
+        reader = h .stands .reader;
+        encodes = record { done = refl; state-words = c .state-words; verdict-words = e; reader = c .reader };
+        stands = h .stands .stands;
+      };
+      within = h .within;
+    }
+
 -- ---- words written over others
 pub over-behind : (ws st : List ℕ) → length ws ≤ length st → Behind ws (over st ws)
 over-behind ws st h = record { rest = drop (length ws) st; is = over-is st ws h }
 
 pub behind-length : {ws st : List ℕ} → Behind ws st → length ws ≤ length st
 behind-length {ws} {st} b = let e : length st ≡ length ws + length (b .rest) = ap length (b .is) ∙ length-append ws (b .rest) in omega arith
+
+-- what waits, by the words of the state
+pub waits-is : (s : Sender) (st : List ℕ) → Behind (senderWords s) st → waitsWords st ≡ sendWords (waitsOf s)
+waits-is s st b = ap waitsWords (b .is) ∙ go (s .waiting)
+  where
+    go : (w : Waiting) → waitsWords ((persistedWords (s .persisted) ++ waitingWord w ∷ s .sends ∷ []) ++ b .rest) ≡ sendWords (waitingMessage (s .persisted) w)
+    go Closed = refl
+    go Idle = refl
+    go Resynchronizing = refl
+    go Querying = refl
+    go Sending = let n = s .persisted .delivered + 1 in ap (λ (z : Bool). cond z 2 3 ∷ n ∷ []) (sym (ne-eqb n 0 (λ q. omega arith)))
 
 -- ---- a call of an act of the sender: it was done, or it was refused and left the state
 pub data Does (s : Sender) (st p : List ℕ) (a : Acted) (c : Called) : Type 0 where
@@ -129,6 +160,15 @@ module _ (a : Acted) (st p : List ℕ) (h : 8 ≤ length p) where
       go (Numbered (Number n)) =
           one-named (cond (eqb n 0) 2 3) n (Number n) st ((a .sends ∷ eventWords (a .event) ++ a .block ∷ a .offset ∷ []) ++ drop (length (actWords a)) p) (some (eqb n 0)) refl
 
+  pub send-is : getD (over p (actWords a)) 0 0 ∷ getD (over p (actWords a)) 1 0 ∷ [] ≡ sendWords (a .send)
+  send-is = ap (λ (r : List ℕ). getD r 0 0 ∷ getD r 1 0 ∷ []) report-is ∙ go (a .send)
+    where
+      go : (m : NumberedMessage) → getD ((sendWords m ++ a .sends ∷ eventWords (a .event) ++ a .block ∷ a .offset ∷ []) ++ drop (length (actWords a)) p) 0 0
+          ∷ getD ((sendWords m ++ a .sends ∷ eventWords (a .event) ++ a .block ∷ a .offset ∷ []) ++ drop (length (actWords a)) p) 1 0 ∷ [] ≡ sendWords m
+      go Nothing = refl
+      go (Numbered MinusOne) = refl
+      go (Numbered (Number n)) = refl
+
   pub report-length : length (over p (actWords a)) ≡ length p
   report-length = over-length p (actWords a) (let e = eight a in omega arith)
 
@@ -145,8 +185,22 @@ named-with Resynchronizing p q = each-append p q
 named-with Querying p q = each-append p q
 named-with Sending p q = each-append p q
 
+-- what a call shows is what the history has of its act
+pub same-report : (s : Sender) (st p : List ℕ) (a : Acted) (c : Called) → Behind (senderWords s) st → 8 ≤ length p → Does s st p a c → SameReport (reportOf c) (reported a)
+same-report s st p a c b h (done o z) =
+    let behind = over-behind (senderWords (a .sender)) st (behind-length b) in
+    subst (λ (k : Called). SameReport (reportOf k) (reported a)) (sym z) (send-is a st p h, waits-is (a .sender) (over st (senderWords (a .sender))) behind)
+same-report s st p a c b h (refused n o z l same none) =
+    let number : eqb (c .number) 0 ≡ false = ne-eqb (c .number) 0 (λ q. let k = leb-true 1 (a .refusal) n in omega arith) in (
+      ap (λ (t : Bool). cond t (getD (c .report) 0 0 ∷ getD (c .report) 1 0 ∷ []) (0 ∷ 0 ∷ [])) number ∙ ap sendWords (sym none),
+      ap waitsWords z ∙ waits-is s st b ∙ ap (λ (t : Sender). sendWords (waitsOf t)) (sym same),
+    )
+
 module _ (g : Settings) (e : SenderEnd) (y : SendingEnd) (x : Line) (i : SenderShows g e y x) (a : Acted) (c : Called)
     (d : Does (y .sender) (e .memory .state) (e .memory .report) a c) (ws : List Shown) (vs : List Judged) (arrived : Each (SameVerdict g) ws vs) where
+  showed : SameReport (reportOf c) (reported a)
+  showed = same-report (y .sender) (e .memory .state) (e .memory .report) a c (i .state) (i .report) d
+
   pub call-shows : SenderShows g (senderCalled e ws c) (actedEnd y vs a) x
   call-shows = go d
     where
@@ -165,6 +219,7 @@ module _ (g : Settings) (e : SenderEnd) (y : SendingEnd) (x : Line) (i : SenderS
                 named = subst (λ (t : List ℕ). Each SameSend (cond (eqb (getD t 5 0) 0) [] (e .named ++ namedBy (called 0 (over (e .memory .state) (senderWords (a .sender))) [] (over (e .memory .report) (actWords a)))))
                     (namedAfter (y .named) a)) (sym (behind .is)) (named-with (a .sender .waiting) (i .named) (named-is a (over (e .memory .state) (senderWords (a .sender))) (e .memory .report) (i .report)));
                 arrived = arrived;
+                reports = each-more (subst (λ (k : Called). SameReport (reportOf k) (reported a)) z showed) (i .reports);
                 reader = i .reader;
               }
       go (refused n o z l same none) =
@@ -181,5 +236,6 @@ module _ (g : Settings) (e : SenderEnd) (y : SendingEnd) (x : Line) (i : SenderS
                 (subst (λ (k : Sender). Each SameSend (cond (eqb (waitingWord (y .sender .waiting)) 0) [] (e .named ++ [])) (cond (isOpen (k .waiting)) (y .named ++ []) [])) (sym same)
                 (named-with (y .sender .waiting) (i .named) each-none))));
             arrived = arrived;
+            reports = each-more showed (i .reports);
             reader = i .reader;
           }

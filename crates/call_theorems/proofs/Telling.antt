@@ -1,52 +1,59 @@
 -- What a call of the sender's driver tells: how many sends were made, that it gave up, and what is to be sent.
 use mathlib.Core.Path.{_≡_, refl, sym, ap, _∙_, subst}
 use mathlib.Core.List.{List, [], _∷_, _++_}
-use mathlib.Core.Bool.{true}
-use Prim.Native.Nat.{ℕ, _≤_}
+use mathlib.Core.Bool.{Bool, true, false, cond, not, _&&_}
+use Prim.Native.Nat.{ℕ, _+_, _≤_}
 use native.Mathlib.Omega.{arith}
 use lib.ListN.{length, drop, getD}
 use lib.Dec.{eqb}
-use borrow.Author.Tests.{ne-eqb, leb-true}
-use Rattle.lists.specs.Bytes.{over}
+use borrow.Author.Tests.{ne-eqb, eqb-true, leb-true}
+use Rattle.lists.specs.Bytes.{same}
 use Rattle.lists.specs.Outcome.{Called}
 use Rattle.lists.proofs.Calls.{over-is}
+use Rattle.lists.proofs.Same.{same-self}
 use Rattle.settings.specs.declared.Settings.{Settings}
+use Rattle.numbers.specs.declared.SequenceNumber.{SequenceNumber}
 use Rattle.numbers.specs.declared.SequenceNumber.the-variants.{MinusOne, Number}
 use Rattle.refusal.specs.declared.Verdict.{Verdict}
 use Rattle.stream.specs.Stream.{Judged}
+use Rattle.words.specs.Words.{verdictFrom}
 use Rattle.words.specs.declared.VerdictMade.{VerdictMade}
-use Rattle.sender.specs.Sender.{validSender, blockReadOf}
+use Rattle.sender.specs.Sender.{validSender, isOpen, waitsOf, blockReadOf}
+use Rattle.sender.specs.declared.Waiting.{Waiting}
+use Rattle.sender.specs.declared.Waiting.the-variants.{Closed, Idle, Resynchronizing, Querying, Sending}
 use Rattle.sender.specs.declared.Sender.{Sender}
 use Rattle.sender.specs.declared.NumberedMessage.{NumberedMessage}
 use Rattle.sender.specs.declared.NumberedMessage.the-variants.{Nothing, Numbered}
 use Rattle.sender.specs.declared.Event.{Event}
 use Rattle.sender.specs.declared.Event.the-variants.{NoEvent, Delivered, DeliveredUnknown, Abandoned, Froze, Dropped}
 use Rattle.sender.specs.declared.Acted.{Acted}
-use Rattle.sender_calls.specs.SenderCalls.{sendWords, eventWords, actWords}
+use Rattle.sender_calls.specs.SenderCalls.{waitingWord, waitingOf, senderWords, sendWords, eventWords, actWords}
 use Rattle.link.specs.SenderActs.{Act, actOf, fallsDue, resendsOf}
-use Rattle.link.specs.SenderHistory.{isAbandoned}
+use Rattle.link.specs.SenderHistory.{Entry, reported, crashed, is, counted, countedOf, isAbandoned}
 use Rattle.link.specs.System.{System}
 use Rattle.link.specs.Promise.{Ready}
 use Rattle.link.proofs.Facts.{not-both}
-use Rattle.link.proofs.Queues.{Each, each-more}
+use Rattle.link.proofs.Queues.{Each, each-none, each-more}
+use Rattle.link.proofs.SenderDue.{open-taken, ended-taken, timer-taken, block-taken}
 use Rattle.call_theorems.specs.Verdicts.{readerGives}
 use Rattle.call_theorems.specs.Reading.{Shown, shown}
-use Rattle.call_theorems.specs.Driver.{Passed, Drivers}
-use Rattle.call_theorems.specs.DriversPromise.{In, here, there, SenderCall, opening, ending, resetting, timing, submitting, taking, calledBy, verdictBy, actBy, Offered, sendsWord, abandonedWord, sendWordsOf}
+use Rattle.call_theorems.specs.Driver.{Passed, CallReport, Drivers, waitsWords, reportOf}
+use Rattle.call_theorems.specs.DriversPromise.{In, here, there, SenderCall, opening, ending, resetting, timing, submitting, taking, calledBy, verdictBy, actBy, Offered, sendsWord, abandonedWord, sendWordsOf, applies, countedWords, sendsShown}
 use Rattle.call_theorems.proofs.Verdicts.{made-again, sends-the-same}
-use Rattle.call_theorems.proofs.Shows.{SameVerdict, Shows, Does, done, refused, eight}
+use Rattle.call_theorems.proofs.Shows.{SameVerdict, SameReport, Behind, Shows, Does, done, refused, eight, send-is, same-report}
 use Rattle.call_theorems.proofs.Acting.{open-does, ended-does, reset-does, timer-does, submit-does, block-does}
 
 -- ---- the words of a report
 pub record Words (a : Acted) (c : Called) : Type 0 where
+  pub refusal : a .refusal ≡ 0
   pub sends : sendsWord c ≡ a .sends
   pub abandons : abandonedWord c ≡ isAbandoned (a .event)
   pub send : sendWordsOf c ≡ sendWords (a .send)
+  pub waits : waitsWords (c .state) ≡ sendWords (waitsOf (a .sender))
 
--- the words, one after the other
+-- the words behind what is sent
 listed : (m : NumberedMessage) (n : ℕ) (e : Event) (x y : ℕ) (rest : List ℕ) → (getD ((sendWords m ++ n ∷ eventWords e ++ x ∷ y ∷ []) ++ rest) 2 0 ≡ n)
     × (eqb (getD ((sendWords m ++ n ∷ eventWords e ++ x ∷ y ∷ []) ++ rest) 3 0) 2 ≡ isAbandoned e)
-    × (getD ((sendWords m ++ n ∷ eventWords e ++ x ∷ y ∷ []) ++ rest) 0 0 ∷ getD ((sendWords m ++ n ∷ eventWords e ++ x ∷ y ∷ []) ++ rest) 1 0 ∷ [] ≡ sendWords m)
 listed m n e x y rest = go m
   where
     event : (e : Event) → eqb (getD ((eventWords e ++ x ∷ y ∷ []) ++ rest) 0 0) 2 ≡ isAbandoned e
@@ -59,23 +66,76 @@ listed m n e x y rest = go m
 
     go : (m : NumberedMessage) → (getD ((sendWords m ++ n ∷ eventWords e ++ x ∷ y ∷ []) ++ rest) 2 0 ≡ n)
         × (eqb (getD ((sendWords m ++ n ∷ eventWords e ++ x ∷ y ∷ []) ++ rest) 3 0) 2 ≡ isAbandoned e)
-        × (getD ((sendWords m ++ n ∷ eventWords e ++ x ∷ y ∷ []) ++ rest) 0 0 ∷ getD ((sendWords m ++ n ∷ eventWords e ++ x ∷ y ∷ []) ++ rest) 1 0 ∷ [] ≡ sendWords m)
-    go Nothing = (refl, event e, refl)
-    go (Numbered MinusOne) = (refl, event e, refl)
-    go (Numbered (Number k)) = (refl, event e, refl)
+    go Nothing = (refl, event e)
+    go (Numbered MinusOne) = (refl, event e)
+    go (Numbered (Number k)) = (refl, event e)
 
 -- a call that was done
-told : (s : Sender) (st p : List ℕ) (a : Acted) (c : Called) → 8 ≤ length p → Does s st p a c → eqb (c .number) 0 ≡ true → Words a c
-told s st p a c h (refused n o z t same none) q =
+told : (s : Sender) (st p : List ℕ) (a : Acted) (c : Called) → Behind (senderWords s) st → 8 ≤ length p → Does s st p a c → eqb (c .number) 0 ≡ true → Words a c
+told s st p a c b h (refused n o z t same none) q =
     not-both (sym q ∙ ap (λ (k : ℕ). eqb k 0) o ∙ ne-eqb (a .refusal) 0 (λ w. let k = leb-true 1 (a .refusal) n in omega arith))
-told s st p a c h (done o z) q =
+told s st p a c b h (done o z) q =
     let report : c .report ≡ actWords a ++ drop (length (actWords a)) p = ap (λ (k : Called). k .report) z ∙ over-is p (actWords a) (let e = eight a in omega arith) in
     let words = listed (a .send) (a .sends) (a .event) (a .block) (a .offset) (drop (length (actWords a)) p) in
     record {
+      refusal = o;
       sends = ap (λ (r : List ℕ). getD r 2 0) report ∙ words .0;
       abandons = ap (λ (r : List ℕ). eqb (getD r 3 0) 2) report ∙ words .1;
-      send = ap (λ (r : List ℕ). getD r 0 0 ∷ getD r 1 0 ∷ []) report ∙ words .2;
+      send = ap (λ (k : Called). getD (k .report) 0 0 ∷ getD (k .report) 1 0 ∷ []) z ∙ send-is a st p h;
+      waits = same-report s st p a c b h (done o z) .1;
     }
+
+-- ---- the sends that the calls showed are those of the history
+is-same : (m : SequenceNumber) (n : NumberedMessage) → same (sendWords (Numbered m)) (sendWords n) ≡ is m n
+unfolding same
+is-same MinusOne Nothing = refl
+is-same MinusOne (Numbered MinusOne) = refl
+is-same MinusOne (Numbered (Number k)) = go (eqb k 0)
+  where
+    go : (b : Bool) → (eqb 1 (cond b 2 3) && (eqb 0 k && true)) ≡ false
+    go true = refl
+    go false = refl
+is-same (Number n) Nothing = go (eqb n 0)
+  where
+    go : (b : Bool) → (eqb (cond b 2 3) 0 && (eqb n 0 && true)) ≡ false
+    go true = refl
+    go false = refl
+is-same (Number n) (Numbered MinusOne) = go (eqb n 0)
+  where
+    go : (b : Bool) → (eqb (cond b 2 3) 1 && (eqb n 0 && true)) ≡ false
+    go true = refl
+    go false = refl
+is-same (Number n) (Numbered (Number k)) = go (eqb n k) refl
+  where
+    go : (b : Bool) → eqb n k ≡ b → same (sendWords (Numbered (Number n))) (sendWords (Numbered (Number k))) ≡ b
+    go true e = ap (λ (j : ℕ). same (sendWords (Numbered (Number n))) (sendWords (Numbered (Number j)))) (sym (eqb-true n k e)) ∙ same-self (sendWords (Numbered (Number n)))
+    go false e = ap (λ (b : Bool). eqb (cond (eqb n 0) 2 3) (cond (eqb k 0) 2 3) && (b && true)) e ∙ never (eqb (cond (eqb n 0) 2 3) (cond (eqb k 0) 2 3))
+      where
+        never : (b : Bool) → (b && false) ≡ false
+        never true = refl
+        never false = refl
+
+counted-is : (m : SequenceNumber) {rs : List CallReport} {h : List Entry} → Each SameReport rs h → countedWords (sendWords (Numbered m)) rs ≡ counted m h
+unfolding countedWords
+counted-is m each-none = refl
+counted-is m (each-more {x = r} {y = crashed} p ps) =
+    let waits = ap (same (sendWords (Numbered m))) p ∙ is-same m Nothing in
+    rw waits
+counted-is m (each-more {x = r} {y = reported a} p ps) =
+    let w = sendWords (Numbered m) in
+    let waits = ap (same w) (p .1) ∙ is-same m (waitsOf (a .sender)) in
+    let sends = ap (same w) (p .0) ∙ is-same m (a .send) in
+    let more = counted-is m ps in
+    rw (waits, sends, more)
+
+pub sends-shown : (w : NumberedMessage) {rs : List CallReport} {h : List Entry} → Each SameReport rs h → sendsShown (sendWords w) rs ≡ countedOf w h
+sends-shown Nothing e = refl
+sends-shown (Numbered MinusOne) e = counted-is MinusOne e
+sends-shown (Numbered (Number n)) {rs} e = ap (λ (b : Bool). cond b 0 (countedWords (sendWords (Numbered (Number n))) rs)) (some (eqb n 0)) ∙ counted-is (Number n) e
+  where
+    some : (b : Bool) → eqb (cond b 2 3) 0 ≡ false
+    some true = refl
+    some false = refl
 
 -- ---- each call is its act
 -- the verdict that was shown
@@ -117,7 +177,56 @@ module _ (k : Passed) (rd : Ready (k .link)) (x : Drivers) (y : System) (valid :
   call-does (taking w) o = taken-does w (given-in (k .link .settings) w o (h .sender .arrived))
 
   pub call-told : (q : SenderCall) → Offered (x .sender .arrived) q → eqb (calledBy k (x .sender .memory) q .number) 0 ≡ true → Words (actOf (actBy k q) s) (calledBy k (x .sender .memory) q)
-  call-told q o = told s st p (actOf (actBy k q) s) (calledBy k (x .sender .memory) q) (h .sender .report) (call-does q o)
+  call-told q o = told s st p (actOf (actBy k q) s) (calledBy k (x .sender .memory) q) (h .sender .state) (h .sender .report) (call-does q o)
+
+  -- what it shows is what the history has of it
+  pub call-showed : (q : SenderCall) → Offered (x .sender .arrived) q → SameReport (reportOf (calledBy k (x .sender .memory) q)) (reported (actOf (actBy k q) s))
+  call-showed q o = same-report s st p (actOf (actBy k q) s) (calledBy k (x .sender .memory) q) (h .sender .state) (h .sender .report) (call-does q o)
+
+  pub call-number : (q : SenderCall) → Offered (x .sender .arrived) q → calledBy k (x .sender .memory) q .number ≡ actOf (actBy k q) s .refusal
+  call-number q o = go (calledBy k (x .sender .memory) q) (call-does q o)
+    where
+      go : (c : Called) → Does s st p (actOf (actBy k q) s) c → c .number ≡ actOf (actBy k q) s .refusal
+      go c (done o z) = ap (λ (k : Called). k .number) z ∙ sym o
+      go c (refused n o z t same none) = o
+
+  word-is : getD st 5 0 ≡ waitingWord (s .waiting)
+  word-is = ap (λ (ws : List ℕ). getD ws 5 0) (h .sender .state .is)
+
+  pub waiting-back : waitingOf (getD st 5 0) ≡ s .waiting
+  waiting-back = ap waitingOf word-is ∙ go (s .waiting)
+    where
+      go : (w : Waiting) → waitingOf (waitingWord w) ≡ w
+      go Closed = refl
+      go Idle = refl
+      go Resynchronizing = refl
+      go Querying = refl
+      go Sending = refl
+
+  closed-is : eqb (getD st 5 0) 0 ≡ true → s .waiting ≡ Closed
+  closed-is e = sym waiting-back ∙ ap waitingOf (eqb-true (getD st 5 0) 0 e)
+
+  open-is : not (eqb (getD st 5 0) 0) ≡ true → isOpen (s .waiting) ≡ true
+  open-is e = go (s .waiting) (ap (λ (n : ℕ). not (eqb n 0)) (sym word-is) ∙ e)
+    where
+      go : (w : Waiting) → not (eqb (waitingWord w) 0) ≡ true → isOpen w ≡ true
+      go Closed z = not-both (sym z)
+      go Idle z = refl
+      go Resynchronizing z = refl
+      go Querying z = refl
+      go Sending z = refl
+
+  -- a call that applies is done
+  pub call-taken : s .persisted .frozen ≡ false → (q : SenderCall) → Offered (x .sender .arrived) q → applies q st ≡ true → calledBy k (x .sender .memory) q .number ≡ 0
+  call-taken u q o e = call-number q o ∙ go q e
+    where
+      go : (q : SenderCall) → applies q st ≡ true → actOf (actBy k q) s .refusal ≡ 0
+      go opening e = open-taken s valid (closed-is e) u
+      go ending e = ended-taken s valid (open-is e)
+      go timing e = timer-taken s valid (open-is e) (k .link .resends) (rd .resends)
+      go (taking w) e = block-taken s valid (open-is e) (k .link .resends) (rd .resends) (verdictBy (verdictFrom (w .number) (w .type))) (w .content)
+      go resetting e = not-both (sym e)
+      go (submitting limit d) e = not-both (sym e)
 
 -- the act is given the link's r
 pub due-resends : (k : Passed) (q : SenderCall) → fallsDue (actBy k q) ≡ true → resendsOf (actBy k q) ≡ k .link .resends

@@ -2,12 +2,12 @@
 use mathlib.Core.Path.{_≡_, refl, sym, ap, _∙_, subst}
 use mathlib.Core.List.{List, [], _∷_}
 use mathlib.Core.Bool.{Bool, true, false, cond}
-use Prim.Native.Nat.{ℕ, _+_}
+use Prim.Native.Nat.{ℕ, _+_, _≤_}
 use Prim.Native.Char.{code}
 use native.Mathlib.Omega.{arith}
 use lib.ListN.{length, take, drop, getD}
 use lib.Dec.{leb, eqb}
-use borrow.Author.Tests.{leb-true}
+use borrow.Author.Tests.{le-leb, leb-true}
 use Rattle.lists.specs.Bytes.{put, over}
 use Rattle.lists.specs.Outcome.{Outcome, Called, called}
 use Rattle.lists.proofs.Calls.{over-is}
@@ -30,6 +30,7 @@ use Rattle.messages.specs.declared.TypeMade.{TypeMade}
 use Rattle.messages.specs.declared.TypeMade.the-variants.{Known as KnownType}
 use Rattle.control_block.specs.ControlBlock.{controlBlockOf}
 use Rattle.control_block.proofs.Framed.{control-framed}
+use Rattle.receiver.specs.Receiver.{replySpace}
 use Rattle.words.specs.Words.{writeFinished, withReport}
 use Rattle.block_calls.specs.WriteCalls.{writeCall}
 use Rattle.message_calls.specs.MessageCalls.{minusOne, controlFrom}
@@ -40,7 +41,7 @@ use Rattle.link.specs.System.{Link, requestOf}
 use Rattle.link.specs.Promise.{Ready}
 use Rattle.link.proofs.Facts.{not-both}
 use Rattle.call_theorems.specs.Driver.{Passed, madeFrom, Named, SenderMemory, blockOfNamed}
-use Rattle.call_theorems.specs.DriversPromise.{Agrees}
+use Rattle.call_theorems.specs.DriversPromise.{Agrees, messageNamed}
 use Rattle.call_theorems.proofs.Shows.{SameSend}
 use Rattle.call_theorems.proofs.Driving.{settings-valid, link-made}
 
@@ -76,6 +77,14 @@ module _ (g : Settings) (d : List ℕ) (w : Writable g (code "D") d) (start : �
 
   pub writes : Writes (calls (frameOf g (code "D") d start b))
   writes = framed-writes (leb 2 (length p)) refl (leb (start + needOf g d) (length b)) refl
+
+  -- where the memory is long enough it is done
+  pub frame-done : start + needOf g d ≤ length b → 2 ≤ length p → calls (frameOf g (code "D") d start b) .number ≡ 0
+  unfolding writeFinished
+  frame-done f m =
+      ap (λ (z : Bool). cond z (writeFinished (frameOf g (code "D") d start b .buffer) p (frameOf g (code "D") d start b .answer)) (called 2 [] b p) .number) (le-leb 2 (length p) m)
+      ∙ ap (λ (o : Outcome Written). writeFinished (o .buffer) p (o .answer) .number)
+      (sym (frame-all g (code "D") d start b (le-leb (start + needOf g d) (length b) f) (w .fits) (w .type) (w .bytes)))
 
 -- ---- the call for each message
 module _ (k : Passed) (ag : Agrees k) (rd : Ready (k .link)) (start : ℕ) (m : SenderMemory) where
@@ -127,3 +136,21 @@ module _ (k : Passed) (ag : Agrees k) (rd : Ready (k .link)) (start : ℕ) (m : 
       let is = call-is v (n .kind ∷ n .number ∷ []) e in
       subst (λ (c : Called). eqb (c .number) 0 ≡ true → take (getD (c .report) 0 0) (drop start (c .buffer)) ≡ blockOf g (code "D") (requestOf l v)) (sym is)
       (writes g (requestOf l v) w start (m .block) (m .written)) done
+
+  pub named-done : (n : Named) (v : SequenceNumber) → SameSend n v → Writable g (code "D") (requestOf l v) → start + replySpace g ≤ length (m .block) → 2 ≤ length (m .written)
+      → blockOfNamed k start m n .number ≡ 0
+  named-done n v e w f p =
+      let fits = w .fits in
+      ap (λ (c : Called). c .number) (call-is v (n .kind ∷ n .number ∷ []) e) ∙ frame-done g (requestOf l v) w start (m .block) (m .written) (omega arith) p
+
+  -- the message that the words name
+  pub message-is : (n : Named) (v : SequenceNumber) → SameSend n v → messageNamed k n ≡ requestOf l v
+  message-is n v e = ap (λ (z : List ℕ). messageNamed k (record { kind = getD z 0 0; number = getD z 1 0 })) e ∙ go v
+    where
+      number : (i : ℕ) (b : Bool) → messageNamed k (record { kind = cond b 2 3; number = i }) ≡ cond b (controlMessage (l .name) Query) (l .log i)
+      number i true = refl
+      number i false = refl
+
+      go : (v : SequenceNumber) → messageNamed k (record { kind = getD (sendWords (Numbered v)) 0 0; number = getD (sendWords (Numbered v)) 1 0 }) ≡ requestOf l v
+      go MinusOne = refl
+      go (Number i) = number i (eqb i 0)

@@ -1,8 +1,8 @@
 -- include/giamuvich.h: two drivers that run a link by the C functions and keep their duties. All that they have is words and bytes: what they lend to a call, what they
 -- store and restore, what a report told them, and a verdict handed on as its number, its type and its data.
-use mathlib.Core.List.{List, [], _∷_, _++_}
+use mathlib.Core.List.{List, [], _∷_, _++_, map}
 use mathlib.Core.Bool.{Bool, cond, not, _&&_}
-use Prim.Native.Nat.{ℕ}
+use Prim.Native.Nat.{ℕ, _+_}
 use Prim.Native.Char.{code}
 use lib.ListN.{length, take, drop, getD}
 use lib.Dec.{leb, eqb}
@@ -18,9 +18,10 @@ use Rattle.message_calls.specs.ControlCalls.{controlBlockCall}
 use Rattle.sender_calls.specs.SenderCalls.{freshCall, openCall, endedCall, resetCall, timerCall, blockCall, submitCall}
 use Rattle.receiver_calls.specs.ReceiverCalls.{receiveCall}
 use Rattle.link.specs.Duties.{oneAt, othersAt}
-use Rattle.link.specs.Line.{Reader, Line, line, emptyLine, readerAfter, damages, disorders}
+use Rattle.link.specs.Line.{Reader, Line, line, newReader, emptyLine, readerAfter, damages, disorders}
 use Rattle.link.specs.System.{Link}
-use Rattle.call_theorems.specs.Reading.{Shown, foundBlock, usedBytes, shownBy}
+use Rattle.stream.specs.Stream.{Judged}
+use Rattle.call_theorems.specs.Reading.{Shown, shown, foundBlock, usedBytes, shownBy}
 
 -- ---- what is passed
 -- the numbers of the block settings: SB, EB and D of the gmv_hybrid_ functions, D of the gmv_minimal_ ones
@@ -75,6 +76,11 @@ pub record Named : Type 0 where
   pub kind : ℕ
   pub number : ℕ
 
+-- what a call of the sender's showed: what to send, and what waits then, both as GMV_ACT_SEND and GMV_ACT_SEND_NUMBER have it
+pub record CallReport : Type 0 where
+  pub send : List ℕ
+  pub waits : List ℕ
+
 -- in memory at the sender's end: GMV_SENDER and GMV_ACT words, a reader's, and a buffer and report words for blocks
 pub record SenderMemory : Type 0 where
   pub state : List ℕ
@@ -83,12 +89,14 @@ pub record SenderMemory : Type 0 where
   pub block : List ℕ
   pub written : List ℕ
 
--- and what it stores: the persisted words; the messages named and not yet written, the verdicts not yet acted on
+-- and what it stores: the persisted words; the messages named and not yet written, the verdicts not yet acted on;
+-- and, for the count, what the calls showed, the newest first
 pub record SenderEnd : Type 0 where
   pub memory : SenderMemory
   pub stored : List ℕ
   pub named : List Named
   pub arrived : List Shown
+  pub reports : List CallReport
 
 -- in memory at the receiver's end: GMV_RECEIVER and GMV_RECEIVED words, a reader's, and a buffer for replies
 pub record ReceiverMemory : Type 0 where
@@ -116,8 +124,8 @@ pub record Drivers : Type 0 where
 abbrev pub senderMemory : List ℕ → List ℕ → ReaderMemory → List ℕ → List ℕ → SenderMemory
 senderMemory s p r b w = record { state = s; report = p; reader = r; block = b; written = w }
 
-abbrev pub senderEnd : SenderMemory → List ℕ → List Named → List Shown → SenderEnd
-senderEnd m d ns ws = record { memory = m; stored = d; named = ns; arrived = ws }
+abbrev pub senderEnd : SenderMemory → List ℕ → List Named → List Shown → List CallReport → SenderEnd
+senderEnd m d ns ws rs = record { memory = m; stored = d; named = ns; arrived = ws; reports = rs }
 
 abbrev pub receiverMemory : List ℕ → List ℕ → ReaderMemory → List ℕ → ReceiverMemory
 receiverMemory s p r b = record { state = s; report = p; reader = r; reply = b }
@@ -150,6 +158,9 @@ readBytes k n m x = readCall (madeFrom k) (m .state) (take n (x .bytes)) (m .buf
 abbrev pub afterReading : Called → ReaderMemory
 afterReading c = readerMemory (c .state) (c .buffer) (c .report)
 
+abbrev pub withVerdict : List ℕ → ReaderMemory → ReaderMemory
+withVerdict v m = readerMemory (m .state) (m .buffer) v
+
 abbrev pub newVerdict : Called → List Shown
 newVerdict c = cond (foundBlock c) (shownBy c ∷ []) []
 
@@ -172,24 +183,37 @@ waitingWordOf c = getD (c .state) 5 0
 abbrev pub namedThen : List Named → Called → List Named
 namedThen ns c = cond (eqb (waitingWordOf c) 0) [] (ns ++ namedBy c)
 
+-- what waits by GMV_SENDER_WAITING (2: -1, 3: 0, 4: the transaction after GMV_SENDER_DELIVERED)
+abbrev pub waitsWords : List ℕ → List ℕ
+waitsWords st =
+    let w = getD st 5 0 in
+    cond (eqb w 2) (1 ∷ 0 ∷ []) (cond (eqb w 3) (2 ∷ 0 ∷ []) (cond (eqb w 4) (3 ∷ (getD st 1 0 + 1) ∷ []) (0 ∷ 0 ∷ [])))
+
+abbrev pub reportOf : Called → CallReport
+reportOf c = record { send = cond (eqb (c .number) 0) (sendKind c ∷ sendNumber c ∷ []) (0 ∷ 0 ∷ []); waits = waitsWords (c .state) }
+
+-- after a crash, and where storing failed, nothing waits
+abbrev pub restarted : CallReport
+restarted = record { send = 0 ∷ 0 ∷ []; waits = 0 ∷ 0 ∷ [] }
+
 abbrev pub withCall : SenderMemory → Called → SenderMemory
 withCall m c = senderMemory (c .state) (c .report) (m .reader) (m .block) (m .written)
 
 abbrev pub senderCalled : SenderEnd → List Shown → Called → SenderEnd
-senderCalled e ws c = senderEnd (withCall (e .memory) c) (e .stored) (namedThen (e .named) c) ws
+senderCalled e ws c = senderEnd (withCall (e .memory) c) (e .stored) (namedThen (e .named) c) ws (reportOf c ∷ e .reports)
 
 abbrev pub bySender : Drivers → List Shown → Called → Drivers
 bySender x ws c = drivers (senderCalled (x .sender) ws c) (x .receiver) (x .forward) (x .back)
 
--- a new circuit: the lines are empty, both readers fresh, and what was read, named or still to be sent on the earlier one is dropped.
+-- a new circuit: the lines are empty, both readers fresh, in whatever memory each gets, and what was read, named or still to be sent on the earlier one is dropped.
 -- Both drivers see to it in one act; what the receiver's still does on the old circuit comes before it
-abbrev pub openedBy : Drivers → Called → Drivers
-openedBy x c =
+abbrev pub openedBy : Drivers → ReaderMemory → ReaderMemory → Called → Drivers
+openedBy x r q c =
     let m = x .sender .memory in
     let n = x .receiver .memory in
     let e = x .receiver in
-    drivers (senderEnd (senderMemory (c .state) (c .report) (freshReader (m .reader)) (m .block) (m .written)) (x .sender .stored) (namedBy c) [])
-    (receiverEnd (receiverMemory (n .state) (n .report) (freshReader (n .reader)) (n .reply)) (e .has) (e .stored) (e .«stored_has») [] []) emptyLine emptyLine
+    drivers (senderEnd (senderMemory (c .state) (c .report) (freshReader r) (m .block) (m .written)) (x .sender .stored) (namedBy c) [] (reportOf c ∷ x .sender .reports))
+    (receiverEnd (receiverMemory (n .state) (n .report) (freshReader q) (n .reply)) (e .has) (e .stored) (e .«stored_has») [] []) emptyLine emptyLine
 
 -- the block of a message named: gmv_*_control_block for -1 and 0, gmv_*_write for a transaction, from an offset of the buffer on
 abbrev pub blockOfNamed : Passed → ℕ → SenderMemory → Named → Called
@@ -204,7 +228,7 @@ sentBy x start ns c =
     let e = x .sender in
     let m = x .sender .memory in
     cond (eqb (c .number) 0 && same (take 5 (m .state)) (e .stored))
-    (drivers (senderEnd (senderMemory (m .state) (m .report) (m .reader) (c .buffer) (c .report)) (e .stored) ns (e .arrived)) (x .receiver)
+    (drivers (senderEnd (senderMemory (m .state) (m .report) (m .reader) (c .buffer) (c .report)) (e .stored) ns (e .arrived) (e .reports)) (x .receiver)
     (line (x .forward .reader) (x .forward .bytes ++ take (blockLength c) (drop start (c .buffer)))) (x .back)) x
 
 abbrev pub oldestSent : Passed → ℕ → Drivers → List Named → Drivers
@@ -216,7 +240,7 @@ answerRead k x c =
     let e = x .sender in
     let m = x .sender .memory in
     cond (eqb (c .number) 0)
-    (drivers (senderEnd (senderMemory (m .state) (m .report) (afterReading c) (m .block) (m .written)) (e .stored) (e .named) (e .arrived ++ newVerdict c)) (x .receiver)
+    (drivers (senderEnd (senderMemory (m .state) (m .report) (afterReading c) (m .block) (m .written)) (e .stored) (e .named) (e .arrived ++ newVerdict c) (e .reports)) (x .receiver)
     (x .forward) (linePast (k .link .settings) (usedBytes c) (x .back))) x
 
 abbrev pub verdictTaken : Passed → Drivers → List Shown → List Shown → Drivers
@@ -281,7 +305,9 @@ replySent x (b ∷ bs) =
 
 -- ---- the acts, in any order
 pub data DriverAct : Type 0 where
-  opens ends resets timer : DriverAct
+  -- with memory for each reader, of any content
+  opens : ReaderMemory → ReaderMemory → DriverAct
+  ends resets timer : DriverAct
   submits : ℕ → List ℕ → DriverAct
   stores restores receiverStores receiverRestores replies : DriverAct
   -- at an offset of the buffer for blocks; at most so many bytes; which verdict
@@ -289,9 +315,9 @@ pub data DriverAct : Type 0 where
   receiverReads receiverDrops : ℕ → DriverAct
   -- the application's verdict, and the reply's offset
   receives : ℕ → ℕ → DriverAct
-  -- other memory for what calls only write: a report, a buffer for blocks and its report; a report and a buffer for replies
-  replaces : List ℕ → List ℕ → List ℕ → DriverAct
-  receiverReplaces : List ℕ → List ℕ → DriverAct
+  -- other memory for what calls only write: a report, a verdict, a buffer for blocks and its report; a report, a verdict and a buffer for replies
+  replaces : List ℕ → List ℕ → List ℕ → List ℕ → DriverAct
+  receiverReplaces : List ℕ → List ℕ → List ℕ → DriverAct
   -- gmv_*_receive on a copy of the state, to see whether a transaction is due before the application is asked
   tries : ℕ → ℕ → DriverAct
   -- the memory is new, of any content
@@ -299,32 +325,35 @@ pub data DriverAct : Type 0 where
   receiverCrashes : ReceiverMemory → DriverAct
   damagesForward damagesBack : List ℕ → DriverAct
 
+-- memory that is too short for the act is none: then it is not done
 abbrev pub afterDriver : Passed → DriverAct → Drivers → Drivers
-afterDriver k opens x =
+afterDriver k (opens r q) x =
     let c = openCall (x .sender .memory .state) (x .sender .memory .report) in
-    cond (eqb (c .number) 0) (openedBy x c) (bySender x (x .sender .arrived) c)
+    let g = k .link .settings in
+    cond (enoughToRead g r && enoughToRead g q) (cond (eqb (c .number) 0) (openedBy x r q c) (bySender x (x .sender .arrived) c)) x
 afterDriver k ends x = bySender x (x .sender .arrived) (endedCall (x .sender .memory .state) (x .sender .memory .report))
 afterDriver k resets x = bySender x (x .sender .arrived) (resetCall (x .sender .memory .state) (x .sender .memory .report))
 afterDriver k timer x = bySender x (x .sender .arrived) (timerCall (k .link .resends) (x .sender .memory .state) (x .sender .memory .report))
 afterDriver k (submits limit d) x = bySender x (x .sender .arrived) (submitCall limit d (x .sender .memory .state) (x .sender .memory .report))
 afterDriver k stores x =
     let e = x .sender in
-    drivers (senderEnd (e .memory) (take 5 (e .memory .state)) (e .named) (e .arrived)) (x .receiver) (x .forward) (x .back)
+    drivers (senderEnd (e .memory) (take 5 (e .memory .state)) (e .named) (e .arrived) (e .reports)) (x .receiver) (x .forward) (x .back)
 -- storing failed: the driver goes on from what is stored
 afterDriver k restores x =
     let e = x .sender in
     let m = x .sender .memory in
-    drivers (senderEnd (senderMemory (restoredWords e (m .state)) (m .report) (m .reader) (m .block) (m .written)) (e .stored) [] (e .arrived)) (x .receiver) (x .forward) (x .back)
+    drivers (senderEnd (senderMemory (restoredWords e (m .state)) (m .report) (m .reader) (m .block) (m .written)) (e .stored) [] (e .arrived) (restarted ∷ e .reports)) (x .receiver)
+    (x .forward) (x .back)
 afterDriver k (sends start) x = oldestSent k start x (x .sender .named)
 afterDriver k (reads n) x = answerRead k x (readBytes (k .numbers) n (x .sender .memory .reader) (x .back))
 afterDriver k (takes n) x = verdictTaken k x (oneAt n (x .sender .arrived)) (othersAt n (x .sender .arrived))
 afterDriver k (drops n) x =
     let e = x .sender in
-    drivers (senderEnd (e .memory) (e .stored) (e .named) (othersAt n (e .arrived))) (x .receiver) (x .forward) (x .back)
+    drivers (senderEnd (e .memory) (e .stored) (e .named) (othersAt n (e .arrived)) (e .reports)) (x .receiver) (x .forward) (x .back)
 afterDriver k (crashes m) x =
     let e = x .sender in
     cond (enoughToSend (k .link .settings) m)
-    (drivers (senderEnd (senderMemory (restoredWords e (m .state)) (m .report) (freshReader (m .reader)) (m .block) (m .written)) (e .stored) [] []) (x .receiver)
+    (drivers (senderEnd (senderMemory (restoredWords e (m .state)) (m .report) (freshReader (m .reader)) (m .block) (m .written)) (e .stored) [] [] (restarted ∷ e .reports)) (x .receiver)
     (line (x .forward .reader) []) emptyLine) x
 afterDriver k (receiverReads n) x = requestRead k x (readBytes (k .numbers) n (x .receiver .memory .reader) (x .forward))
 afterDriver k (receives application start) x = requestTaken k application start x (x .receiver .arrived)
@@ -346,15 +375,16 @@ afterDriver k (receiverCrashes m) x =
     cond (enoughToReceive (k .link .settings) m)
     (drivers (x .sender) (receiverEnd (receiverMemory (over (m .state) (e .stored)) (m .report) (freshReader (m .reader)) (m .reply)) (e .«stored_has») (e .stored) (e .«stored_has») [] [])
     emptyLine (line (x .back .reader) [])) x
-afterDriver k (replaces p b w) x =
+afterDriver k (replaces p v b w) x =
     let e = x .sender in
     let m = x .sender .memory in
-    cond (leb 8 (length p)) (drivers (senderEnd (senderMemory (m .state) p (m .reader) b w) (e .stored) (e .named) (e .arrived)) (x .receiver) (x .forward) (x .back)) x
-afterDriver k (receiverReplaces p b) x =
+    cond (leb 8 (length p) && leb 8 (length v))
+    (drivers (senderEnd (senderMemory (m .state) p (withVerdict v (m .reader)) b w) (e .stored) (e .named) (e .arrived) (e .reports)) (x .receiver) (x .forward) (x .back)) x
+afterDriver k (receiverReplaces p v b) x =
     let e = x .receiver in
     let m = x .receiver .memory in
-    cond (leb 3 (length p))
-    (drivers (x .sender) (receiverEnd (receiverMemory (m .state) p (m .reader) b) (e .has) (e .stored) (e .«stored_has») (e .pending) (e .arrived)) (x .forward) (x .back)) x
+    cond (leb 3 (length p) && leb 8 (length v))
+    (drivers (x .sender) (receiverEnd (receiverMemory (m .state) p (withVerdict v (m .reader)) b) (e .has) (e .stored) (e .«stored_has») (e .pending) (e .arrived)) (x .forward) (x .back)) x
 afterDriver k (tries application start) x = requestTried k application start x (x .receiver .arrived)
 afterDriver k (damagesForward xs) x = cond (damages (k .link .settings) (x .forward) xs) (drivers (x .sender) (x .receiver) (line (x .forward .reader) xs) (x .back)) x
 afterDriver k (damagesBack xs) x = cond (disorders (k .link .settings) (x .back) xs) (drivers (x .sender) (x .receiver) (x .forward) (line (x .back .reader) xs)) x
@@ -364,9 +394,17 @@ unfoldable pub drivenBy : Passed → Drivers → List DriverAct → Drivers
 drivenBy k x [] = x
 drivenBy k x (a ∷ ds) = afterDriver k a (drivenBy k x ds)
 
--- ---- a tenancy begins: gmv_sender_fresh, whose words are stored; a receiver whose word is stored, with none of the log; gmv_reader_fresh at both ends
-abbrev pub driversStart : Passed → SenderMemory → ReceiverMemory → ℕ → Drivers
-driversStart k m n e =
+-- ---- a tenancy begins
+-- what an earlier one may have left: bytes on the line back, replies not yet sent, verdicts that the sender's driver was shown and has not acted on
+pub record DriversLeft : Type 0 where
+  pub back : List ℕ
+  pub pending : List (List ℕ)
+  pub answers : List Judged
+
+-- gmv_sender_fresh, whose words are stored; a receiver whose word is stored, with none of the log; gmv_reader_fresh at both ends
+abbrev pub driversStart : Passed → DriversLeft → SenderMemory → ReceiverMemory → ℕ → Drivers
+driversStart k d m n e =
     let s = freshCall (k .link .first) (m .state) .state in
-    drivers (senderEnd (senderMemory s (m .report) (freshReader (m .reader)) (m .block) (m .written)) (take 5 s) [] [])
-    (receiverEnd (receiverMemory (over (n .state) (e ∷ [])) (n .report) (freshReader (n .reader)) (n .reply)) [] (e ∷ []) [] [] []) emptyLine emptyLine
+    drivers (senderEnd (senderMemory s (m .report) (freshReader (m .reader)) (m .block) (m .written)) (take 5 s) [] (map (shown (k .link .settings)) (d .answers)) [])
+    (receiverEnd (receiverMemory (over (n .state) (e ∷ [])) (n .report) (freshReader (n .reader)) (n .reply)) [] (e ∷ []) [] (d .pending) [])
+    emptyLine (line newReader (d .back))

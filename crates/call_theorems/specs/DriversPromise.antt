@@ -1,31 +1,30 @@
 -- Demand 3 of what two drivers have: of the words and bytes that they hold and have stored, and of what the sender's calls tell.
 use mathlib.Core.Path.{_≡_}
 use mathlib.Core.List.{List, [], _∷_}
-use mathlib.Core.Bool.{Bool, _&&_}
+use mathlib.Core.Bool.{Bool, true, false, cond, not, _&&_}
 use mathlib.Core.Logic.{_⊎_}
-use Prim.Native.Nat.{ℕ, _+_}
+use Prim.Native.Nat.{ℕ, _+_, _≤_}
 use lib.ListN.{getD}
 use lib.Dec.{eqb}
+use Rattle.lists.specs.Bytes.{same}
 use Rattle.lists.specs.Outcome.{Called}
 use Rattle.settings.specs.declared.Made.the-variants.{Valid}
 use Rattle.refusal.specs.declared.Verdict.{Verdict}
 use Rattle.refusal.specs.declared.Verdict.the-variants.{Refused}
-use Rattle.numbers.specs.declared.SequenceNumber.{SequenceNumber}
-use Rattle.messages.specs.Messages.{messageType}
+use Rattle.stream.specs.Stream.{Judged}
+use Rattle.messages.specs.Messages.{controlMessage, messageType}
+use Rattle.messages.specs.declared.Control.the-variants.{Resynchronize, Query}
 use Rattle.messages.specs.declared.TypeMade.the-variants.{Known}
 use Rattle.words.specs.Words.{verdictFrom}
 use Rattle.words.specs.declared.VerdictMade.{VerdictMade}
 use Rattle.words.specs.declared.VerdictMade.the-variants.{Unknown as NoVerdict, Known as AVerdict}
-use Rattle.sender.specs.Sender.{waitsOf}
-use Rattle.sender.specs.declared.Sender.{Sender}
-use Rattle.sender.specs.declared.NumberedMessage.the-variants.{Numbered}
-use Rattle.sender_calls.specs.SenderCalls.{sendWords, openCall, endedCall, resetCall, timerCall, blockCall, submitCall}
+use Rattle.sender_calls.specs.SenderCalls.{openCall, endedCall, resetCall, timerCall, blockCall, submitCall}
 use Rattle.link.specs.SenderActs.{Act, opened, ended, reset, timer, block, submit, actOf, fallsDue}
-use Rattle.link.specs.SenderHistory.{Entry, countedOf, sendsToReport}
 use Rattle.link.specs.System.{Link}
 use Rattle.link.specs.Promise.{transactions, Covers}
+use Rattle.call_theorems.specs.Verdicts.{readerGives}
 use Rattle.call_theorems.specs.Reading.{Shown}
-use Rattle.call_theorems.specs.Driver.{Passed, SenderMemory, Drivers, madeFrom}
+use Rattle.call_theorems.specs.Driver.{Passed, Named, SenderMemory, CallReport, SenderEnd, Drivers, madeFrom, waitsWords, reportOf}
 
 -- one of a list
 pub data In {A : Type 0} (x : A) : List A → Type 0 where
@@ -37,9 +36,20 @@ pub record Agrees (k : Passed) : Type 0 where
   pub settings : madeFrom (k .numbers) ≡ Valid (k .link .settings)
   pub letters : messageType (k .letters) ≡ Known (k .link .name)
 
--- GMV_SENDER_DELIVERED, GMV_SENDER_FROZEN
+-- the verdicts that an earlier tenancy left are some that a reader gives
+abbrev pub allGiven : List Judged → Bool
+allGiven [] = true
+allGiven (w ∷ ws) = readerGives (w .verdict) && allGiven ws
+
+-- GMV_SENDER_DELIVERED, GMV_SENDER_LAST, GMV_SENDER_FROZEN, GMV_SENDER_WAITING
 abbrev pub deliveredWord : List ℕ → ℕ
 deliveredWord ws = getD ws 1 0
+
+abbrev pub lastWord : List ℕ → ℕ
+lastWord ws = getD ws 2 0
+
+abbrev pub waitsWord : List ℕ → ℕ
+waitsWord ws = getD ws 5 0
 
 abbrev pub frozenWord : List ℕ → ℕ
 frozenWord ws = getD ws 4 0
@@ -54,6 +64,8 @@ pub record DriversSafe (l : Link) (x : Drivers) : Type 0 where
   pub covers-stored : Covers l (deliveredWord (x .sender .memory .state)) stored
   pub stored-covers : Covers l (deliveredWord (x .sender .stored)) held
   pub stored-covers-stored : Covers l (deliveredWord (x .sender .stored)) stored
+  -- nothing is there that was not submitted: GMV_SENDER_LAST, as stored
+  pub submitted : l .first + held ≤ lastWord (x .sender .stored) + 1
   pub unfrozen : frozenWord (x .sender .memory .state) ≡ 0
   pub stored-unfrozen : frozenWord (x .sender .stored) ≡ 0
 
@@ -103,9 +115,32 @@ abandonedWord c = eqb (getD (c .report) 3 0) 2
 abbrev pub sendWordsOf : Called → List ℕ
 sendWordsOf c = getD (c .report) 0 0 ∷ getD (c .report) 1 0 ∷ []
 
--- what a call tells that was done, at a sender s with the history h of the calls before it: the sends in the history; that it gave up, exactly when;
+-- where a call applies, by GMV_SENDER_WAITING: opening without a circuit, the end, the timer and each verdict on one
+abbrev pub applies : SenderCall → List ℕ → Bool
+applies opening st = eqb (waitsWord st) 0
+applies ending st = not (eqb (waitsWord st) 0)
+applies timing st = not (eqb (waitsWord st) 0)
+applies (taking w) st = not (eqb (waitsWord st) 0)
+applies resetting st = false
+applies (submitting limit d) st = false
+
+-- the data of a message that a report named
+abbrev pub messageNamed : Passed → Named → List ℕ
+messageNamed k v =
+    cond (eqb (v .kind) 1) (controlMessage (k .link .name) Resynchronize) (cond (eqb (v .kind) 2) (controlMessage (k .link .name) Query) (k .link .log (v .number)))
+
+-- "the sends in the history since it began to wait on this circuit": those of m among what the newest calls showed, as far back as m waited after each
+unfoldable pub countedWords : List ℕ → List CallReport → ℕ
+countedWords m [] = 0
+countedWords m (r ∷ rs) = cond (same m (r .waits)) (cond (same m (r .send)) 1 0 + countedWords m rs) 0
+
+abbrev pub sendsShown : List ℕ → List CallReport → ℕ
+sendsShown m rs = cond (eqb (getD m 0 0) 0) 0 (countedWords m rs)
+
+-- what a call shows that was done, in words: the sends of what waits then, or of what was just given up; that it gave up, exactly when; what is sent again;
 -- and that what waits after it is named by it, or waited before
-pub record Tells (k : Passed) (s : Sender) (h : List Entry) (q : SenderCall) (c : Called) : Type 0 where
-  pub sends : sendsWord c ≡ sendsToReport s h (actOf (actBy k q) s)
-  pub abandons : abandonedWord c ≡ (fallsDue (actBy k q) && eqb (countedOf (waitsOf s) h) (k .link .resends + 1))
-  pub at-once : (m : SequenceNumber) → waitsOf (actOf (actBy k q) s .sender) ≡ Numbered m → (sendWordsOf c ≡ sendWords (Numbered m)) ⊎ (waitsOf s ≡ Numbered m)
+pub record Tells (k : Passed) (e : SenderEnd) (q : SenderCall) (c : Called) : Type 0 where
+  pub sends : sendsWord c ≡ cond (abandonedWord c) (sendsShown (waitsWords (e .memory .state)) (e .reports)) (sendsShown (waitsWords (c .state)) (reportOf c ∷ e .reports))
+  pub abandons : abandonedWord c ≡ (fallsDue (actBy k q) && eqb (sendsShown (waitsWords (e .memory .state)) (e .reports)) (k .link .resends + 1))
+  pub resends : fallsDue (actBy k q) ≡ true → abandonedWord c ≡ false → sendWordsOf c ≡ waitsWords (e .memory .state)
+  pub at-once : (waitsWords (c .state) ≡ sendWordsOf c) ⊎ ((waitsWords (c .state) ≡ 0 ∷ 0 ∷ []) ⊎ (waitsWords (c .state) ≡ waitsWords (e .memory .state)))

@@ -13,7 +13,7 @@ use Rattle.link.specs.System.{SystemAct, opens as linkOpens, ends as linkEnds, 
 use Rattle.link.specs.System.{senderActs, senderDiscards, senderRestores, senderCrashes, receiverReads as linkReceiverReads, receiverActs, receiverDiscards, receiverPersists, receiverWrites}
 use Rattle.link.specs.System.{receiverRestores as linkReceiverRestores, receiverCrashes as linkReceiverCrashes, damagesForward as linkDamagesForward, damagesBack as linkDamagesBack}
 use Rattle.call_theorems.specs.Reading.{usedBytes}
-use Rattle.call_theorems.specs.Driver.{Passed, Named, Drivers, DriverAct, readBytes, blockOfNamed, enoughToSend, enoughToReceive, drivenBy}
+use Rattle.call_theorems.specs.Driver.{Passed, Named, Drivers, DriverAct, readBytes, blockOfNamed, enoughToRead, enoughToSend, enoughToReceive, drivenBy}
 use Rattle.call_theorems.specs.Driver.{opens, ends, resets, timer, submits, stores, restores, receiverStores, receiverRestores, replies, sends, reads, takes, drops, receiverReads, receiverDrops}
 use Rattle.call_theorems.specs.Driver.{receives, replaces, receiverReplaces, tries, crashes, receiverCrashes, damagesForward, damagesBack}
 
@@ -42,7 +42,7 @@ offers Unknown start x = []
 offers (Known a) start x = receiverActs 0 a start (x .receiver .memory .reply) ∷ []
 
 abbrev pub actsOf : Passed → DriverAct → Drivers → List SystemAct
-actsOf k opens x = linkOpens ∷ []
+actsOf k (opens r q) x = once (enoughToRead (k .link .settings) r && enoughToRead (k .link .settings) q) linkOpens
 actsOf k ends x = linkEnds ∷ []
 actsOf k resets x = linkResets ∷ []
 actsOf k timer x = linkTimer ∷ []
@@ -62,8 +62,8 @@ actsOf k replies x = once (allStored x) receiverWrites
 actsOf k receiverRestores x = linkReceiverRestores ∷ []
 actsOf k (receiverCrashes m) x = once (enoughToReceive (k .link .settings) m) linkReceiverCrashes
 -- only memory changes
-actsOf k (replaces p b w) x = []
-actsOf k (receiverReplaces p b) x = []
+actsOf k (replaces p v b w) x = []
+actsOf k (receiverReplaces p v b) x = []
 actsOf k (tries application start) x = []
 actsOf k (damagesForward xs) x = linkDamagesForward xs ∷ []
 actsOf k (damagesBack xs) x = linkDamagesBack xs ∷ []

@@ -30,4 +30,5 @@ pub mod SenderRefused
 pub mod SenderCounts
 pub mod SenderExamples
 pub mod SenderDue
+pub mod Submitted
 pub mod ReceiverInvariant

@@ -170,3 +170,16 @@ receive-some g a s x d start b =
     (λ f. cond-ind Some (validExpected s) _ _ (λ h. replied-some g s d start b (decisionOf (g .kind) a s x d) (decision-some a (g .kind) s x d)) (λ h. refl))
     (λ f. refl))
     (λ e. refl)
+
+-- ---- an act with its settings, its space and a state is not refused, whatever the block
+replied-taken : (g : Settings) (s : Expected) (d : List ℕ) (start : ℕ) (b : List ℕ) (x : Decision) → repliedOf g s d start b x .answer .refusal ≡ 0
+replied-taken g s d start b (Drops n) = refl
+replied-taken g s d start b (Naks n) = refl
+replied-taken g s d start b (Answers id r) = refl
+
+pub receive-taken : (g : Settings) (a : Application) (s : Expected) (v : Verdict) (d : List ℕ) (start : ℕ) (b : List ℕ) → validLink g ≡ true → start + replySpace g ≤ length b → validExpected s ≡ true
+    → receiveOf g a s v d start b .answer .refusal ≡ 0
+unfolding receiveOf
+receive-taken g a s v d start b settings space state =
+    let fits = le-leb (start + replySpace g) (length b) space in
+    rw (settings, fits, state) (replied-taken g s d start b (decisionOf (g .kind) a s v d))

@@ -82,6 +82,7 @@ module _ (l : Link) (rd : Ready l) where
         covers-persisted = record { begun = omega arith; at-most = n .covered; at-least = omega arith };
         persisted-covers = record { begun = omega arith; at-most = omega arith; at-least = n .ahead };
         persisted-covers-persisted = record { begun = omega arith; at-most = omega arith; at-least = omega arith };
+        submitted = n .submitted;
         unfrozen = i .core .senders .unfrozen;
         persisted-unfrozen = i .core .senders .persisted-unfrozen;
       }

@@ -4,6 +4,7 @@ use mathlib.Core.Bool.{Bool, true, false, cond, not, _&&_}
 use mathlib.Core.List.{List}
 use Prim.Native.Nat.{ℕ, _+_, _-_, _≤_, _<_}
 use Prim.Native.Char.{code}
+use native.Mathlib.Omega.{arith}
 use lib.ListN.{length}
 use lib.Dec.{ltb, leb, eqb}
 use borrow.Author.Tests.{lt-ltb, le-ltb, eqb-true}
@@ -31,7 +32,7 @@ use Rattle.header.specs.declared.Code.the-variants.{AA, AE, AR}
 use Rattle.header.specs.declared.CodeField.{CodeField}
 use Rattle.header.specs.declared.CodeField.the-variants.{Other, Known}
 use Rattle.sender.specs.Sender.{validSender, waitingMessage, waitsOf, acted, abandons, isOpen, onCircuit, openOf, endedOf, resetOf, resendOf, timerOf, withBlock}
-use Rattle.sender.specs.Sender.{dataBlock, blockIn, blockReadOf, validResends, answerResynchronizing, answerQuery, answerTransaction}
+use Rattle.sender.specs.Sender.{dataBlock, blockIn, blockReadOf, validResends, whenOpen, answerResynchronizing, answerQuery, answerTransaction}
 use Rattle.sender.specs.Sender.{answered, answerOf, answeredBy, isNumber, takenIn, submittedHeader, submitOf}
 use Rattle.sender.specs.declared.Persisted.{Persisted}
 use Rattle.sender.specs.declared.Waiting.{Waiting}
@@ -41,7 +42,7 @@ use Rattle.sender.specs.declared.NumberedMessage.{NumberedMessage}
 use Rattle.sender.specs.declared.NumberedMessage.the-variants.{Nothing, Numbered}
 use Rattle.sender.specs.declared.Event.the-variants.{NoEvent}
 use Rattle.sender.specs.declared.Acted.{Acted}
-use Rattle.link.specs.SenderActs.{Act, opened, ended, reset, timer, block, submit, actOf, dueBlock, fallsDue, resendsOf}
+use Rattle.link.specs.SenderActs.{Act, opened, ended, reset, timer, block, submit, actOf, unreadable, dueBlock, fallsDue, resendsOf}
 use Rattle.link.specs.SenderHistory.{isAbandoned}
 use Rattle.link.proofs.Facts.{not-both}
 use Rattle.link.proofs.SenderValid.{when-open-is}
@@ -106,6 +107,10 @@ module _ (r : ℕ) (s : Sender) (l : r ≤ 99) (v : validSender s ≡ true) (m :
 abbrev Quiet : Acted → Type 0
 Quiet a = isAbandoned (a .event) ≡ false
 
+-- nor is it refused
+abbrev Answered : Acted → Type 0
+Answered a = (a .refusal ≡ 0) × Quiet a
+
 module _ (s : Sender) where
   open-quiet : Quiet (openOf s)
   unfolding openOf
@@ -147,51 +152,51 @@ module _ (s : Sender) where
       (λ a. refl)
 
   -- an answer that can be read, whatever it says
-  resynchronizing-quiet : (c : Code) (v : SequenceNumber) → Quiet (answerResynchronizing (s .persisted) c v)
-  resynchronizing-quiet AA MinusOne = refl
-  resynchronizing-quiet AA (Number e) = refl
-  resynchronizing-quiet AE v = refl
-  resynchronizing-quiet AR v = refl
+  resynchronizing-answers : (c : Code) (v : SequenceNumber) → Answered (answerResynchronizing (s .persisted) c v)
+  resynchronizing-answers AA MinusOne = (refl, refl)
+  resynchronizing-answers AA (Number e) = (refl, refl)
+  resynchronizing-answers AE v = (refl, refl)
+  resynchronizing-answers AR v = (refl, refl)
 
-  querying-quiet : (c : Code) (v : SequenceNumber) → Quiet (answerQuery (s .persisted) c v)
-  querying-quiet AA MinusOne = cond-ind Quiet (eqb (s .persisted .delivered) (s .persisted .first - 1)) _ _ (λ z. refl) (λ z. refl)
-  querying-quiet AA (Number e) =
-      cond-ind Quiet (eqb e (s .persisted .delivered + 1)) _ _ (λ z. refl)
-      (λ z. cond-ind Quiet (eqb e (s .persisted .delivered + 1 + 1) && ltb (s .persisted .delivered) (s .persisted .last)) _ _ (λ y. refl) (λ y. refl))
-  querying-quiet AE v = refl
-  querying-quiet AR v = refl
+  querying-answers : (c : Code) (v : SequenceNumber) → Answered (answerQuery (s .persisted) c v)
+  querying-answers AA MinusOne = cond-ind Answered (eqb (s .persisted .delivered) (s .persisted .first - 1)) _ _ (λ z. (refl, refl)) (λ z. (refl, refl))
+  querying-answers AA (Number e) =
+      cond-ind Answered (eqb e (s .persisted .delivered + 1)) _ _ (λ z. (refl, refl))
+      (λ z. cond-ind Answered (eqb e (s .persisted .delivered + 1 + 1) && ltb (s .persisted .delivered) (s .persisted .last)) _ _ (λ y. (refl, refl)) (λ y. (refl, refl)))
+  querying-answers AE v = (refl, refl)
+  querying-answers AR v = (refl, refl)
 
-  sending-quiet : (c : Code) (v : SequenceNumber) → Quiet (answerTransaction (s .persisted) c v)
-  sending-quiet AA (Number e) = cond-ind Quiet (eqb e (s .persisted .delivered + 1)) _ _ (λ z. refl) (λ z. refl)
-  sending-quiet AE (Number e) = cond-ind Quiet (eqb e (s .persisted .delivered + 1)) _ _ (λ z. refl) (λ z. refl)
-  sending-quiet AR (Number e) = cond-ind Quiet (eqb e (s .persisted .delivered + 1 + 1)) _ _ (λ z. refl) (λ z. refl)
-  sending-quiet AA MinusOne = refl
-  sending-quiet AE MinusOne = refl
-  sending-quiet AR MinusOne = refl
+  sending-answers : (c : Code) (v : SequenceNumber) → Answered (answerTransaction (s .persisted) c v)
+  sending-answers AA (Number e) = cond-ind Answered (eqb e (s .persisted .delivered + 1)) _ _ (λ z. (refl, refl)) (λ z. (refl, refl))
+  sending-answers AE (Number e) = cond-ind Answered (eqb e (s .persisted .delivered + 1)) _ _ (λ z. (refl, refl)) (λ z. (refl, refl))
+  sending-answers AR (Number e) = cond-ind Answered (eqb e (s .persisted .delivered + 1 + 1)) _ _ (λ z. (refl, refl)) (λ z. (refl, refl))
+  sending-answers AA MinusOne = (refl, refl)
+  sending-answers AE MinusOne = (refl, refl)
+  sending-answers AR MinusOne = (refl, refl)
 
-  with-quiet : (w : Waiting) (c : Code) (v : SequenceNumber) → Quiet (answered s w c v)
-  with-quiet Closed c v = refl
-  with-quiet Idle c v = refl
-  with-quiet Resynchronizing c v = resynchronizing-quiet c v
-  with-quiet Querying c v = querying-quiet c v
-  with-quiet Sending c v = sending-quiet c v
+  with-answers : (w : Waiting) (c : Code) (v : SequenceNumber) → Answered (answered s w c v)
+  with-answers Closed c v = (refl, refl)
+  with-answers Idle c v = (refl, refl)
+  with-answers Resynchronizing c v = resynchronizing-answers c v
+  with-answers Querying c v = querying-answers c v
+  with-answers Sending c v = sending-answers c v
 
-  answer-quiet : (c : CodeField) (n : NumberField) → Quiet (answerOf s c n)
-  answer-quiet (Known c) (Present v) = with-quiet (s .waiting) c v
-  answer-quiet (Known c) Missing = refl
-  answer-quiet (Known c) NotNumber = refl
-  answer-quiet Other n = refl
+  code-answers : (c : CodeField) (n : NumberField) → Answered (answerOf s c n)
+  code-answers (Known c) (Present v) = with-answers (s .waiting) c v
+  code-answers (Known c) Missing = (refl, refl)
+  code-answers (Known c) NotNumber = (refl, refl)
+  code-answers Other n = (refl, refl)
 
-  answered-quiet : (id : List ℕ) (c : CodeField) (n : NumberField) (m : NumberedMessage) → Quiet (answeredBy s id c n m)
-  answered-quiet id c n Nothing = refl
-  answered-quiet id c n (Numbered v) = cond-ind Quiet (same id (textOf v)) _ _ (λ z. answer-quiet c n) (λ z. refl)
+  field-answers : (id : List ℕ) (c : CodeField) (n : NumberField) (m : NumberedMessage) → Answered (answeredBy s id c n m)
+  field-answers id c n Nothing = (refl, refl)
+  field-answers id c n (Numbered v) = cond-ind Answered (same id (textOf v)) _ _ (λ z. code-answers c n) (λ z. (refl, refl))
 
   readable-quiet : (r t n : ℕ) (d : List ℕ) (c i e : Field) → eqb t (code "N") ≡ false → acknowledgmentOf d ≡ AnAnswer c i e → Quiet (blockReadOf r s (Accepted t n) d)
   unfolding blockReadOf
   readable-quiet r t n d c i e type is =
       cond-ind Quiet (validResends r) _ _
       (λ a. cond-ind Quiet (onCircuit s) _ _
-      (λ b. rw (type, is) (answered-quiet (bytesOf i d) (codeField (bytesOf c d)) (numberField greatestExpected (bytesOf e d)) (waitsOf s)))
+      (λ b. rw (type, is) (field-answers (bytesOf i d) (codeField (bytesOf c d)) (numberField greatestExpected (bytesOf e d)) (waitsOf s) .1))
       (λ b. refl))
       (λ a. refl)
 
@@ -234,3 +239,70 @@ module _ (r : ℕ) (s : Sender) (l : r ≤ 99) (v : validSender s ≡ true) (m :
   due-as-timer (timer k) h e = ap (λ (j : ℕ). timerOf j s .event) e
   due-as-timer (block k x d) h e = ap (λ (j : ℕ). blockReadOf j s x d .event) e ∙ block-due x d h
   due-as-timer (submit limit d) h e = not-both (sym h)
+
+-- a resend that falls due and is not given up sends what waits again; where nothing waits, nothing is sent
+module _ (s : Sender) where
+  abbrev SendsAgain : Acted → Type 0
+  SendsAgain a = a .refusal ≡ 0 → isAbandoned (a .event) ≡ false → a .send ≡ waitsOf s
+
+  resend-again : (r : ℕ) (m : NumberedMessage) → isAbandoned (resendOf r s m .event) ≡ false → resendOf r s m .send ≡ m
+  resend-again r Nothing e = refl
+  resend-again r (Numbered v) e =
+      cond-ind (λ (a : Acted). isAbandoned (a .event) ≡ false → a .send ≡ Numbered v) (ltb (s .sends) (r + 1)) _ _ (λ z n. refl) (λ z n. not-both n) e
+
+  open-again : (r : ℕ) (a : Acted) → SendsAgain a → SendsAgain (whenOpen r s a)
+  open-again r a h =
+      cond-ind SendsAgain (validResends r) _ _ (λ z. cond-ind SendsAgain (onCircuit s) _ _ (λ y. h) (λ y q e. absurd (omega (arith, q)))) (λ z q e. absurd (omega (arith, q)))
+
+  data-again : (r : ℕ) (d : List ℕ) (k : Acknowledgment) → unreadable k ≡ true → SendsAgain (dataBlock r s d k)
+  data-again r d NoAnswer u = λ q e. resend-again r (waitsOf s) e
+  data-again r d (AnAnswer c i n) u = not-both (sym u)
+
+  block-again : (r : ℕ) (v : Verdict) (d : List ℕ) → dueBlock v d ≡ true → SendsAgain (blockIn r s v d)
+  block-again r (Refused k i) d h = λ q e. resend-again r (waitsOf s) e
+  block-again r (Accepted t n) d h = go (eqb t (code "N")) h
+    where
+      go : (b : Bool) → cond b true (unreadable (acknowledgmentOf d)) ≡ true → SendsAgain (cond b (resendOf r s (waitsOf s)) (dataBlock r s d (acknowledgmentOf d)))
+      go true h = λ q e. resend-again r (waitsOf s) e
+      go false h = data-again r d (acknowledgmentOf d) h
+
+  pub due-sends : (a : Act) → fallsDue a ≡ true → SendsAgain (actOf a s)
+  unfolding timerOf blockReadOf
+  due-sends opened h = not-both (sym h)
+  due-sends ended h = not-both (sym h)
+  due-sends reset h = not-both (sym h)
+  due-sends (timer r) h = open-again r (resendOf r s (waitsOf s)) (λ q e. resend-again r (waitsOf s) e)
+  due-sends (block r v d) h = open-again r (blockIn r s v d) (block-again r v d h)
+  due-sends (submit limit d) h = not-both (sym h)
+
+-- ---- where an act applies it is not refused
+module _ (s : Sender) (v : validSender s ≡ true) where
+  pub open-taken : s .waiting ≡ Closed → s .persisted .frozen ≡ false → openOf s .refusal ≡ 0
+  unfolding openOf
+  open-taken c u = rw (v, c, u)
+
+  module _ (o : isOpen (s .waiting) ≡ true) where
+    pub ended-taken : endedOf s .refusal ≡ 0
+    unfolding endedOf
+    ended-taken = rw (v, o)
+
+    resend-taken : (r : ℕ) (m : NumberedMessage) → resendOf r s m .refusal ≡ 0
+    resend-taken r Nothing = refl
+    resend-taken r (Numbered x) = cond-ind (λ (a : Acted). a .refusal ≡ 0) (ltb (s .sends) (r + 1)) _ _ (λ z. refl) (λ z. refl)
+
+    pub timer-taken : (r : ℕ) → r ≤ 99 → timerOf r s .refusal ≡ 0
+    unfolding timerOf
+    timer-taken r l = ap (λ (a : Acted). a .refusal) (when-open-is r s (resendOf r s (waitsOf s)) l v o) ∙ resend-taken r (waitsOf s)
+
+    data-taken : (r : ℕ) (d : List ℕ) (k : Acknowledgment) → dataBlock r s d k .refusal ≡ 0
+    data-taken r d NoAnswer = resend-taken r (waitsOf s)
+    data-taken r d (AnAnswer c i e) = field-answers s (bytesOf i d) (codeField (bytesOf c d)) (numberField greatestExpected (bytesOf e d)) (waitsOf s) .0
+
+    in-taken : (r : ℕ) (x : Verdict) (d : List ℕ) → blockIn r s x d .refusal ≡ 0
+    in-taken r (Refused k i) d = resend-taken r (waitsOf s)
+    in-taken r (Accepted t n) d =
+        cond-ind (λ (a : Acted). a .refusal ≡ 0) (eqb t (code "N")) _ _ (λ z. resend-taken r (waitsOf s)) (λ z. data-taken r d (acknowledgmentOf d))
+
+    pub block-taken : (r : ℕ) → r ≤ 99 → (x : Verdict) (d : List ℕ) → blockReadOf r s x d .refusal ≡ 0
+    unfolding blockReadOf
+    block-taken r l x d = ap (λ (a : Acted). a .refusal) (when-open-is r s (blockIn r s x d) l v o) ∙ in-taken r x d

@@ -52,6 +52,8 @@ pub record Safe (l : Link) (y : System) : Type 0 where
   pub covers-persisted : Covers l (y .sending .sender .persisted .delivered) persisted
   pub persisted-covers : Covers l (y .sending .persisted .delivered) volatile
   pub persisted-covers-persisted : Covers l (y .sending .persisted .delivered) persisted
+  -- none that was not submitted: by what the sender has persisted
+  pub submitted : l .first + volatile ≤ y .sending .persisted .last + 1
   -- "The sender never freezes."
   pub unfrozen : y .sending .sender .persisted .frozen ≡ false
   pub persisted-unfrozen : y .sending .persisted .frozen ≡ false
