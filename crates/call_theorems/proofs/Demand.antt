@@ -51,16 +51,16 @@ use Rattle.link.proofs.Delivery.{answer-moves}
 use Rattle.link.proofs.Facts.{not-both}
 use Rattle.link.proofs.Runs.{run-join}
 use Rattle.call_theorems.specs.Driver.{Passed, madeFrom, Named, SenderMemory, ReceiverMemory, Drivers, drivers, enoughToRead, enoughToSend, enoughToReceive, waitsWords, reportOf, DriverAct, afterDriver, drivenBy, DriversLeft, driversStart}
-use Rattle.call_theorems.specs.Driver.{opens, ends, resets, timer, submits, stores, restores, receiverStores, receiverRestores, replies, sends, reads, takes, drops, receiverReads, receiverDrops}
+use Rattle.call_theorems.specs.Driver.{opens, ends, resets, timer, submits, stores, restores, receiverStores, receiverRestores, replies, sends, forgets, reads, takes, drops, receiverReads, receiverDrops}
 use Rattle.call_theorems.specs.Driver.{receives, replaces, receiverReplaces, tries, crashes, receiverCrashes, damagesForward, damagesBack}
 use Rattle.call_theorems.specs.Verdicts.{readerGives}
 use Rattle.call_theorems.specs.Reading.{Shown, shown}
 use Rattle.call_theorems.specs.DriversRun.{actsOf, linkRun}
-use Rattle.call_theorems.specs.DriversPromise.{Agrees, allGiven, DriversSafe, deliveredWord, lastWord, waitsWord, SenderCall, submitting, calledBy, actBy, Offered, abandonedWord, sendWordsOf, applies, messageNamed, sendsShown, Tells}
+use Rattle.call_theorems.specs.DriversPromise.{Agrees, allGiven, DriversSafe, deliveredWord, lastWord, waitsWord, SenderCall, submitting, calledBy, actBy, Offered, abandonedWord, sendWordsOf, applies, messageNamed, sendsShown, Reported}
 use Rattle.call_theorems.proofs.Shows.{SameVerdict, Behind, Shows, waits-is, over-behind}
 use Rattle.call_theorems.proofs.Driving.{Goes, by-act, fresh-enough, opens-goes, ends-goes, resets-goes, timer-goes, submits-goes, stores-goes, restores-goes}
-use Rattle.call_theorems.proofs.Telling.{Words, sends-shown, call-told, call-showed, call-number, waiting-back, call-taken, due-resends}
-use Rattle.call_theorems.proofs.SenderDriving.{each-one, named-goes-out, sends-goes, reads-goes, takes-goes, drops-goes, replaces-goes, crashes-goes}
+use Rattle.call_theorems.proofs.Reporting.{Words, sends-shown, call-words, call-showed, call-number, waiting-back, call-taken, due-resends}
+use Rattle.call_theorems.proofs.SenderDriving.{each-one, named-goes-out, sends-goes, forgets-goes, reads-goes, takes-goes, drops-goes, replaces-goes, crashes-goes}
 use Rattle.call_theorems.proofs.ReceiverDriving.{receiver-reads-goes, block-taken, receives-goes, tries-goes, receiver-replaces-goes, receiver-drops-goes, receiver-stores-goes, receiver-restores-goes, receiver-crashes-goes, replies-goes}
 
 -- a verdict with the number 0 and the type D is that of an accepted data block
@@ -155,6 +155,7 @@ module _ (k : Passed) (ag : Agrees k) (rd : Ready (k .link)) where
   act-goes receiverRestores x y i h = receiver-restores-goes k ag rd x y i h
   act-goes replies x y i h = replies-goes k ag rd x y i h
   act-goes (sends start) x y i h = sends-goes k ag rd x y i h start
+  act-goes (forgets n) x y i h = forgets-goes k ag rd x y i h n
   act-goes (reads n) x y i h = reads-goes k ag rd x y i h n
   act-goes (takes n) x y i h = takes-goes k ag rd x y i h n
   act-goes (drops n) x y i h = drops-goes k ag rd x y i h n
@@ -324,7 +325,7 @@ module _ (k : Passed) (ag : Agrees k) (rd : Ready (k .link)) where
         a = actOf (actBy k q) s
 
         words : Words a c
-        words = call-told k rd (drivenBy k begun ds) (linkEnd ds) sender-valid (calls-run ds) q o done
+        words = call-words k rd (drivenBy k begun ds) (linkEnd ds) sender-valid (calls-run ds) q o done
 
         after-is : sendsShown (waitsWords (c .state)) (reportOf c ∷ x .sender .reports) ≡ countedOf (waitsOf (a .sender)) (reported a ∷ h)
         after-is =
@@ -339,8 +340,8 @@ module _ (k : Passed) (ag : Agrees k) (rd : Ready (k .link)) where
             go (inl y) = inl (words .waits ∙ ap sendWords (z ∙ sym y) ∙ sym (words .send))
             go (inr y) = inr (inr (words .waits ∙ ap sendWords (z ∙ sym y) ∙ sym (waits-is s st (calls-run ds .sender .state))))
 
-        pub calls-tell : Tells k (x .sender) q c
-        calls-tell =
+        pub calls-report : Reported k (x .sender) q c
+        calls-report =
             let t = words in
             record {
               sends =

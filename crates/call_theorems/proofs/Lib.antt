@@ -7,7 +7,7 @@ pub mod Acting
 pub mod Taking
 pub mod Driving
 pub mod Writing
-pub mod Telling
+pub mod Reporting
 pub mod SenderDriving
 pub mod ReceiverDriving
 pub mod Demand

@@ -1,13 +1,13 @@
 -- One call of gmv_*_read: what its words say of the answer. From any words whatever it uses at most the part, and a verdict takes at least one byte.
 use mathlib.Core.Path.{_≡_, refl, sym, ap, _∙_}
 use mathlib.Core.List.{List, _++_}
-use mathlib.Core.Bool.{true, false, _&&_, true≢false}
+use mathlib.Core.Bool.{Bool, true, false, cond, _&&_, true≢false}
 use Prim.Native.Nat.{ℕ, zero, suc, _≤_, _<_}
 use native.Mathlib.Omega.{arith}
 use lib.ListN.{length, drop, length-append, length-drop}
 use lib.Seq.{drop-append-seam}
-use lib.Dec.{eqb, leb}
-use borrow.Author.Tests.{le-leb, leb-true, eqb-true}
+use lib.Dec.{eqb, leb, ltb}
+use borrow.Author.Tests.{le-leb, leb-true, ltb-true, eqb-true}
 use Rattle.lists.specs.Bytes.{over}
 use Rattle.lists.specs.Outcome.{Called, called}
 use Rattle.lists.proofs.Tests.{and-left, and-right, cond-ind}
@@ -32,7 +32,7 @@ use Rattle.block_calls.specs.ReadCalls.{readAnswered, readFinished, readDecoded
 use Rattle.block_calls.specs.declared.Decoded.{Decoded}
 use Rattle.block_calls.specs.declared.Decoded.the-variants.{Unknown, Known}
 use Rattle.block_calls.proofs.ReadLaws.{read-enough}
-use Rattle.call_theorems.specs.Reading.{shown, foundBlock, usedBytes, shownBy, Driven, partCalls}
+use Rattle.call_theorems.specs.Reading.{shown, foundBlock, usedBytes, shownBy, newVerdict, Driven, driven, followedBy, partCalls}
 use Rattle.call_theorems.proofs.Verdicts.{answerGives, read-gives}
 
 -- ---- words written over others
@@ -172,15 +172,40 @@ call-uses (Valid g) c xs =
     (λ f. refused-uses xs _ _ _ 2 refl))
     (λ v. refused-uses xs _ _ _ 1 refl)
 
+-- a driver goes on after a call only where it used at least one byte
+abbrev callOn : Made → Called → List ℕ → Called
+callOn s c xs = readCall s (c .state) xs (c .buffer) (c .report)
+
+goes-less : (s : Made) (c : Called) (xs : List ℕ) → (eqb (callOn s c xs .number) 0 && ltb (usedBytes (callOn s c xs)) (length xs)) ≡ true → usedBytes (callOn s c xs) < length xs
+goes-less s c xs z = ltb-true (usedBytes (callOn s c xs)) (length xs) (and-right (eqb (callOn s c xs .number) 0) (ltb (usedBytes (callOn s c xs)) (length xs)) z)
+
+goes-on : (s : Made) (c : Called) (xs : List ℕ) → (eqb (callOn s c xs .number) 0 && ltb (usedBytes (callOn s c xs)) (length xs)) ≡ true → 1 ≤ usedBytes (callOn s c xs)
+goes-on s c xs z = go (foundBlock (callOn s c xs)) refl
+  where
+    e : callOn s c xs .number ≡ 0
+    e = eqb-true (callOn s c xs .number) 0 (and-left (eqb (callOn s c xs .number) 0) _ z)
+
+    go : (b : Bool) → foundBlock (callOn s c xs) ≡ b → 1 ≤ usedBytes (callOn s c xs)
+    go true f = call-uses s c xs .some f
+    go false f = let k = call-uses s c xs .all e f in let l = goes-less s c xs z in absurd (omega arith)
+
 -- so the loop over a part ends: with more calls allowed than bytes, it is not the allowed number that stops it
-pub part-ends : (s : Made) (n : ℕ) (c : Called) (xs : List ℕ) → length xs < n → foundBlock (partCalls s n c xs .last) ≡ false
+pub part-ends : (s : Made) (n : ℕ) (c : Called) (xs : List ℕ) → length xs < n → partCalls s (suc n) c xs ≡ partCalls s n c xs
 unfolding partCalls
 part-ends s zero c xs h = absurd (omega arith)
 part-ends s (suc n) c xs h =
-    let d = readCall s (c .state) xs (c .buffer) (c .report) in
-    let u = call-uses s c xs in
-    cond-ind (λ (t : Driven). foundBlock (t .last) ≡ false) (foundBlock d) _ _
-    (λ e. let l : 1 ≤ usedBytes d = u .some e in
-    let m : usedBytes d ≤ length xs = u .most (eqb-true (d .number) 0 (and-left (eqb (d .number) 0) _ e)) in
-    part-ends s n d (drop (usedBytes d) xs) (simp length-drop (omega arith)))
-    (λ e. e)
+    go (eqb (callOn s c xs .number) 0 && ltb (usedBytes (callOn s c xs)) (length xs)) refl (λ k. part-ends s n (callOn s c xs) (drop (usedBytes (callOn s c xs)) xs) k)
+  where
+    step : ℕ → Bool → Driven
+    step m z = cond z (followedBy (newVerdict (callOn s c xs)) (partCalls s m (callOn s c xs) (drop (usedBytes (callOn s c xs)) xs))) (driven (newVerdict (callOn s c xs)) (callOn s c xs))
+
+    go : (z : Bool) → (eqb (callOn s c xs .number) 0 && ltb (usedBytes (callOn s c xs)) (length xs)) ≡ z
+        → (length (drop (usedBytes (callOn s c xs)) xs) < n → partCalls s (suc n) (callOn s c xs) (drop (usedBytes (callOn s c xs)) xs) ≡ partCalls s n (callOn s c xs) (drop (usedBytes (callOn s c xs)) xs))
+        → step (suc n) (eqb (callOn s c xs .number) 0 && ltb (usedBytes (callOn s c xs)) (length xs)) ≡ step n (eqb (callOn s c xs .number) 0 && ltb (usedBytes (callOn s c xs)) (length xs))
+    go false z ih = ap (step (suc n)) z ∙ sym (ap (step n) z)
+    go true z ih =
+        let m = goes-on s c xs z in
+        let k = goes-less s c xs z in
+        ap (step (suc n)) z
+        ∙ ap (followedBy (newVerdict (callOn s c xs))) (ih (simp length-drop (omega arith)))
+        ∙ sym (ap (step n) z)

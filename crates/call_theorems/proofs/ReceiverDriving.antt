@@ -41,9 +41,9 @@ use Rattle.link.proofs.Queues.{Each, each-none, Front, front, each-front}
 use Rattle.link.proofs.ReceiverInvariant.{some, receive-some, receive-taken}
 use Rattle.link.proofs.Early.{Standing}
 use Rattle.call_theorems.specs.Verdicts.{passedOn}
-use Rattle.call_theorems.specs.Reading.{Shown, usedBytes}
+use Rattle.call_theorems.specs.Reading.{Shown, usedBytes, newVerdict}
 use Rattle.call_theorems.specs.Driver.{Passed, madeFrom, ReceiverMemory, Drivers, drivers, receiverEnd, receiverMemory, withVerdict, enoughToRead, enoughToReceive, freshReader, afterReading, readerPast, linePast}
-use Rattle.call_theorems.specs.Driver.{readBytes, newVerdict, withTransaction, replyBy, receivedBy, requestTaken, triedBy, requestTried, replySent, afterDriver, receiverReads, receives, receiverReplaces, tries, receiverDrops, receiverStores, replies}
+use Rattle.call_theorems.specs.Driver.{readBytes, withTransaction, replyBy, receivedBy, requestTaken, triedBy, requestTried, replySent, afterDriver, receiverReads, receives, receiverReplaces, tries, receiverDrops, receiverStores, replies}
 use Rattle.call_theorems.specs.Driver.{receiverRestores as restoresReceiver, receiverCrashes}
 use Rattle.call_theorems.specs.DriversRun.{repeated, once, allStored, offers, actsOf}
 use Rattle.call_theorems.specs.DriversPromise.{Agrees}

@@ -25,16 +25,16 @@ use Rattle.link.specs.SenderHistory.{crashed}
 use Rattle.link.specs.Duties.{every, oneAt, othersAt}
 use Rattle.link.specs.Line.{Reader, Line, line, emptyLine, readsByte, readerAfter}
 use Rattle.link.specs.System.{Link, System, SendingEnd, ReceivingEnd, SystemAct, sending, link, requestOf, sameFlag, samePersisted, requestWritten, answerTaken, senderActed}
-use Rattle.link.specs.System.{senderWrites, senderActs, senderDiscards, senderCrashes, senderReads, afterAct, runOf}
+use Rattle.link.specs.System.{senderWrites, senderForgets, senderActs, senderDiscards, senderCrashes, senderReads, afterAct, runOf}
 use Rattle.link.specs.Promise.{Ready}
 use Rattle.link.proofs.Queues.{All, all-head, all-right, Each, each-none, each-more, Front, front, each-front}
 use Rattle.link.proofs.Messages.{Nameable, request-writable}
 use Rattle.link.proofs.RequestsRead.{all-nameable}
 use Rattle.link.proofs.Early.{Standing}
 use Rattle.link.proofs.Runs.{run-join}
-use Rattle.call_theorems.specs.Reading.{Shown, shown, usedBytes}
+use Rattle.call_theorems.specs.Reading.{Shown, shown, usedBytes, newVerdict}
 use Rattle.call_theorems.specs.Driver.{Passed, madeFrom, Named, SenderMemory, Drivers, drivers, senderEnd, senderMemory, withVerdict, restarted, enoughToRead, enoughToSend, readerPast, linePast, afterReading, freshReader}
-use Rattle.call_theorems.specs.Driver.{readBytes, newVerdict, blockOfNamed, oldestSent, verdictTaken, bySender, afterDriver, sends, reads, takes, drops, replaces, crashes}
+use Rattle.call_theorems.specs.Driver.{readBytes, blockOfNamed, oldestSent, verdictTaken, bySender, afterDriver, sends, forgets, reads, takes, drops, replaces, crashes}
 use Rattle.call_theorems.specs.DriversRun.{repeated, once, goesOut, actsOf}
 use Rattle.call_theorems.specs.DriversPromise.{Agrees, messageNamed}
 use Rattle.call_theorems.proofs.Shows.{SameSend, SameVerdict, Shows, other-verdict}
@@ -189,6 +189,24 @@ module _ (k : Passed) (ag : Agrees k) (rd : Ready (k .link)) (x : Drivers) (y : 
       go : (ns : List Named) → Each SameSend ns (y .sending .named) → Goes l (once (goesOut k start x ns) (senderWrites 0)) (oldestSent k start x ns) y
       go [] e = stays l x y h
       go (n ∷ ns) e = named n ns (each-front e)
+
+  pub forgets-goes : (n : ℕ) → Goes l (senderForgets n ∷ []) (afterDriver k (forgets n) x) y
+  forgets-goes n =
+      by-act l (afterDriver k (forgets n) x) y (senderForgets n)
+      (record {
+        sender = record {
+          state = h .sender .state;
+          report = h .sender .report;
+          stored = h .sender .stored;
+          named = each-others n (h .sender .named);
+          arrived = h .sender .arrived;
+          reports = h .sender .reports;
+          reader = h .sender .reader;
+        };
+        receiver = h .receiver;
+        forward = h .forward;
+        back = h .back;
+      })
 
   -- ---- reading
   module _ (u : ℕ) where

@@ -1,18 +1,19 @@
 -- The driver's calls against those of a caller of the library: the same verdicts, buffer and state, as words.
-use mathlib.Core.Path.{_≡_, refl, sym, ap, _∙_}
+use mathlib.Core.Path.{_≡_, refl, sym, ap, _∙_, subst}
 use mathlib.Core.List.{List, [], _∷_, _++_, map}
-use mathlib.Core.Bool.{true, cond}
-use Prim.Native.Nat.{ℕ, zero, suc, _+_, _≤_}
+use mathlib.Core.Bool.{Bool, true, false, cond, _&&_}
+use lib.Dec.{eqb, ltb}
+use Prim.Native.Nat.{ℕ, zero, suc, _+_, _-_, _≤_}
 use native.Mathlib.Omega.{arith}
 use lib.ListN.{length, take, drop, length-append, length-drop}
-use borrow.Author.Tests.{eq-eqb}
+use borrow.Author.Tests.{eq-eqb, le-leb, le-ltb, ltb-false}
 use Rattle.lists.specs.Bytes.{greatestWord, over}
 use Rattle.lists.specs.Outcome.{Called}
-use Rattle.settings.specs.Settings.{valid}
+use Rattle.settings.specs.Settings.{valid, capacityOf}
 use Rattle.settings.specs.declared.Settings.{Settings}
 use Rattle.settings.specs.declared.Made.the-variants.{Valid}
 use Rattle.stream.specs.Stream.{Judged, Mode, judged, after}
-use Rattle.stream.specs.Scan.{readOf}
+use Rattle.stream.specs.Scan.{fold, readOf}
 use Rattle.stream.specs.declared.Reader.{Reader}
 use Rattle.stream.specs.declared.Answer.{Answer}
 use Rattle.stream.specs.declared.Answer.the-variants.{Pending, Found}
@@ -23,7 +24,7 @@ use Rattle.block_calls.specs.ReaderWords.{readerWords, decoded}
 use Rattle.block_calls.specs.ReadCalls.{readAnswered, readFinished}
 use Rattle.block_calls.specs.declared.Decoded.the-variants.{Known}
 use Rattle.block_calls.proofs.ReadBack.{words-back, words-same}
-use Rattle.call_theorems.specs.Reading.{Shown, shown, foundBlock, usedBytes, shownBy, Driven, driven, followedBy, partCalls, partsCalls}
+use Rattle.call_theorems.specs.Reading.{Shown, shown, foundBlock, usedBytes, shownBy, newVerdict, Driven, driven, followedBy, partCalls, partsCalls}
 use Rattle.call_theorems.proofs.OneCall.{over-length, over-again, Leaves, pending-leaves, pending-none, found-leaves, found-one, found-shows, call-is}
 
 -- the memory that the driver lends encodes the reader r
@@ -88,30 +89,66 @@ module _ (g : Settings) (c : Called) where
   leaves-matches : (l : List Judged) (r : Reader) (b : List ℕ) (n : ℕ) (d : Called) → Leaves c r b n d → Matches g c (served l r b) (driven (map (shown g) l) d)
   leaves-matches l r b n d f = record { says = refl; done = f .done; state = f .state; buffer = f .buffer; words = f .words; beyond = f .beyond }
 
+-- a part without bytes brings nothing
+serve-empty : (g : Settings) → valid g ≡ true → (n : ℕ) (r : Reader) (b : List ℕ) → capacityOf g ≤ length b → serve g n r b [] ≡ served [] r b
+unfolding serve readOf fold
+serve-empty g v zero r b h = refl
+serve-empty g v (suc n) r b h = rw (v, le-leb (capacityOf g) (length b) h, le-leb 0 (greatestWord - r .position) (omega arith))
+
+drop-all : (n : ℕ) (xs : List ℕ) → length xs ≤ n → drop n xs ≡ []
+drop-all n [] h = go n
+  where
+    go : (n : ℕ) → drop {A = ℕ} n [] ≡ []
+    go zero = refl
+    go (suc n) = refl
+drop-all zero (x ∷ xs) h = absurd (omega arith)
+drop-all (suc n) (x ∷ xs) h = drop-all n xs (omega arith)
+
 -- ---- one part
-module _ (g : Settings) (n : ℕ) (xs : List ℕ) (c : Called) (r q : Reader) (b : List ℕ) (i : ℕ) (h : Encodes r c) where
+module _ (g : Settings) (n : ℕ) (xs : List ℕ) (c : Called) (r q : Reader) (b : List ℕ) (i : ℕ) (h : Encodes r c) (quiet : length xs ≤ i → serve g n q b (drop i xs) ≡ served [] q b) where
   -- what the driver does after the call d
   abbrev following : Called → Driven
-  following d = cond (foundBlock d) (followedBy (shownBy d ∷ []) (partCalls (Valid g) n d (drop (usedBytes d) xs))) (driven [] d)
+  following d = cond (eqb (d .number) 0 && ltb (usedBytes d) (length xs)) (followedBy (newVerdict d) (partCalls (Valid g) n d (drop (usedBytes d) xs))) (driven (newVerdict d) d)
 
   abbrev answered : Answer → Called
   answered a = readAnswered g (c .state) (c .report) q b i a
 
-  after-verdict : (d : Called) (w : Judged) (t : Served) → Leaves c q b i d → foundBlock d ≡ true → shownBy d ≡ shown g w
-      → Matches g d t (partCalls (Valid g) n d (drop i xs))
-      → Matches g c (andThen (w ∷ []) t) (following d)
-  after-verdict d w t l f e s =
-      rw (f, e, l .used)
-      (then-matches g c r (served (w ∷ []) q b) t (driven (shown g w ∷ []) d) (partCalls (Valid g) n d (drop i xs)) h (leaves-matches g c (w ∷ []) q b i d l) s)
+  abbrev later : Called → Driven
+  later d = followedBy (newVerdict d) (partCalls (Valid g) n d (drop (usedBytes d) xs))
+
+  -- whether the driver calls again
+  goes : (d : Called) (z : Bool) → Leaves c q b i d → ltb i (length xs) ≡ z → following d ≡ cond z (later d) (driven (newVerdict d) d)
+  goes d z l e =
+      ap (λ (t : Bool). cond t (later d) (driven (newVerdict d) d))
+      (ap (λ (k : ℕ). eqb k 0 && ltb (usedBytes d) (length xs)) (l .done) ∙ ap (λ (k : ℕ). ltb k (length xs)) (l .used) ∙ e)
+
+  after-verdict : (d : Called) (w : Judged) → Leaves c q b i d → foundBlock d ≡ true → shownBy d ≡ shown g w
+      → Matches g d (serve g n q b (drop i xs)) (partCalls (Valid g) n d (drop i xs))
+      → Matches g c (andThen (w ∷ []) (serve g n q b (drop i xs))) (following d)
+  after-verdict d w l f e s = go (ltb i (length xs)) refl
+    where
+      shows : newVerdict d ≡ shown g w ∷ []
+      shows = ap (λ (t : Bool). cond t (shownBy d ∷ []) []) f ∙ ap (λ (t : Shown). t ∷ []) e
+
+      go : (z : Bool) → ltb i (length xs) ≡ z → Matches g c (andThen (w ∷ []) (serve g n q b (drop i xs))) (following d)
+      go true z =
+          subst (Matches g c (andThen (w ∷ []) (serve g n q b (drop i xs)))) (sym (goes d true l z))
+          (rw (shows, l .used)
+          (then-matches g c r (served (w ∷ []) q b) (serve g n q b (drop i xs)) (driven (shown g w ∷ []) d) (partCalls (Valid g) n d (drop i xs)) h (leaves-matches g c (w ∷ []) q b i d l) s))
+      go false z =
+          subst (Matches g c (andThen (w ∷ []) (serve g n q b (drop i xs)))) (sym (goes d false l z))
+          (rw (shows, quiet (ltb-false i (length xs) z)) (leaves-matches g c (w ∷ []) q b i d l))
 
   after-call : (a : Answer) → Ends i (length xs) a
       → ((d : Called) → Leaves c q b i d → 1 ≤ i → Matches g d (serve g n q b (drop i xs)) (partCalls (Valid g) n d (drop i xs)))
       → Matches g c (andThen (spoken g a b) (goOn a (serve g n q b (drop i xs)) (served [] q b))) (following (answered a))
   after-call Pending (at-end e) ih =
-      rw (pending-none g c (h .verdict-words) q b i) (leaves-matches g c [] q b i (answered Pending) (pending-leaves g c (h .verdict-words) q b i))
+      let l = pending-leaves g c (h .verdict-words) q b i in
+      subst (Matches g c (served [] q b)) (sym (goes (answered Pending) false l (le-ltb i (length xs) (omega arith))))
+      (rw (pending-none g c (h .verdict-words) q b i) (leaves-matches g c [] q b i (answered Pending) l))
   after-call (Found s v) (at-verdict p) ih =
       let l = found-leaves g c (h .verdict-words) q b i s v in
-      after-verdict (answered (Found s v)) (judged g s v b) (serve g n q b (drop i xs)) l (found-one g c (h .verdict-words) q b i s v) (found-shows g c (h .verdict-words) q b i s v)
+      after-verdict (answered (Found s v)) (judged g s v b) l (found-one g c (h .verdict-words) q b i s v) (found-shows g c (h .verdict-words) q b i s v)
       (ih (answered (Found s v)) l p)
 
 leaves-encodes : (g : Settings) (c d : Called) (r q : Reader) (b : List ℕ) (i : ℕ) → Encodes r c → Leaves c q b i d → Encodes q d
@@ -131,7 +168,7 @@ part-matches g v (suc n) xs k m r b c l e h f =
     call-is g c xs r (f .state-words) (f .verdict-words) (f .reader)
     ∙ ap (λ (z : List ℕ). readFinished g (c .state) (c .report) (readOf g r xs z)) e in
     rw is
-    (after-call g n xs c r (o .answer .reader) (o .buffer) u f (o .answer .answer) (w .ends)
+    (after-call g n xs c r (o .answer .reader) (o .buffer) u f (λ z. ap (serve g n (o .answer .reader) (o .buffer)) (drop-all u xs z) ∙ serve-empty g v n (o .answer .reader) (o .buffer) (w .stands .enough)) (o .answer .answer) (w .ends)
     (λ d s p. part-matches g v n (drop u xs) (k + u) (after g k m (take u xs)) (o .answer .reader) (o .buffer) d (simp length-drop (omega arith)) (s .buffer) (w .stands)
     (leaves-encodes g c d r (o .answer .reader) (o .buffer) u f s)))
 

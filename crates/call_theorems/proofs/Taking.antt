@@ -29,8 +29,8 @@ use Rattle.block_calls.proofs.ReadBack.{words-back}
 use Rattle.link.specs.Line.{Reader, Line, line, readerAfter}
 use Rattle.link.proofs.Facts.{not-both}
 use Rattle.link.proofs.Queues.{Each, each-none, each-more}
-use Rattle.call_theorems.specs.Reading.{shown, usedBytes, shownBy}
-use Rattle.call_theorems.specs.Driver.{ReaderMemory, afterReading, newVerdict, readerPast, linePast}
+use Rattle.call_theorems.specs.Reading.{shown, usedBytes, shownBy, newVerdict}
+use Rattle.call_theorems.specs.Driver.{ReaderMemory, afterReading, readerPast, linePast}
 use Rattle.call_theorems.proofs.Verdicts.{reader-gives}
 use Rattle.call_theorems.proofs.OneCall.{over-length, Leaves, pending-leaves, pending-none, found-leaves, found-one, found-shows, call-is}
 use Rattle.call_theorems.proofs.Shows.{SameVerdict, StandsOn}

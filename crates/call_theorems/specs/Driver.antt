@@ -1,5 +1,5 @@
 -- include/giamuvich.h: two drivers that run a link by the C functions and keep their duties. All that they have is words and bytes: what they lend to a call, what they
--- store and restore, what a report told them, and a verdict handed on as its number, its type and its data.
+-- store and restore, what a report showed them, and a verdict handed on as its number, its type and its data.
 use mathlib.Core.List.{List, [], _∷_, _++_, map}
 use mathlib.Core.Bool.{Bool, cond, not, _&&_}
 use Prim.Native.Nat.{ℕ, _+_}
@@ -21,7 +21,7 @@ use Rattle.link.specs.Duties.{oneAt, othersAt}
 use Rattle.link.specs.Line.{Reader, Line, line, newReader, emptyLine, readerAfter, damages, disorders}
 use Rattle.link.specs.System.{Link}
 use Rattle.stream.specs.Stream.{Judged}
-use Rattle.call_theorems.specs.Reading.{Shown, shown, foundBlock, usedBytes, shownBy}
+use Rattle.call_theorems.specs.Reading.{Shown, shown, usedBytes, newVerdict}
 
 -- ---- what is passed
 -- the numbers of the block settings: SB, EB and D of the gmv_hybrid_ functions, D of the gmv_minimal_ ones
@@ -160,9 +160,6 @@ afterReading c = readerMemory (c .state) (c .buffer) (c .report)
 
 abbrev pub withVerdict : List ℕ → ReaderMemory → ReaderMemory
 withVerdict v m = readerMemory (m .state) (m .buffer) v
-
-abbrev pub newVerdict : Called → List Shown
-newVerdict c = cond (foundBlock c) (shownBy c ∷ []) []
 
 unfoldable pub readerPast : Settings → Reader → List ℕ → Reader
 readerPast g r [] = r
@@ -310,8 +307,8 @@ pub data DriverAct : Type 0 where
   ends resets timer : DriverAct
   submits : ℕ → List ℕ → DriverAct
   stores restores receiverStores receiverRestores replies : DriverAct
-  -- at an offset of the buffer for blocks; at most so many bytes; which verdict
-  sends reads takes drops : ℕ → DriverAct
+  -- at an offset of the buffer for blocks; which message named; at most so many bytes; which verdict
+  sends forgets reads takes drops : ℕ → DriverAct
   receiverReads receiverDrops : ℕ → DriverAct
   -- the application's verdict, and the reply's offset
   receives : ℕ → ℕ → DriverAct
@@ -345,6 +342,10 @@ afterDriver k restores x =
     drivers (senderEnd (senderMemory (restoredWords e (m .state)) (m .report) (m .reader) (m .block) (m .written)) (e .stored) [] (e .arrived) (restarted ∷ e .reports)) (x .receiver)
     (x .forward) (x .back)
 afterDriver k (sends start) x = oldestSent k start x (x .sender .named)
+-- one that was named and not written is dropped, for a newer one
+afterDriver k (forgets n) x =
+    let e = x .sender in
+    drivers (senderEnd (e .memory) (e .stored) (othersAt n (e .named)) (e .arrived) (e .reports)) (x .receiver) (x .forward) (x .back)
 afterDriver k (reads n) x = answerRead k x (readBytes (k .numbers) n (x .sender .memory .reader) (x .back))
 afterDriver k (takes n) x = verdictTaken k x (oneAt n (x .sender .arrived)) (othersAt n (x .sender .arrived))
 afterDriver k (drops n) x =
@@ -364,7 +365,7 @@ afterDriver k receiverStores x =
     let e = x .receiver in
     drivers (x .sender) (receiverEnd (e .memory) (e .has) (take 1 (e .memory .state)) (e .has) (e .pending) (e .arrived)) (x .forward) (x .back)
 afterDriver k replies x = replySent x (x .receiver .pending)
--- storing failed: on the same circuit, and no reply that was owed goes out
+-- storing failed: on the same circuit, and no reply that was pending goes out
 afterDriver k receiverRestores x =
     let e = x .receiver in
     let m = x .receiver .memory in

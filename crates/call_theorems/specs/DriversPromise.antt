@@ -1,4 +1,4 @@
--- Demand 3 of what two drivers have: of the words and bytes that they hold and have stored, and of what the sender's calls tell.
+-- Demand 3 of what two drivers have: of the words and bytes that they hold and have stored, and of what the sender's calls report.
 use mathlib.Core.Path.{_≡_}
 use mathlib.Core.List.{List, [], _∷_}
 use mathlib.Core.Bool.{Bool, true, false, cond, not, _&&_}
@@ -139,7 +139,7 @@ sendsShown m rs = cond (eqb (getD m 0 0) 0) 0 (countedWords m rs)
 
 -- what a call shows that was done, in words: the sends of what waits then, or of what was just given up; that it gave up, exactly when; what is sent again;
 -- and that what waits after it is named by it, or waited before
-pub record Tells (k : Passed) (e : SenderEnd) (q : SenderCall) (c : Called) : Type 0 where
+pub record Reported (k : Passed) (e : SenderEnd) (q : SenderCall) (c : Called) : Type 0 where
   pub sends : sendsWord c ≡ cond (abandonedWord c) (sendsShown (waitsWords (e .memory .state)) (e .reports)) (sendsShown (waitsWords (c .state)) (reportOf c ∷ e .reports))
   pub abandons : abandonedWord c ≡ (fallsDue (actBy k q) && eqb (sendsShown (waitsWords (e .memory .state)) (e .reports)) (k .link .resends + 1))
   pub resends : fallsDue (actBy k q) ≡ true → abandonedWord c ≡ false → sendWordsOf c ≡ waitsWords (e .memory .state)

@@ -9,12 +9,12 @@ use Rattle.lists.specs.Outcome.{Called}
 use Rattle.receiver_calls.specs.ReceiverCalls.{applicationFrom}
 use Rattle.receiver_calls.specs.declared.ApplicationMade.{ApplicationMade}
 use Rattle.receiver_calls.specs.declared.ApplicationMade.the-variants.{Unknown, Known}
-use Rattle.link.specs.System.{SystemAct, opens as linkOpens, ends as linkEnds, resets as linkResets, timer as linkTimer, submits as linkSubmits, senderPersists, senderWrites, senderReads}
+use Rattle.link.specs.System.{SystemAct, opens as linkOpens, ends as linkEnds, resets as linkResets, timer as linkTimer, submits as linkSubmits, senderPersists, senderWrites, senderForgets, senderReads}
 use Rattle.link.specs.System.{senderActs, senderDiscards, senderRestores, senderCrashes, receiverReads as linkReceiverReads, receiverActs, receiverDiscards, receiverPersists, receiverWrites}
 use Rattle.link.specs.System.{receiverRestores as linkReceiverRestores, receiverCrashes as linkReceiverCrashes, damagesForward as linkDamagesForward, damagesBack as linkDamagesBack}
 use Rattle.call_theorems.specs.Reading.{usedBytes}
 use Rattle.call_theorems.specs.Driver.{Passed, Named, Drivers, DriverAct, readBytes, blockOfNamed, enoughToRead, enoughToSend, enoughToReceive, drivenBy}
-use Rattle.call_theorems.specs.Driver.{opens, ends, resets, timer, submits, stores, restores, receiverStores, receiverRestores, replies, sends, reads, takes, drops, receiverReads, receiverDrops}
+use Rattle.call_theorems.specs.Driver.{opens, ends, resets, timer, submits, stores, restores, receiverStores, receiverRestores, replies, sends, forgets, reads, takes, drops, receiverReads, receiverDrops}
 use Rattle.call_theorems.specs.Driver.{receives, replaces, receiverReplaces, tries, crashes, receiverCrashes, damagesForward, damagesBack}
 
 unfoldable pub repeated : ℕ → SystemAct → List SystemAct
@@ -50,6 +50,7 @@ actsOf k (submits limit d) x = linkSubmits limit d ∷ []
 actsOf k stores x = senderPersists ∷ []
 actsOf k restores x = senderRestores ∷ []
 actsOf k (sends start) x = once (goesOut k start x (x .sender .named)) (senderWrites 0)
+actsOf k (forgets n) x = senderForgets n ∷ []
 actsOf k (reads n) x = readings (readBytes (k .numbers) n (x .sender .memory .reader) (x .back)) senderReads
 actsOf k (takes n) x = senderActs n ∷ []
 actsOf k (drops n) x = senderDiscards n ∷ []

@@ -4,7 +4,7 @@ use mathlib.Core.List.{List, [], _∷_, _++_}
 use mathlib.Core.Bool.{Bool, cond, _&&_}
 use Prim.Native.Nat.{ℕ, zero, suc}
 use lib.ListN.{length, take, drop, getD}
-use lib.Dec.{eqb}
+use lib.Dec.{eqb, ltb}
 use Rattle.lists.specs.Outcome.{Called, called}
 use Rattle.settings.specs.Settings.{dataOffsetOf, hybridOf, minimalOf}
 use Rattle.settings.specs.declared.Settings.{Settings}
@@ -72,12 +72,16 @@ driven l c = record { says = l; last = c }
 abbrev pub followedBy : List Shown → Driven → Driven
 followedBy l u = driven (l ++ u .says) (u .last)
 
--- one part, in at most as many calls as the number says: after a verdict "call again with the rest of the part"
+-- the verdict that a call showed
+abbrev pub newVerdict : Called → List Shown
+newVerdict d = cond (foundBlock d) (shownBy d ∷ []) []
+
+-- one part, in at most as many calls as the number says: "Where verdict[GMV_VERDICT_USED] is less than part_length, .. call again with the rest of the part"
 unfoldable pub partCalls : Made → ℕ → Called → List ℕ → Driven
 partCalls s zero c xs = driven [] c
 partCalls s (suc n) c xs =
     let d = readCall s (c .state) xs (c .buffer) (c .report) in
-    cond (foundBlock d) (followedBy (shownBy d ∷ []) (partCalls s n d (drop (usedBytes d) xs))) (driven [] d)
+    cond (eqb (d .number) 0 && ltb (usedBytes d) (length xs)) (followedBy (newVerdict d) (partCalls s n d (drop (usedBytes d) xs))) (driven (newVerdict d) d)
 
 -- one part after another, until a call is refused
 unfoldable pub partsCalls : Made → Called → List (List ℕ) → Driven

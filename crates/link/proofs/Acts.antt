@@ -30,18 +30,18 @@ use Rattle.link.specs.SenderActs.{Act, opened, ended, reset, timer, subm
 use Rattle.link.specs.Line.{Line, line, Arrival, arrival, acceptedOf, arriving, damages, disorders}
 use Rattle.link.specs.System.{Link, System, Stored, startOf, sending, receiving, link, requestOf, senderActed, newCircuit, circuitOpened, sameFlag}
 use Rattle.link.specs.System.{samePersisted, requestWritten, senderRead, answerTaken, requestTaken, receiverRead, sameExpected, sameStored, replyWritten, afterAct}
-use Rattle.link.specs.System.{senderPersists, senderRestores, senderCrashes, senderDiscards, receiverPersists, receiverRestores, receiverCrashes, receiverDiscards}
+use Rattle.link.specs.System.{senderPersists, senderForgets, senderRestores, senderCrashes, senderDiscards, receiverPersists, receiverRestores, receiverCrashes, receiverDiscards}
 use Rattle.link.specs.System.{damagesForward, damagesBack}
 use Rattle.link.specs.Promise.{Ready, transactions}
-use Rattle.link.proofs.Queues.{All, none, all-head, all-right, sub-none, sub-among, nobody, good-none, Each, each-none, each-end, each-front, each-sub, each-among}
+use Rattle.link.proofs.Queues.{All, none, all-head, all-right, sub-none, sub-behind, sub-others, sub-among, nobody, good-none, Each, each-none, each-end, each-front, each-sub, each-among}
 use Rattle.link.proofs.Queues.{Front, front, Some, some, Others, others, Answer, side}
-use Rattle.link.proofs.Books.{forward-of, chain, books, Core, old, lose-forward, lose-back, persist-sender, persist-receiver, restore-receiver, restore-sender}
+use Rattle.link.proofs.Books.{forward-of, chain, books, Core, old, lose-forward, forget-named, lose-back, persist-sender, persist-receiver, restore-receiver, restore-sender}
 use Rattle.link.proofs.Moves.{write, reply}
 use Rattle.link.proofs.Naming.{quiet, open-first, open-later}
 use Rattle.link.proofs.Sending.{After, submits as submits-after, ended as ended-after, reset as reset-after}
 use Rattle.link.proofs.Messages.{IsRequest, IsReply, IsBlock, Nameable, request-writable, request-is}
 use Rattle.link.proofs.AnswersRead.{timer-runs}
-use Rattle.link.proofs.Arrivals.{others-sub, read-same, lost-line, sub-line, among-line, some-sub, each-of}
+use Rattle.link.proofs.Arrivals.{others-sub, read-same, lost-line, among-line, some-sub, each-of}
 use Rattle.link.proofs.Invariant.{ends-of, Reach, transit, booksOf, requestsTo, answersTo, Inv, sender-acts, answer-one}
 use Rattle.link.proofs.RequestsRead.{all-nameable, request-one}
 use Rattle.link.proofs.Bytes.{arriving-block}
@@ -203,6 +203,10 @@ module _ (l : Link) (rd : Ready l) where
           pending = i .pending;
         }
 
+    pub sender-forgets-keeps : (n : ℕ) → Inv l (afterAct every l (senderForgets n) y)
+    sender-forgets-keeps n =
+        record { way = i .way; core = forget-named (i .core) (sub-others n (y .sending .named)); ends = i .ends; forward = i .forward; back = i .back; pending = i .pending }
+
     pub receiver-restores-keeps : Inv l (afterAct every l receiverRestores y)
     receiver-restores-keeps =
         record {
@@ -284,7 +288,7 @@ module _ (l : Link) (rd : Ready l) where
         let new = line (y .forward .reader) b in
         let ws = acceptedOf (y .receiving .arrived) in
         cond-ind (Inv l) (damages (l .settings) (y .forward) b) _ _
-        (λ z. less-forward (y .receiving .arrived) new (each-sub (sub-line ws (some-sub (arriving (l .settings) new) (arriving (l .settings) (y .forward)) z)) (i .forward))) (λ z. i)
+        (λ z. less-forward (y .receiving .arrived) new (each-sub (sub-behind ws (some-sub (arriving (l .settings) new) (arriving (l .settings) (y .forward)) z)) (i .forward))) (λ z. i)
 
     pub damages-back-keeps : (b : List ℕ) → Inv l (afterAct every l (damagesBack b) y)
     damages-back-keeps b =

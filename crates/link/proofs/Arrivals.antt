@@ -72,10 +72,6 @@ lost-line [] rs = sub-none rs
 lost-line (x ∷ xs) rs = keep (lost-line xs rs)
 
 -- the line has other bytes
-pub sub-line : (xs : List Arrival) {rs us : List Arrival} → Sub us rs → Sub (xs ++ us) (xs ++ rs)
-sub-line [] s = s
-sub-line (x ∷ xs) s = keep (sub-line xs s)
-
 pub among-line : (xs : List Arrival) {rs us : List Arrival} → Among us rs → Among (xs ++ us) (xs ++ rs)
 among-line [] a = a
 among-line (x ∷ xs) a = one here (among-more (among-line xs a))

@@ -12,7 +12,7 @@ use Rattle.sender.specs.declared.Persisted.{Persisted}
 use Rattle.sender.specs.declared.Waiting.{Waiting}
 use Rattle.sender.specs.declared.Waiting.the-variants.{Closed, Idle, Resynchronizing, Querying, Sending}
 use Rattle.link.proofs.Facts.{not-both, either}
-use Rattle.link.proofs.Queues.{All, none, Sub, sub-none, all-sub, Among, nobody, all-among, all-map, all-append, all-left, all-right, all-end, IsMinusOne, IsZero, Bounded, bounded-more}
+use Rattle.link.proofs.Queues.{All, none, Sub, sub-none, sub-nothing, sub-behind, all-sub, Among, nobody, all-among, all-map, all-append, all-left, all-right, all-end, IsMinusOne, IsZero, Bounded, bounded-more}
 use Rattle.link.proofs.Queues.{Good, good-lower, good-front, good-sub, Answer, refuses, Side, Given, given-more, NamesExpected}
 
 -- the link as messages: the sender's numbers as held and as persisted, what waits, and what is named and not yet written; the receiver as held and as persisted;
@@ -167,6 +167,23 @@ module _ {f : ℕ} {b : Books} (c : Core f b) where
       (c .back) (c .pending)
       (waits-with (withLines b ys (b .back))
       (λ t. queried-of (t .synchronized) (all-append (all-sub s (all-left xs (b .named) (t .zeros))) (all-right xs (b .named) (t .zeros))) (t .names) (t .names-stored)))
+
+  -- a message that was named and not written is dropped
+  pub forget-named : {ms : List SequenceNumber} → Sub ms (b .named) → Core f (withSender b (b .held) (b .waiting) ms)
+  forget-named {ms} s =
+      let g = c .forward in
+      let xs = b .forward in
+      lines-with (b .waiting) ms xs (b .back) (b .pending)
+      (forward-of (subst (Good f (b .volatile .next)) (append-nil (xs ++ ms)) (good-sub f [] has-least (sub-behind xs s) (subst (Good f (b .volatile .next)) (sym (append-nil (xs ++ b .named))) (g .good))))
+      (g .line) (all-sub s (g .named)) (g .start) (g .start-line))
+      (c .back) (c .pending) (go (b .waiting) (c .waits))
+    where
+      go : (w : Waiting) → Waits (b .held .resynchronized) (b .named) (Queried b) w → Waits (b .held .resynchronized) ms (Queried (withSender b (b .held) (b .waiting) ms)) w
+      go Closed t = sub-nothing s t
+      go Idle t = t
+      go Resynchronizing t = record { unsynchronized = t .unsynchronized; minus-ones = all-sub s (t .minus-ones) }
+      go Querying t = queried-of (t .synchronized) (all-append (all-left (b .forward) (b .named) (t .zeros)) (all-sub s (all-right (b .forward) (b .named) (t .zeros)))) (t .names) (t .names-stored)
+      go Sending t = t
 
   -- answers in any order, and repeatedly
   pub lose-back : {ys : List Answer} → Among ys (b .back) → Core f (withLines b (b .forward) ys)

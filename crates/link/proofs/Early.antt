@@ -33,7 +33,7 @@ use Rattle.link.specs.SenderActs.{afterCrash}
 use Rattle.link.specs.Duties.{every, oneAt, othersAt}
 use Rattle.link.specs.Line.{Line, line, newReader, emptyLine, acceptedOf, damages, disorders}
 use Rattle.link.specs.System.{Link, System, Remains, beginning, stored, sending, receiving, link, senderActed, circuitOpened, requestWritten, senderRead, answerTaken}
-use Rattle.link.specs.System.{receivedEnd, receiverRead, requestTaken, sameStored, replyWritten, SystemAct, opens, ends, resets, timer, submits, senderPersists, senderWrites, senderReads}
+use Rattle.link.specs.System.{receivedEnd, receiverRead, requestTaken, sameStored, replyWritten, SystemAct, opens, ends, resets, timer, submits, senderPersists, senderWrites, senderForgets, senderReads}
 use Rattle.link.specs.System.{senderActs, senderDiscards, senderRestores, senderCrashes, receiverReads, receiverActs, receiverDiscards, receiverPersists, receiverWrites, receiverRestores}
 use Rattle.link.specs.System.{receiverCrashes, damagesForward, damagesBack, persistsNumber, persistsTransactions, revertsTo, senderRevertsTo, bringsLate, bringsLateRequest, afterAct}
 use Rattle.link.specs.Promise.{Ready, OnlyAnswers}
@@ -43,7 +43,7 @@ use Rattle.link.proofs.Books.{Waits, Queried, books, Core, queried-of, 
 use Rattle.link.proofs.Naming.{quiet}
 use Rattle.link.proofs.Invariant.{Transit, transit, booksOf, Ends, Inv, sender-acts}
 use Rattle.link.proofs.RequestsRead.{request-one}
-use Rattle.link.proofs.Acts.{start, opens-keeps, resets-keeps, submits-keeps, sender-persists-keeps, sender-restores-keeps, sender-crashes-keeps, receiver-reads-keeps}
+use Rattle.link.proofs.Acts.{start, opens-keeps, resets-keeps, submits-keeps, sender-persists-keeps, sender-forgets-keeps, sender-restores-keeps, sender-crashes-keeps, receiver-reads-keeps}
 use Rattle.link.proofs.Acts.{receiver-discards-keeps, receiver-persists-keeps, receiver-restores-keeps, receiver-crashes-keeps, damages-forward-keeps}
 
 -- all else equal, without the answers: those on the line back, those read and not yet acted on, and those not yet sent
@@ -237,6 +237,7 @@ module _ (l : Link) (rd : Ready l) where
     early-acts receiverRestores = inl (early (afterAct every l receiverRestores y) (i .closed) (receiver-restores-keeps l rd (withoutAnswers y) (i .rest)))
     early-acts receiverCrashes = inl (early (afterAct every l receiverCrashes y) (i .closed) (receiver-crashes-keeps l rd (withoutAnswers y) (i .rest)))
     early-acts (senderWrites n) = inl (written-early (y .sending .named) refl)
+    early-acts (senderForgets n) = inl (early (afterAct every l (senderForgets n) y) (i .closed) (sender-forgets-keeps l rd (withoutAnswers y) (i .rest) n))
     early-acts (senderActs n) = inl (answer-early (oneAt n (y .sending .arrived)) (othersAt n (y .sending .arrived)))
     early-acts (senderDiscards n) = inl (early (afterAct every l (senderDiscards n) y) (i .closed) (i .rest))
     early-acts (receiverDiscards n) = inl (early (afterAct every l (receiverDiscards n) y) (i .closed) (receiver-discards-keeps l rd (withoutAnswers y) (i .rest) n))

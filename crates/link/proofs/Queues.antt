@@ -1,10 +1,11 @@
 -- What stands in the queues of a link: requests that can be read in order, and answers that the receiver gave.
-use mathlib.Core.Path.{_≡_, refl, sym, subst}
+use mathlib.Core.Path.{_≡_, refl, sym, ap, subst}
 use mathlib.Core.List.{List, [], _∷_, _++_}
 use mathlib.Core.Bool.{Bool, false}
 use mathlib.Core.Logic.{_⊎_}
-use Prim.Native.Nat.{ℕ, _+_, _≤_}
+use Prim.Native.Nat.{ℕ, zero, suc, _+_, _≤_}
 use native.Mathlib.Omega.{arith}
+use lib.ListN.{length}
 use Rattle.numbers.specs.declared.SequenceNumber.{SequenceNumber}
 use Rattle.numbers.specs.declared.SequenceNumber.the-variants.{MinusOne, Number}
 use Rattle.header.specs.declared.Code.{Code}
@@ -12,6 +13,7 @@ use Rattle.header.specs.declared.Code.the-variants.{AA, AE, AR}
 use Rattle.receiver.specs.Receiver.{expectedNumber}
 use Rattle.receiver.specs.declared.Expected.{Expected}
 use Rattle.sender.specs.declared.Persisted.{Persisted}
+use Rattle.link.specs.Duties.{othersAt}
 
 -- ---- every one, and some of them in their order
 pub data All {A : Type 0} (P : A → Type 0) : List A → Type 0 where
@@ -30,6 +32,21 @@ sub-all (x ∷ xs) = keep (sub-all xs)
 pub sub-none : {A : Type 0} (l : List A) → Sub [] l
 sub-none [] = empty
 sub-none (x ∷ l) = skip (sub-none l)
+
+pub sub-nothing : {A : Type 0} {xs ys : List A} → Sub xs ys → ys ≡ [] → xs ≡ []
+sub-nothing empty e = refl
+sub-nothing (skip {ys = ys} s) e = let z : _≡_ {A = ℕ} (suc (length ys)) 0 = ap length e in absurd (omega arith)
+sub-nothing (keep {ys = ys} s) e = let z : _≡_ {A = ℕ} (suc (length ys)) 0 = ap length e in absurd (omega arith)
+
+pub sub-behind : {A : Type 0} (xs : List A) {ys zs : List A} → Sub ys zs → Sub (xs ++ ys) (xs ++ zs)
+sub-behind [] s = s
+sub-behind (x ∷ xs) s = keep (sub-behind xs s)
+
+pub sub-others : {A : Type 0} (n : ℕ) (xs : List A) → Sub (othersAt n xs) xs
+unfolding othersAt
+sub-others n [] = empty
+sub-others zero (x ∷ xs) = skip (sub-all xs)
+sub-others (suc n) (x ∷ xs) = keep (sub-others n xs)
 
 pub all-sub : {A : Type 0} {P : A → Type 0} {xs ys : List A} → Sub xs ys → All P ys → All P xs
 all-sub empty none = none

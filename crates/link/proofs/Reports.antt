@@ -33,7 +33,7 @@ use Rattle.link.proofs.SenderDue.{only-due, due-as-timer, timer-abandon
 use Rattle.link.specs.Duties.{every, oneAt, othersAt}
 use Rattle.link.specs.Line.{damages, disorders}
 use Rattle.link.specs.System.{Link, System, SendingEnd, Remains, beginning, samePersisted, requestWritten, sameStored, replyWritten, senderRead, answerTaken, receiverRead, requestTaken}
-use Rattle.link.specs.System.{SystemAct, opens, ends, resets, submits, timer as timerRuns, senderPersists, senderWrites, senderReads, senderActs, senderDiscards, senderRestores, senderCrashes}
+use Rattle.link.specs.System.{SystemAct, opens, ends, resets, submits, timer as timerRuns, senderPersists, senderWrites, senderForgets, senderReads, senderActs, senderDiscards, senderRestores, senderCrashes}
 use Rattle.link.specs.System.{receiverReads, receiverActs, receiverDiscards, receiverPersists, receiverWrites, receiverRestores, receiverCrashes, damagesForward, damagesBack}
 use Rattle.link.specs.System.{persistsNumber, persistsTransactions, revertsTo, senderRevertsTo, bringsLate, bringsLateRequest, afterAct, runOf}
 use Rattle.link.specs.Promise.{Ready, OnlyAnswers}
@@ -93,6 +93,7 @@ module _ (l : Link) (P : Sender → Persisted → List Entry → Type 0)
     at-after receiverRestores = now
     at-after receiverCrashes = now
     at-after (senderWrites n) = written (oneAt 0 (y .sending .named)) (othersAt 0 (y .sending .named))
+    at-after (senderForgets n) = now
     at-after (senderActs n) = answer-taken (oneAt n (y .sending .arrived)) (othersAt n (y .sending .arrived))
     at-after (senderDiscards n) = now
     at-after (receiverDiscards n) = now

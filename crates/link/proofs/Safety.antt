@@ -1,19 +1,24 @@
 -- Demand 3: at every moment of every run, where the hosts keep their duties.
-use mathlib.Core.Path.{_≡_, refl}
-use mathlib.Core.List.{List, [], _∷_}
-use mathlib.Core.Bool.{true}
+use mathlib.Core.Path.{_≡_, refl, sym, ap, _∙_, subst}
+use mathlib.Core.List.{List, [], _∷_, _++_}
+use mathlib.Core.Bool.{Bool, true, cond}
 use mathlib.Core.Logic.{_⊎_, inl, inr}
 use native.Mathlib.Omega.{arith}
+use borrow.Author.Tests.{eq-eqb}
 use Rattle.receiver.specs.Receiver.{validExpected}
 use Rattle.receiver.specs.declared.Expected.{Expected}
+use Rattle.sender.specs.Sender.{freshSender, openOf}
 use Rattle.link.specs.Duties.{Duty, every, oneAt}
-use Rattle.link.specs.System.{Link, System, Remains, beginning, startOf, nothingLeft, SystemAct, opens, ends, resets, timer, submits, senderPersists, senderWrites, senderReads, senderActs, senderDiscards, senderRestores}
+use Rattle.link.specs.System.{Link, System, Remains, beginning, startOf, nothingLeft, newCircuit, senderActed, SystemAct, opens, ends, resets, timer, submits, senderPersists, senderWrites, senderForgets, senderReads, senderActs, senderDiscards, senderRestores}
 use Rattle.link.specs.System.{senderCrashes, receiverReads, receiverActs, receiverDiscards, receiverPersists, receiverWrites, receiverRestores, receiverCrashes}
 use Rattle.link.specs.System.{damagesForward, damagesBack, persistsNumber, persistsTransactions, revertsTo, senderRevertsTo, bringsLate, bringsLateRequest, afterAct, runOf}
 use Rattle.link.specs.Promise.{Ready, Safe, OnlyAnswers, Needed}
+use Rattle.link.proofs.SenderInvariant.{fresh-valid}
+use Rattle.link.proofs.SenderDue.{open-taken}
+use Rattle.link.proofs.Runs.{run-join}
 use Rattle.link.proofs.Invariant.{Inv}
 use Rattle.link.proofs.Early.{Early, early-start, early-acts, Standing, stands}
-use Rattle.link.proofs.Acts.{start, opens-keeps, ends-keeps, resets-keeps, timer-keeps, submits-keeps, sender-persists-keeps, sender-writes-keeps, sender-reads-keeps, sender-acts-keeps}
+use Rattle.link.proofs.Acts.{start, opens-keeps, ends-keeps, resets-keeps, timer-keeps, submits-keeps, sender-persists-keeps, sender-writes-keeps, sender-forgets-keeps, sender-reads-keeps, sender-acts-keeps}
 use Rattle.link.proofs.Acts.{sender-discards-keeps, sender-restores-keeps, sender-crashes-keeps, receiver-reads-keeps, receiver-acts-keeps, receiver-discards-keeps}
 use Rattle.link.proofs.Acts.{receiver-persists-keeps, receiver-writes-keeps, receiver-restores-keeps, receiver-crashes-keeps, damages-forward-keeps, damages-back-keeps}
 
@@ -37,6 +42,7 @@ module _ (l : Link) (rd : Ready l) where
   act-keeps receiverRestores y i = receiver-restores-keeps l rd y i
   act-keeps receiverCrashes y i = receiver-crashes-keeps l rd y i
   act-keeps (senderWrites n) y i = sender-writes-keeps l rd y i (y .sending .named) refl
+  act-keeps (senderForgets n) y i = sender-forgets-keeps l rd y i n
   act-keeps (senderActs n) y i = sender-acts-keeps l rd y i n (oneAt n (y .sending .arrived)) refl
   act-keeps (senderDiscards n) y i = sender-discards-keeps l rd y i n
   act-keeps (receiverDiscards n) y i = receiver-discards-keeps l rd y i n
@@ -98,3 +104,16 @@ module _ (l : Link) (rd : Ready l) where
   -- what a duty that is needed breaks, it breaks alone: with every duty kept, the statement holds of the same acts from the same beginning
   pub kept : (d : Duty) (n : Needed l d) → Safe l (runOf every l (beginning every l (n .expected) (n .remains)) (n .acts))
   kept d n = safety-from (n .remains) (n .only-answers) (n .expected) (n .valid) (n .acts)
+
+  -- Where a circuit is opened before anything else, whatever is left of an earlier tenancy, requests too: it drops all of it
+  opened-same : (e : Expected) (m : Remains) → afterAct every l opens (beginning every l e m) ≡ afterAct every l opens (startOf l e)
+  opened-same e m =
+      let a = openOf (freshSender (l .first)) in
+      let done = eq-eqb (a .refusal) 0 (open-taken (freshSender (l .first)) (fresh-valid (l .first) (rd .first-least) (rd .first-most)) refl refl) in
+      ap (λ (b : Bool). cond b (newCircuit every (beginning every l e m) a) (senderActed (beginning every l e m) (m .answers) a)) done
+      ∙ sym (ap (λ (b : Bool). cond b (newCircuit every (startOf l e) a) (senderActed (startOf l e) [] a)) done)
+
+  pub safety-opened : (m : Remains) (e : Expected) → validExpected e ≡ true → (ds : List SystemAct) → Safe l (runOf every l (afterAct every l opens (beginning every l e m)) ds)
+  unfolding runOf
+  safety-opened m e v ds =
+      subst (λ (y : System). Safe l (runOf every l y ds)) (sym (opened-same e m)) (subst (Safe l) (run-join l (startOf l e) (opens ∷ []) ds) (safety e v (ds ++ opens ∷ [])))

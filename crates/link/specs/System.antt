@@ -243,7 +243,7 @@ pub data SystemAct : Type 0 where
   senderPersists senderReads senderRestores senderCrashes : SystemAct
   receiverReads receiverPersists receiverWrites receiverRestores receiverCrashes : SystemAct
   -- which of those named, or of the verdicts read; answers may be taken in any order
-  senderWrites senderActs senderDiscards receiverDiscards : ℕ → SystemAct
+  senderWrites senderForgets senderActs senderDiscards receiverDiscards : ℕ → SystemAct
   receiverActs : ℕ → Application → ℕ → List ℕ → SystemAct
   damagesForward damagesBack : List ℕ → SystemAct
   -- what only a host that neglects a duty does
@@ -264,6 +264,10 @@ afterAct h l senderPersists y =
 afterAct h l (senderWrites n) y =
     let k = indexTaken (h writesInOrder) n in
     requestWritten h l y (oneAt k (y .sending .named)) (othersAt k (y .sending .named))
+-- a message named is dropped, as one that was lost
+afterAct h l (senderForgets n) y =
+    let e = y .sending in
+    link (sending (e .sender) (e .persisted) (othersAt n (e .named)) (e .arrived) (e .history)) (y .receiving) (y .forward) (y .back)
 afterAct h l senderReads y = senderRead l y (y .back .bytes)
 afterAct h l (senderActs n) y = answerTaken l y (oneAt n (y .sending .arrived)) (othersAt n (y .sending .arrived))
 afterAct h l (senderDiscards n) y =

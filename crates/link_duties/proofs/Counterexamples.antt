@@ -57,11 +57,11 @@ reads = times 64 receiverReads
 unfoldable pub decides : SystemAct
 decides = receiverActs 0 Accepts 0 (blank 143)
 
-unfoldable pub hears : List SystemAct
-hears = times 64 senderReads ++ senderActs 0 ∷ []
+unfoldable pub answered : List SystemAct
+answered = times 64 senderReads ++ senderActs 0 ∷ []
 
 unfoldable pub exchanged : List SystemAct
-exchanged = sends ++ (reads ++ decides ∷ receiverPersists ∷ receiverWrites ∷ hears)
+exchanged = sends ++ (reads ++ decides ∷ receiverPersists ∷ receiverWrites ∷ answered)
 
 unfoldable pub submitted : ℕ → SystemAct
 submitted n = submits 128 (exampleLog n)
@@ -98,16 +98,16 @@ case e m ds = record { expected = e; remains = m; acts = reversed ds [] }
 
 unfoldable pub caseOf : Kind → Duty → Case
 -- 0 is answered by the number that the earlier tenant left: taken for a delivery
-caseOf k exchanges = case (Next 2) nothingLeft (submitted 1 ∷ opens ∷ exchanged)
+caseOf k exchanges = case (Next 2) nothingLeft (submitted 1 ∷ opens ∷ (exchanged ++ senderPersists ∷ []))
 -- the night of slot 7: -1 and then 1 are lost, and the earlier tenant's answers to both come out
 caseOf k emptiesLines =
-    case Unknown (left (oldAnswer k MinusOne ++ oldAnswer k (Number 1))) (submitted 1 ∷ opens ∷ (loses ++ (hears ++ (loses ++ hears))))
+    case Unknown (left (oldAnswer k MinusOne ++ oldAnswer k (Number 1))) (submitted 1 ∷ opens ∷ (loses ++ (answered ++ (loses ++ (answered ++ senderPersists ∷ [])))))
 -- -1 is lost, and the earlier tenant's answer to it is still to be sent. The receiver, which expects 2, answers 1 by AR 2: taken for a delivery
-caseOf k dropsReplies = case (Next 2) (leftPending (oldAnswer k MinusOne)) (submitted 1 ∷ opens ∷ (loses ++ receiverWrites ∷ (hears ++ exchanged)))
+caseOf k dropsReplies = case (Next 2) (leftPending (oldAnswer k MinusOne)) (submitted 1 ∷ opens ∷ (loses ++ receiverWrites ∷ (answered ++ (exchanged ++ senderPersists ∷ []))))
 -- the same with one that was read and not yet acted on
-caseOf k dropsVerdicts = case (Next 2) (leftRead k (oldAnswer k MinusOne)) (submitted 1 ∷ opens ∷ (loses ++ senderActs 0 ∷ exchanged))
+caseOf k dropsVerdicts = case (Next 2) (leftRead k (oldAnswer k MinusOne)) (submitted 1 ∷ opens ∷ (loses ++ senderActs 0 ∷ (exchanged ++ senderPersists ∷ [])))
 -- 1 is lost, and an answer to the earlier tenant's 1 comes late
-caseOf k bringsNothingLate = case Unknown nothingLeft (begun ++ (loses ++ bringsLate (oldAnswer k (Number 1)) ∷ hears))
+caseOf k bringsNothingLate = case Unknown nothingLeft (begun ++ (loses ++ bringsLate (oldAnswer k (Number 1)) ∷ (answered ++ senderPersists ∷ [])))
 -- -1 was named twice, and the second is written behind 1: the receiver forgets, and stores 1 again
 caseOf k writesInOrder =
     case Unknown nothingLeft
@@ -115,12 +115,12 @@ caseOf k writesInOrder =
 -- the second -1 is read before 1 and offered behind it
 caseOf k offersInOrder =
     case Unknown nothingLeft
-    (submitted 1 ∷ opens ∷ timer ∷ (sends ++ (sends ++ (reads ++ (reads ++ decides ∷ receiverPersists ∷ receiverWrites ∷ (hears ++ (sends ++ (reads
+    (submitted 1 ∷ opens ∷ timer ∷ (sends ++ (sends ++ (reads ++ (reads ++ decides ∷ receiverPersists ∷ receiverWrites ∷ (answered ++ (sends ++ (reads
     ++ receiverActs 1 Accepts 0 (blank 143) ∷ decides ∷ timer ∷ (sends ++ (reads ++ decides ∷ []))))))))))
 -- 2 goes out while the delivery of 1 is not persisted
 caseOf k senderPersistsFirst = case Unknown nothingLeft (begun ++ (exchanged ++ senderWrites 0 ∷ (reads ++ decides ∷ [])))
 -- the answer to 1 goes out while 1 is not persisted
-caseOf k receiverPersistsFirst = case Unknown nothingLeft (begun ++ (sends ++ (reads ++ decides ∷ receiverWrites ∷ hears)))
+caseOf k receiverPersistsFirst = case Unknown nothingLeft (begun ++ (sends ++ (reads ++ decides ∷ receiverWrites ∷ answered)))
 -- 1 is persisted, a crash comes before its number is, and 1 is sent again
 caseOf k persistsAsOne =
     case Unknown nothingLeft (begun ++ (sends ++ (reads ++ decides ∷ persistsTransactions ∷ receiverCrashes ∷ timer ∷ (sends ++ (reads ++ decides ∷ [])))))
@@ -129,7 +129,7 @@ caseOf k decidesFromVolatile = case Unknown nothingLeft (begun ++ timer ∷ (sen
 -- 2 was named, a crash takes the delivery of 1 back, and 2 is written after it
 caseOf k dropsNamed = case Unknown nothingLeft (begun ++ (exchanged ++ senderCrashes ∷ senderWrites 0 ∷ (reads ++ decides ∷ [])))
 -- 1 could not be stored, and its answer goes out
-caseOf k dropsUnpersisted = case Unknown nothingLeft (begun ++ (sends ++ (reads ++ decides ∷ receiverRestores ∷ receiverWrites ∷ hears)))
+caseOf k dropsUnpersisted = case Unknown nothingLeft (begun ++ (sends ++ (reads ++ decides ∷ receiverRestores ∷ receiverWrites ∷ answered)))
 -- 1 was stored and answered, and the disk has the older state again
 caseOf k survives = case Unknown nothingLeft (begun ++ (exchanged ++ revertsTo (stored Unknown []) ∷ []))
 
@@ -146,11 +146,11 @@ seen y =
 
 -- 1 counts as delivered, and nothing is stored; or two are there, and none is stored as delivered
 abbrev pub ends : Duty → List ℕ
-ends exchanges = 0 ∷ 0 ∷ 1 ∷ 0 ∷ []
-ends emptiesLines = 0 ∷ 0 ∷ 1 ∷ 0 ∷ []
-ends dropsReplies = 0 ∷ 0 ∷ 1 ∷ 0 ∷ []
-ends dropsVerdicts = 0 ∷ 0 ∷ 1 ∷ 0 ∷ []
-ends bringsNothingLate = 0 ∷ 0 ∷ 1 ∷ 0 ∷ []
+ends exchanges = 0 ∷ 0 ∷ 1 ∷ 1 ∷ []
+ends emptiesLines = 0 ∷ 0 ∷ 1 ∷ 1 ∷ []
+ends dropsReplies = 0 ∷ 0 ∷ 1 ∷ 1 ∷ []
+ends dropsVerdicts = 0 ∷ 0 ∷ 1 ∷ 1 ∷ []
+ends bringsNothingLate = 0 ∷ 0 ∷ 1 ∷ 1 ∷ []
 ends writesInOrder = 2 ∷ 0 ∷ 0 ∷ 0 ∷ []
 ends offersInOrder = 2 ∷ 0 ∷ 0 ∷ 0 ∷ []
 ends senderPersistsFirst = 2 ∷ 1 ∷ 1 ∷ 0 ∷ []
@@ -170,11 +170,11 @@ All k =
     Ends k exchanges × Ends k emptiesLines × Ends k dropsReplies × Ends k dropsVerdicts × Ends k bringsNothingLate × Ends k writesInOrder × Ends k offersInOrder × Ends k senderPersistsFirst × Ends k receiverPersistsFirst × Ends k persistsAsOne × Ends k decidesFromVolatile × Ends k dropsNamed × Ends k dropsUnpersisted × Ends k survives
 
 computed-hybrid : All Hybrid
-unfolding times reversed sends reads decides hears exchanged submitted begun loses oldAnswer left leftPending leftRead case caseOf endOf fiveDigits threeDigits countField checksumOf hybridBody hybridBlock minimalBlock blockOf typeMatches headerOk checksumMatches judgeParts dataOf judgeHybrid judgeMinimal judge contentOf same put valid validLink endVerdict move run fieldStart fieldOf bytesOf numberField decimal begins readableHeader headerOf readableAnswer acknowledgmentOf codeField answerMessage controlMessage validExpected rowOf decisionOf receiveOf validSender submitOf openOf timerOf blockReadOf oneAt othersAt acceptedOf someOf runOf blank
+unfolding times reversed sends reads decides answered exchanged submitted begun loses oldAnswer left leftPending leftRead case caseOf endOf fiveDigits threeDigits countField checksumOf hybridBody hybridBlock minimalBlock blockOf typeMatches headerOk checksumMatches judgeParts dataOf judgeHybrid judgeMinimal judge contentOf same put valid validLink endVerdict move run fieldStart fieldOf bytesOf numberField decimal begins readableHeader headerOf readableAnswer acknowledgmentOf codeField answerMessage controlMessage validExpected rowOf decisionOf receiveOf validSender submitOf openOf timerOf blockReadOf oneAt othersAt acceptedOf someOf runOf blank
 computed-hybrid = (refl, refl, refl, refl, refl, refl, refl, refl, refl, refl, refl, refl, refl, refl)
 
 computed-minimal : All Minimal
-unfolding times reversed sends reads decides hears exchanged submitted begun loses oldAnswer left leftPending leftRead case caseOf endOf fiveDigits threeDigits countField checksumOf hybridBody hybridBlock minimalBlock blockOf typeMatches headerOk checksumMatches judgeParts dataOf judgeHybrid judgeMinimal judge contentOf same put valid validLink endVerdict move run fieldStart fieldOf bytesOf numberField decimal begins readableHeader headerOf readableAnswer acknowledgmentOf codeField answerMessage controlMessage validExpected rowOf decisionOf receiveOf validSender submitOf openOf timerOf blockReadOf oneAt othersAt acceptedOf someOf runOf blank
+unfolding times reversed sends reads decides answered exchanged submitted begun loses oldAnswer left leftPending leftRead case caseOf endOf fiveDigits threeDigits countField checksumOf hybridBody hybridBlock minimalBlock blockOf typeMatches headerOk checksumMatches judgeParts dataOf judgeHybrid judgeMinimal judge contentOf same put valid validLink endVerdict move run fieldStart fieldOf bytesOf numberField decimal begins readableHeader headerOf readableAnswer acknowledgmentOf codeField answerMessage controlMessage validExpected rowOf decisionOf receiveOf validSender submitOf openOf timerOf blockReadOf oneAt othersAt acceptedOf someOf runOf blank
 computed-minimal = (refl, refl, refl, refl, refl, refl, refl, refl, refl, refl, refl, refl, refl, refl)
 
 both : (k : Kind) → All k
@@ -199,8 +199,8 @@ computed k survives = both k .13
 
 -- ---- the night of slot 7, more closely
 -- acts from a beginning with these duties, this number expected and these answers on the line back
-unfoldable pub nightOf : Kind → (Duty → Bool) → Expected → List ℕ → List SystemAct → System
-nightOf k h e bs ds = runOf h (exampleLink k) (beginning h (exampleLink k) e (left bs)) (reversed ds [])
+unfoldable pub slotSevenOf : Kind → (Duty → Bool) → Expected → List ℕ → List SystemAct → System
+slotSevenOf k h e bs ds = runOf h (exampleLink k) (beginning h (exampleLink k) e (left bs)) (reversed ds [])
 
 abbrev pub withoutBoth : Duty → Bool
 withoutBoth d = everyBut exchanges d && everyBut emptiesLines d
@@ -210,32 +210,33 @@ answerTo k v n = blockOf (exampleLink k .settings) (code "D") (answerMessage (te
 
 -- the new answer to -1 is taken before an old one to 1, 1 is lost, and then the old one is taken
 unfoldable pub disordered : List SystemAct
-disordered = submitted 1 ∷ opens ∷ (sends ++ (reads ++ decides ∷ receiverPersists ∷ receiverWrites ∷ (times 128 senderReads ++ senderActs 1 ∷ (loses ++ senderActs 0 ∷ []))))
+disordered =
+    submitted 1 ∷ opens ∷ (sends ++ (reads ++ decides ∷ receiverPersists ∷ receiverWrites ∷ (times 128 senderReads ++ senderActs 1 ∷ (loses ++ senderActs 0 ∷ senderPersists ∷ []))))
 
 -- One old answer, to 1, is dropped where order is kept, since the opening message waits: 1 is delivered only when it is stored.
 -- Where answers come in another order, which the statement allows, it is enough.
 -- An old one to the opening message in front of it breaks the statement in order: to 0 too, where there is no exchange.
 -- And where the receiver expects 2, one old answer to -1 is enough.
-abbrev Night : Kind → Type 0
-Night k =
-    (seen (nightOf k (everyBut emptiesLines) Unknown (oldAnswer k (Number 1)) (submitted 1 ∷ opens ∷ (hears ++ exchanged))) ≡ 0 ∷ 0 ∷ 0 ∷ 0 ∷ [])
-    × (seen (nightOf k (everyBut emptiesLines) Unknown (oldAnswer k (Number 1)) (submitted 1 ∷ opens ∷ (hears ++ (exchanged ++ exchanged)))) ≡ 1 ∷ 1 ∷ 1 ∷ 0 ∷ [])
-    × (seen (nightOf k withoutBoth Unknown (oldAnswer k (Number 1)) (submitted 1 ∷ opens ∷ (hears ++ exchanged))) ≡ 0 ∷ 0 ∷ 0 ∷ 0 ∷ [])
-    × (seen (nightOf k withoutBoth Unknown (answerTo k (Number 0) MinusOne ++ oldAnswer k (Number 1)) (submitted 1 ∷ opens ∷ (loses ++ (hears ++ (loses ++ hears))))) ≡ 0 ∷ 0 ∷ 1 ∷ 0 ∷ [])
-    × (seen (nightOf k (everyBut emptiesLines) (Next 2) (oldAnswer k MinusOne) (submitted 1 ∷ opens ∷ (loses ++ (hears ++ exchanged)))) ≡ 0 ∷ 0 ∷ 1 ∷ 0 ∷ [])
-    × (seen (nightOf k (everyBut emptiesLines) Unknown (oldAnswer k (Number 1)) disordered) ≡ 0 ∷ 0 ∷ 1 ∷ 0 ∷ [])
+abbrev SlotSeven : Kind → Type 0
+SlotSeven k =
+    (seen (slotSevenOf k (everyBut emptiesLines) Unknown (oldAnswer k (Number 1)) (submitted 1 ∷ opens ∷ (answered ++ exchanged))) ≡ 0 ∷ 0 ∷ 0 ∷ 0 ∷ [])
+    × (seen (slotSevenOf k (everyBut emptiesLines) Unknown (oldAnswer k (Number 1)) (submitted 1 ∷ opens ∷ (answered ++ (exchanged ++ exchanged)))) ≡ 1 ∷ 1 ∷ 1 ∷ 0 ∷ [])
+    × (seen (slotSevenOf k withoutBoth Unknown (oldAnswer k (Number 1)) (submitted 1 ∷ opens ∷ (answered ++ exchanged))) ≡ 0 ∷ 0 ∷ 0 ∷ 0 ∷ [])
+    × (seen (slotSevenOf k withoutBoth Unknown (answerTo k (Number 0) MinusOne ++ oldAnswer k (Number 1)) (submitted 1 ∷ opens ∷ (loses ++ (answered ++ (loses ++ answered))))) ≡ 0 ∷ 0 ∷ 1 ∷ 0 ∷ [])
+    × (seen (slotSevenOf k (everyBut emptiesLines) (Next 2) (oldAnswer k MinusOne) (submitted 1 ∷ opens ∷ (loses ++ (answered ++ exchanged)))) ≡ 0 ∷ 0 ∷ 1 ∷ 0 ∷ [])
+    × (seen (slotSevenOf k (everyBut emptiesLines) Unknown (oldAnswer k (Number 1)) disordered) ≡ 0 ∷ 0 ∷ 1 ∷ 1 ∷ [])
 
-night-hybrid : Night Hybrid
-unfolding times reversed sends reads decides hears exchanged submitted begun loses oldAnswer left leftPending leftRead case caseOf endOf fiveDigits threeDigits countField checksumOf hybridBody hybridBlock minimalBlock blockOf typeMatches headerOk checksumMatches judgeParts dataOf judgeHybrid judgeMinimal judge contentOf same put valid validLink endVerdict move run fieldStart fieldOf bytesOf numberField decimal begins readableHeader headerOf readableAnswer acknowledgmentOf codeField answerMessage controlMessage validExpected rowOf decisionOf receiveOf validSender submitOf openOf timerOf blockReadOf oneAt othersAt acceptedOf someOf runOf blank nightOf answerTo disordered
-night-hybrid = (refl, refl, refl, refl, refl, refl)
+runs-hybrid : SlotSeven Hybrid
+unfolding times reversed sends reads decides answered exchanged submitted begun loses oldAnswer left leftPending leftRead case caseOf endOf fiveDigits threeDigits countField checksumOf hybridBody hybridBlock minimalBlock blockOf typeMatches headerOk checksumMatches judgeParts dataOf judgeHybrid judgeMinimal judge contentOf same put valid validLink endVerdict move run fieldStart fieldOf bytesOf numberField decimal begins readableHeader headerOf readableAnswer acknowledgmentOf codeField answerMessage controlMessage validExpected rowOf decisionOf receiveOf validSender submitOf openOf timerOf blockReadOf oneAt othersAt acceptedOf someOf runOf blank slotSevenOf answerTo disordered
+runs-hybrid = (refl, refl, refl, refl, refl, refl)
 
-night-minimal : Night Minimal
-unfolding times reversed sends reads decides hears exchanged submitted begun loses oldAnswer left leftPending leftRead case caseOf endOf fiveDigits threeDigits countField checksumOf hybridBody hybridBlock minimalBlock blockOf typeMatches headerOk checksumMatches judgeParts dataOf judgeHybrid judgeMinimal judge contentOf same put valid validLink endVerdict move run fieldStart fieldOf bytesOf numberField decimal begins readableHeader headerOf readableAnswer acknowledgmentOf codeField answerMessage controlMessage validExpected rowOf decisionOf receiveOf validSender submitOf openOf timerOf blockReadOf oneAt othersAt acceptedOf someOf runOf blank nightOf answerTo disordered
-night-minimal = (refl, refl, refl, refl, refl, refl)
+runs-minimal : SlotSeven Minimal
+unfolding times reversed sends reads decides answered exchanged submitted begun loses oldAnswer left leftPending leftRead case caseOf endOf fiveDigits threeDigits countField checksumOf hybridBody hybridBlock minimalBlock blockOf typeMatches headerOk checksumMatches judgeParts dataOf judgeHybrid judgeMinimal judge contentOf same put valid validLink endVerdict move run fieldStart fieldOf bytesOf numberField decimal begins readableHeader headerOf readableAnswer acknowledgmentOf codeField answerMessage controlMessage validExpected rowOf decisionOf receiveOf validSender submitOf openOf timerOf blockReadOf oneAt othersAt acceptedOf someOf runOf blank slotSevenOf answerTo disordered
+runs-minimal = (refl, refl, refl, refl, refl, refl)
 
-pub night : (k : Kind) → Night k
-night Hybrid = night-hybrid
-night Minimal = night-minimal
+pub slot-seven-runs : (k : Kind) → SlotSeven k
+slot-seven-runs Hybrid = runs-hybrid
+slot-seven-runs Minimal = runs-minimal
 
 -- ---- the line to the receiver is not empty when the tenancy begins: an earlier tenant's 1 is read before any circuit, and stored
 foreign : List ℕ
@@ -249,16 +250,27 @@ withRequest k =
     let l = exampleLink k in
     runOf every l (beginning every l (Next 1) (leftForward (blockOf (exampleLink k .settings) (code "D") foreign))) (reversed (reads ++ decides ∷ receiverPersists ∷ []) [])
 
+-- the same request, which was read before: the circuit is opened first, and without dropsVerdicts it is decided on after that
+leftRequest : Kind → Remains
+leftRequest k = record { forward = []; back = []; pending = []; requests = run (exampleLink k .settings) 0 between (blockOf (exampleLink k .settings) (code "D") foreign); answers = [] }
+
+pub withKept : (Duty → Bool) → Kind → System
+withKept h k =
+    let l = exampleLink k in
+    runOf h l (beginning h l Unknown (leftRequest k)) (reversed (submitted 1 ∷ opens ∷ decides ∷ receiverPersists ∷ []) [])
+
 abbrev Stores : Kind → Type 0
-Stores k = (withRequest k .receiving .persisted .has ≡ foreign ∷ []) × (same foreign (exampleLog 1) ≡ false)
+Stores k =
+    (withRequest k .receiving .persisted .has ≡ foreign ∷ []) × (same foreign (exampleLog 1) ≡ false) × (withKept (everyBut dropsVerdicts) k .receiving .persisted .has ≡ foreign ∷ [])
+    × (withKept every k .receiving .persisted .has ≡ [])
 
 stores-hybrid : Stores Hybrid
-unfolding times reversed sends reads decides hears exchanged submitted begun loses oldAnswer left leftPending leftRead case caseOf endOf fiveDigits threeDigits countField checksumOf hybridBody hybridBlock minimalBlock blockOf typeMatches headerOk checksumMatches judgeParts dataOf judgeHybrid judgeMinimal judge contentOf same put valid validLink endVerdict move run fieldStart fieldOf bytesOf numberField decimal begins readableHeader headerOf readableAnswer acknowledgmentOf codeField answerMessage controlMessage validExpected rowOf decisionOf receiveOf validSender submitOf openOf timerOf blockReadOf oneAt othersAt acceptedOf someOf runOf blank foreign leftForward withRequest
-stores-hybrid = (refl, refl)
+unfolding times reversed sends reads decides answered exchanged submitted begun loses oldAnswer left leftPending leftRead case caseOf endOf fiveDigits threeDigits countField checksumOf hybridBody hybridBlock minimalBlock blockOf typeMatches headerOk checksumMatches judgeParts dataOf judgeHybrid judgeMinimal judge contentOf same put valid validLink endVerdict move run fieldStart fieldOf bytesOf numberField decimal begins readableHeader headerOf readableAnswer acknowledgmentOf codeField answerMessage controlMessage validExpected rowOf decisionOf receiveOf validSender submitOf openOf timerOf blockReadOf oneAt othersAt acceptedOf someOf runOf blank foreign leftForward withRequest leftRequest withKept
+stores-hybrid = (refl, refl, refl, refl)
 
 stores-minimal : Stores Minimal
-unfolding times reversed sends reads decides hears exchanged submitted begun loses oldAnswer left leftPending leftRead case caseOf endOf fiveDigits threeDigits countField checksumOf hybridBody hybridBlock minimalBlock blockOf typeMatches headerOk checksumMatches judgeParts dataOf judgeHybrid judgeMinimal judge contentOf same put valid validLink endVerdict move run fieldStart fieldOf bytesOf numberField decimal begins readableHeader headerOf readableAnswer acknowledgmentOf codeField answerMessage controlMessage validExpected rowOf decisionOf receiveOf validSender submitOf openOf timerOf blockReadOf oneAt othersAt acceptedOf someOf runOf blank foreign leftForward withRequest
-stores-minimal = (refl, refl)
+unfolding times reversed sends reads decides answered exchanged submitted begun loses oldAnswer left leftPending leftRead case caseOf endOf fiveDigits threeDigits countField checksumOf hybridBody hybridBlock minimalBlock blockOf typeMatches headerOk checksumMatches judgeParts dataOf judgeHybrid judgeMinimal judge contentOf same put valid validLink endVerdict move run fieldStart fieldOf bytesOf numberField decimal begins readableHeader headerOf readableAnswer acknowledgmentOf codeField answerMessage controlMessage validExpected rowOf decisionOf receiveOf validSender submitOf openOf timerOf blockReadOf oneAt othersAt acceptedOf someOf runOf blank foreign leftForward withRequest leftRequest withKept
+stores-minimal = (refl, refl, refl, refl)
 
 stores : (k : Kind) → Stores k
 stores Hybrid = stores-hybrid
@@ -268,12 +280,19 @@ one-is : (k : Kind) (n : ℕ) (d : List ℕ) → n ≡ 1 → d ∷ [] ≡ transa
 unfolding transactions
 one-is k n d e z = let w : d ∷ [] ≡ exampleLog 1 ∷ [] = z ∙ ap (transactions (exampleLink k)) e in let q : d ≡ exampleLog 1 = cc in q
 
-pub with-old-request : (k : Kind) → Safe (exampleLink k) (withRequest k) → ⊥
-with-old-request k f =
-    let e = sym (stores k .0) ∙ f .persisted-has in
+no-foreign : (k : Kind) (y : System) → y .receiving .persisted .has ≡ foreign ∷ [] → Safe (exampleLink k) y → ⊥
+no-foreign k y has f =
+    let e = sym has ∙ f .persisted-has in
     let n : f .persisted ≡ 1 = sym (transactions-length (exampleLink k) (f .persisted)) ∙ ap length (sym e) in
     let z : same foreign foreign ≡ false = ap (same foreign) (one-is k (f .persisted) foreign n e) ∙ stores k .1 in
     not-both (sym (same-self foreign) ∙ z)
+
+pub with-old-request : (k : Kind) → Safe (exampleLink k) (withRequest k) → ⊥
+with-old-request k f = no-foreign k (withRequest k) (stores k .0) f
+
+-- and where it was read before, and kept over the first circuit: with the duty nothing is stored
+pub with-kept-request : (k : Kind) → (Safe (exampleLink k) (withKept (everyBut dropsVerdicts) k) → ⊥) × (withKept every k .receiving .persisted .has ≡ [])
+with-kept-request k = (λ f. no-foreign k (withKept (everyBut dropsVerdicts) k) (stores k .2) f, stores k .3)
 
 -- ---- so the statement is false of it
 module _ (k : Kind) (y : System) where

@@ -30,9 +30,10 @@ use Rattle.link.specs.System.{receiverCrashes, damagesBack, persistsNumber, sen
 use Rattle.link.specs.Promise.{Safe}
 use Rattle.link.specs.Example.{exampleLink}
 use Rattle.link.proofs.Exchange.{blank}
-use Rattle.link_duties.proofs.Counterexamples.{times, reversed, sends, reads, decides, hears, exchanged, submitted, begun, oldAnswer, answerTo, Case, case, seen, unstored, ahead, frozen}
+use Rattle.link_duties.proofs.Counterexamples.{times, reversed, sends, reads, decides, answered, exchanged, submitted, begun, oldAnswer, answerTo, Case, case, seen, unstored, ahead, frozen}
 
--- Of dropsVerdicts at the receiver, and of dropsReplies and the line to the receiver at a later circuit, no run is known: order is kept, so that what was left comes first.
+-- Of dropsReplies, of dropsVerdicts at the receiver and of the line to the receiver no run is known at a later circuit: order is kept, so that what was left comes first.
+-- Of dropsVerdicts at the receiver at the first circuit: withKept in Counterexamples.antt.
 pub data Further : Type 0 where
   -- persistsAsOne: the number without its transaction
   numberAlone : Further
@@ -79,7 +80,7 @@ furtherCaseOf k lineLater =
     let one = oldAnswer k (Number 1) in
     case Unknown nothingLeft
     (secondCircuit ++ (times (length none) senderReads ++ senderActs 0 ∷ (sends ++ (reads ++ decides ∷ receiverPersists ∷ receiverWrites ∷ damagesBack (one ++ none) ∷ (times (length one) senderReads
-    ++ senderActs 0 ∷ ends ∷ opens ∷ hears)))))
+    ++ senderActs 0 ∷ ends ∷ opens ∷ answered)))))
 -- the same, and it was read before
 furtherCaseOf k verdictLater =
     case Unknown nothingLeft
@@ -112,11 +113,11 @@ abbrev All : Kind → Type 0
 All k = FurtherEnds k numberAlone × FurtherEnds k senderReverts × FurtherEnds k requestLate × FurtherEnds k restoredNamed × FurtherEnds k lineLater × FurtherEnds k verdictLater
 
 further-hybrid : All Hybrid
-unfolding times reversed sends reads decides hears exchanged submitted begun oldAnswer case fiveDigits threeDigits countField checksumOf hybridBody hybridBlock minimalBlock blockOf typeMatches headerOk checksumMatches judgeParts dataOf judgeHybrid judgeMinimal judge contentOf same put valid validLink endVerdict move run fieldStart fieldOf bytesOf numberField decimal begins readableHeader headerOf readableAnswer acknowledgmentOf codeField answerMessage controlMessage validExpected rowOf decisionOf receiveOf validSender submitOf openOf endedOf timerOf blockReadOf oneAt othersAt acceptedOf someOf oneOf eachOf runOf blank answerTo secondCircuit older furtherCaseOf furtherEndOf
+unfolding times reversed sends reads decides answered exchanged submitted begun oldAnswer case fiveDigits threeDigits countField checksumOf hybridBody hybridBlock minimalBlock blockOf typeMatches headerOk checksumMatches judgeParts dataOf judgeHybrid judgeMinimal judge contentOf same put valid validLink endVerdict move run fieldStart fieldOf bytesOf numberField decimal begins readableHeader headerOf readableAnswer acknowledgmentOf codeField answerMessage controlMessage validExpected rowOf decisionOf receiveOf validSender submitOf openOf endedOf timerOf blockReadOf oneAt othersAt acceptedOf someOf oneOf eachOf runOf blank answerTo secondCircuit older furtherCaseOf furtherEndOf
 further-hybrid = (refl, refl, refl, refl, refl, refl)
 
 further-minimal : All Minimal
-unfolding times reversed sends reads decides hears exchanged submitted begun oldAnswer case fiveDigits threeDigits countField checksumOf hybridBody hybridBlock minimalBlock blockOf typeMatches headerOk checksumMatches judgeParts dataOf judgeHybrid judgeMinimal judge contentOf same put valid validLink endVerdict move run fieldStart fieldOf bytesOf numberField decimal begins readableHeader headerOf readableAnswer acknowledgmentOf codeField answerMessage controlMessage validExpected rowOf decisionOf receiveOf validSender submitOf openOf endedOf timerOf blockReadOf oneAt othersAt acceptedOf someOf oneOf eachOf runOf blank answerTo secondCircuit older furtherCaseOf furtherEndOf
+unfolding times reversed sends reads decides answered exchanged submitted begun oldAnswer case fiveDigits threeDigits countField checksumOf hybridBody hybridBlock minimalBlock blockOf typeMatches headerOk checksumMatches judgeParts dataOf judgeHybrid judgeMinimal judge contentOf same put valid validLink endVerdict move run fieldStart fieldOf bytesOf numberField decimal begins readableHeader headerOf readableAnswer acknowledgmentOf codeField answerMessage controlMessage validExpected rowOf decisionOf receiveOf validSender submitOf openOf endedOf timerOf blockReadOf oneAt othersAt acceptedOf someOf oneOf eachOf runOf blank answerTo secondCircuit older furtherCaseOf furtherEndOf
 further-minimal = (refl, refl, refl, refl, refl, refl)
 
 both : (k : Kind) → All k

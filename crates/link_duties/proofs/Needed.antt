@@ -11,16 +11,16 @@ use Rattle.link.specs.Duties.{persistsAsOne, decidesFromVolatile, dropsNamed, d
 use Rattle.link.specs.Promise.{Safe, OnlyAnswers, Needed}
 use Rattle.link.specs.Example.{exampleLink}
 use Rattle.link.proofs.Safety.{none-left}
-use Rattle.link_duties.proofs.Counterexamples.{reversed, oldAnswer, left, leftPending, leftRead, case, caseOf, endOf, computed, disordered, nightOf, night, unstored, ahead}
+use Rattle.link_duties.proofs.Counterexamples.{reversed, oldAnswer, left, leftPending, leftRead, case, caseOf, endOf, computed, disordered, slotSevenOf, slot-seven-runs, unstored, ahead}
 use Rattle.link_duties.proofs.Further.{Further, numberAlone, senderReverts, requestLate, restoredNamed, lineLater, verdictLater, dutyOf, furtherCaseOf, furtherEndOf, further-broken}
 
 module _ (k : Kind) where
   broken : (d : Duty) → Safe (exampleLink k) (endOf k d) → ⊥
-  broken exchanges = unstored k (endOf k exchanges) 0 0 (computed k exchanges)
-  broken emptiesLines = unstored k (endOf k emptiesLines) 0 0 (computed k emptiesLines)
-  broken dropsReplies = unstored k (endOf k dropsReplies) 0 0 (computed k dropsReplies)
-  broken dropsVerdicts = unstored k (endOf k dropsVerdicts) 0 0 (computed k dropsVerdicts)
-  broken bringsNothingLate = unstored k (endOf k bringsNothingLate) 0 0 (computed k bringsNothingLate)
+  broken exchanges = unstored k (endOf k exchanges) 0 1 (computed k exchanges)
+  broken emptiesLines = unstored k (endOf k emptiesLines) 0 1 (computed k emptiesLines)
+  broken dropsReplies = unstored k (endOf k dropsReplies) 0 1 (computed k dropsReplies)
+  broken dropsVerdicts = unstored k (endOf k dropsVerdicts) 0 1 (computed k dropsVerdicts)
+  broken bringsNothingLate = unstored k (endOf k bringsNothingLate) 0 1 (computed k bringsNothingLate)
   broken writesInOrder = ahead k (endOf k writesInOrder) 0 0 (computed k writesInOrder)
   broken offersInOrder = ahead k (endOf k offersInOrder) 0 0 (computed k offersInOrder)
   broken senderPersistsFirst = ahead k (endOf k senderPersistsFirst) 1 1 (computed k senderPersistsFirst)
@@ -108,7 +108,7 @@ module _ (k : Kind) where
 
   -- or its answer to 1 alone, which is taken behind the new answer to -1
   pub slot-seven-disordered : Needed (exampleLink k) emptiesLines
-  unfolding validExpected nightOf left
+  unfolding validExpected slotSevenOf left
   slot-seven-disordered =
       record {
         expected = Unknown;
@@ -116,7 +116,7 @@ module _ (k : Kind) where
         remains = left (oldAnswer k (Number 1));
         only-answers = record { forward = refl; requests = refl };
         acts = reversed disordered [];
-        broken = unstored k (nightOf k (everyBut emptiesLines) Unknown (oldAnswer k (Number 1)) disordered) 0 0 (night k .5);
+        broken = unstored k (slotSevenOf k (everyBut emptiesLines) Unknown (oldAnswer k (Number 1)) disordered) 0 1 (slot-seven-runs k .5);
       }
 
   pub slot-seven-late : Needed (exampleLink k) bringsNothingLate

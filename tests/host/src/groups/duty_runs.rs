@@ -207,13 +207,25 @@ fn run_of_storing(link: &mut Link, duty: Duty) -> Outcome {
     }
 }
 
+fn is_of_lines(duty: Duty) -> bool {
+    matches!(
+        duty,
+        Duty::Exchanges
+            | Duty::EmptiesLines
+            | Duty::DropsReplies
+            | Duty::DropsVerdicts
+            | Duty::BringsNothingLate
+    )
+}
+
+/// A check that finds the fault ends the run. Of the lines the sender then stores what it holds.
 fn run_of(link: &mut Link, duty: Duty) -> Outcome {
     match duty {
-        Duty::Exchanges
-        | Duty::EmptiesLines
-        | Duty::DropsReplies
-        | Duty::DropsVerdicts
-        | Duty::BringsNothingLate => run_of_lines(link, duty),
+        _ if is_of_lines(duty) => {
+            let found = run_of_lines(link, duty);
+            let stored = link.sender_persists();
+            found.and(stored)
+        }
         Duty::WritesInOrder | Duty::OffersInOrder => run_of_order(link, duty),
         _ => run_of_storing(link, duty),
     }
@@ -222,16 +234,12 @@ fn run_of(link: &mut Link, duty: Duty) -> Outcome {
 /// Where the run ends without the duty.
 fn end_of(duty: Duty) -> Seen {
     match duty {
-        Duty::Exchanges
-        | Duty::EmptiesLines
-        | Duty::DropsReplies
-        | Duty::DropsVerdicts
-        | Duty::BringsNothingLate
-        | Duty::DropsUnpersisted => [0, 0, 1, 0],
+        _ if is_of_lines(duty) => [0, 0, 1, 1],
+        Duty::DropsUnpersisted => [0, 0, 1, 0],
         Duty::WritesInOrder | Duty::OffersInOrder | Duty::DecidesFromVolatile => [2, 0, 0, 0],
         Duty::SenderPersistsFirst => [2, 1, 1, 0],
         Duty::PersistsAsOne | Duty::DropsNamed => [2, 1, 0, 0],
-        Duty::ReceiverPersistsFirst | Duty::Survives => [1, 0, 1, 0],
+        _ => [1, 0, 1, 0],
     }
 }
 

@@ -1,4 +1,4 @@
--- What a call of the sender's driver tells: how many sends were made, that it gave up, and what is to be sent.
+-- What a call of the sender's driver reports: how many sends were made, that it gave up, and what is to be sent.
 use mathlib.Core.Path.{_≡_, refl, sym, ap, _∙_, subst}
 use mathlib.Core.List.{List, [], _∷_, _++_}
 use mathlib.Core.Bool.{Bool, true, false, cond, not, _&&_}
@@ -71,10 +71,10 @@ listed m n e x y rest = go m
     go (Numbered (Number k)) = (refl, event e)
 
 -- a call that was done
-told : (s : Sender) (st p : List ℕ) (a : Acted) (c : Called) → Behind (senderWords s) st → 8 ≤ length p → Does s st p a c → eqb (c .number) 0 ≡ true → Words a c
-told s st p a c b h (refused n o z t same none) q =
+done-words : (s : Sender) (st p : List ℕ) (a : Acted) (c : Called) → Behind (senderWords s) st → 8 ≤ length p → Does s st p a c → eqb (c .number) 0 ≡ true → Words a c
+done-words s st p a c b h (refused n o z t same none) q =
     not-both (sym q ∙ ap (λ (k : ℕ). eqb k 0) o ∙ ne-eqb (a .refusal) 0 (λ w. let k = leb-true 1 (a .refusal) n in omega arith))
-told s st p a c b h (done o z) q =
+done-words s st p a c b h (done o z) q =
     let report : c .report ≡ actWords a ++ drop (length (actWords a)) p = ap (λ (k : Called). k .report) z ∙ over-is p (actWords a) (let e = eight a in omega arith) in
     let words = listed (a .send) (a .sends) (a .event) (a .block) (a .offset) (drop (length (actWords a)) p) in
     record {
@@ -176,8 +176,8 @@ module _ (k : Passed) (rd : Ready (k .link)) (x : Drivers) (y : System) (valid :
   call-does (submitting limit d) o = submit-does s valid st p (h .sender .state) (h .sender .report) limit d
   call-does (taking w) o = taken-does w (given-in (k .link .settings) w o (h .sender .arrived))
 
-  pub call-told : (q : SenderCall) → Offered (x .sender .arrived) q → eqb (calledBy k (x .sender .memory) q .number) 0 ≡ true → Words (actOf (actBy k q) s) (calledBy k (x .sender .memory) q)
-  call-told q o = told s st p (actOf (actBy k q) s) (calledBy k (x .sender .memory) q) (h .sender .state) (h .sender .report) (call-does q o)
+  pub call-words : (q : SenderCall) → Offered (x .sender .arrived) q → eqb (calledBy k (x .sender .memory) q .number) 0 ≡ true → Words (actOf (actBy k q) s) (calledBy k (x .sender .memory) q)
+  call-words q o = done-words s st p (actOf (actBy k q) s) (calledBy k (x .sender .memory) q) (h .sender .state) (h .sender .report) (call-does q o)
 
   -- what it shows is what the history has of it
   pub call-showed : (q : SenderCall) → Offered (x .sender .arrived) q → SameReport (reportOf (calledBy k (x .sender .memory) q)) (reported (actOf (actBy k q) s))
