@@ -23,6 +23,7 @@ enum Trouble {
     RefusedAct,
     ShortBuffer,
     Submission,
+    SenderForget,
     SenderDiscard,
     ReceiverDiscard,
     Timer,
@@ -35,7 +36,7 @@ enum Trouble {
 /// it has read, and how slow the receiver; how many bytes a part has at most; and whether the sender is
 /// told of answers in the order in which they were sent.
 pub struct Weather {
-    troubles: [(Trouble, usize); 15],
+    troubles: [(Trouble, usize); 16],
     slow: [usize; 4],
     part: usize,
     is_in_order: bool,
@@ -64,6 +65,7 @@ impl Weather {
             once_in(Trouble::RefusedAct, &[NEVER, 100, 40]),
             once_in(Trouble::ShortBuffer, &[NEVER, 40, 10]),
             once_in(Trouble::Submission, &[NEVER, 60, 20]),
+            once_in(Trouble::SenderForget, &[NEVER, NEVER, 80, 30]),
             once_in(Trouble::SenderDiscard, &[NEVER, NEVER, 80, 30]),
             once_in(Trouble::ReceiverDiscard, &[NEVER, NEVER, 80, 30]),
             once_in(Trouble::Timer, &[200, 60, 25, 10]),
@@ -138,6 +140,7 @@ impl Link {
                 let (message, other) = (self.submission(random), random.pick(&OTHER_LIMITS));
                 self.submit_bytes(random.pick(&[self.settings.limit, other]), &message)
             }
+            Trouble::SenderForget => self.sender_forgets(any_of(random, self.sending.named.len())),
             Trouble::SenderDiscard => self.sender_discards(any_of(random, read_by_sender)),
             Trouble::ReceiverDiscard => self.receiver_discards(any_of(random, read_by_receiver)),
             Trouble::Timer => self.timer(),

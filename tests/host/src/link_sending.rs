@@ -237,6 +237,14 @@ impl Link {
         self.check_answer(&arrived.data, &report)
     }
 
+    /// One of the messages that were named and not written is dropped.
+    pub fn sender_forgets(&mut self, index: usize) -> Outcome {
+        if self.sending.named.remove(index).is_some() {
+            self.counts.add(Kind::SenderForgets);
+        }
+        self.check()
+    }
+
     /// One of the blocks that were read is dropped.
     pub fn sender_discards(&mut self, index: usize) -> Outcome {
         if self.sending.arrived.remove(index).is_some() {
