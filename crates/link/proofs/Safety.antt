@@ -12,7 +12,8 @@ use Rattle.link.specs.Duties.{Duty, every, oneAt}
 use Rattle.link.specs.System.{Link, System, Remains, beginning, startOf, nothingLeft, newCircuit, senderActed, SystemAct, opens, ends, resets, timer, submits, senderPersists, senderWrites, senderForgets, senderReads, senderActs, senderDiscards, senderRestores}
 use Rattle.link.specs.System.{senderCrashes, receiverReads, receiverActs, receiverDiscards, receiverPersists, receiverWrites, receiverRestores, receiverCrashes}
 use Rattle.link.specs.System.{damagesForward, damagesBack, persistsNumber, persistsTransactions, revertsTo, senderRevertsTo, bringsLate, bringsLateRequest, afterAct, runOf}
-use Rattle.link.specs.Promise.{Ready, Safe, OnlyAnswers, Needed}
+use Rattle.link.specs.Promise.{Ready, Safe, OnlyAnswers}
+use Rattle.link.specs.Needed.{Needed}
 use Rattle.link.proofs.SenderInvariant.{fresh-valid}
 use Rattle.link.proofs.SenderDue.{open-taken}
 use Rattle.link.proofs.Runs.{run-join}

@@ -1,8 +1,7 @@
 -- Demand 3: what the two hosts see to. Each is a switch of the model: the statement is for hosts that keep all, and without any one of them a run breaks it.
 use mathlib.Core.List.{List, [], _∷_}
-use mathlib.Core.Bool.{Bool, true, false, not}
+use mathlib.Core.Bool.{Bool, true, false}
 use Prim.Native.Nat.{ℕ, zero, suc}
-use lib.Dec.{eqb}
 
 pub data Duty : Type 0 where
   -- "the tenancy opens with the resynchronising exchange"
@@ -24,27 +23,8 @@ pub data Duty : Type 0 where
   -- "stored things survive"
   survives : Duty
 
-abbrev pub indexOf : Duty → ℕ
-indexOf exchanges = 0
-indexOf emptiesLines = 1
-indexOf dropsReplies = 2
-indexOf dropsVerdicts = 3
-indexOf bringsNothingLate = 4
-indexOf writesInOrder = 5
-indexOf offersInOrder = 6
-indexOf senderPersistsFirst = 7
-indexOf receiverPersistsFirst = 8
-indexOf persistsAsOne = 9
-indexOf decidesFromVolatile = 10
-indexOf dropsNamed = 11
-indexOf dropsUnpersisted = 12
-indexOf survives = 13
-
 abbrev pub every : Duty → Bool
 every d = true
-
-abbrev pub everyBut : Duty → Duty → Bool
-everyBut x d = not (eqb (indexOf x) (indexOf d))
 
 -- what a host that keeps the duty drops
 abbrev pub dropped : {A : Type 0} → Bool → List A → List A

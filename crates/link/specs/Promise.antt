@@ -11,10 +11,7 @@ use Rattle.numbers.specs.Numbers.{greatestSent}
 use Rattle.numbers.specs.declared.SequenceNumber.the-variants.{Number}
 use Rattle.messages.specs.Messages.{validType}
 use Rattle.message_theorems.specs.ReadBack.{ReadsControl}
-use Rattle.receiver.specs.Receiver.{validExpected}
-use Rattle.receiver.specs.declared.Expected.{Expected}
-use Rattle.link.specs.Duties.{Duty, everyBut}
-use Rattle.link.specs.System.{Link, System, Remains, SystemAct, beginning, runOf}
+use Rattle.link.specs.System.{Link, System, Remains}
 
 -- a message that the sender takes as the transaction n: it fits a block, and its MSH-10 and MSH-13 are n
 pub record Logged (g : Settings) (n : ℕ) (message : List ℕ) : Type 0 where
@@ -62,13 +59,3 @@ pub record Safe (l : Link) (y : System) : Type 0 where
 pub record OnlyAnswers (m : Remains) : Type 0 where
   pub forward : m .forward ≡ []
   pub requests : m .requests ≡ []
-
--- A duty is needed: where every other is kept, a run from a tenancy's beginning leads to a state of which the statement is false.
--- It is the duty that makes the difference: from the same beginning, with every duty kept, the statement holds of the same acts (`kept`).
-pub record Needed (l : Link) (d : Duty) : Type 0 where
-  pub expected : Expected
-  pub valid : validExpected expected ≡ true
-  pub remains : Remains
-  pub only-answers : OnlyAnswers remains
-  pub acts : List SystemAct
-  pub broken : Safe l (runOf (everyBut d) l (beginning (everyBut d) l expected remains) acts) → ⊥

@@ -27,11 +27,12 @@ use Rattle.receiver.specs.declared.Expected.{Expected}
 use Rattle.receiver.specs.declared.Expected.the-variants.{Unknown, Next}
 use Rattle.sender.specs.Sender.{validSender, submitOf, openOf, timerOf, blockReadOf}
 use Rattle.link.specs.Duties.{Duty, exchanges, emptiesLines, dropsReplies, dropsVerdicts, bringsNothingLate, writesInOrder, offersInOrder, senderPersistsFirst, receiverPersistsFirst}
-use Rattle.link.specs.Duties.{persistsAsOne, decidesFromVolatile, dropsNamed, dropsUnpersisted, survives, every, everyBut, oneAt, othersAt}
+use Rattle.link.specs.Duties.{persistsAsOne, decidesFromVolatile, dropsNamed, dropsUnpersisted, survives, every, oneAt, othersAt}
 use Rattle.link.specs.Line.{acceptedOf, someOf}
 use Rattle.link.specs.System.{Link, System, Remains, nothingLeft, stored, beginning, runOf, SystemAct, opens, timer, submits, senderPersists, senderWrites, senderReads, senderActs, senderCrashes}
 use Rattle.link.specs.System.{receiverReads, receiverActs, receiverPersists, receiverWrites, receiverRestores, receiverCrashes, damagesForward, persistsTransactions, revertsTo, bringsLate}
 use Rattle.link.specs.Promise.{Safe, transactions}
+use Rattle.link.specs.Needed.{everyBut}
 use Rattle.link.specs.Example.{exampleLog, exampleLink}
 use Rattle.lists.proofs.Same.{same-self}
 use Rattle.link.proofs.Facts.{not-both}

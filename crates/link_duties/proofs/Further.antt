@@ -23,11 +23,12 @@ use Rattle.receiver.specs.Receiver.{validExpected, rowOf, decisionOf, receiveOf
 use Rattle.receiver.specs.declared.Expected.the-variants.{Unknown}
 use Rattle.sender.specs.Sender.{validSender, submitOf, openOf, endedOf, timerOf, blockReadOf}
 use Rattle.sender.specs.declared.Persisted.{Persisted}
-use Rattle.link.specs.Duties.{Duty, emptiesLines, dropsVerdicts, bringsNothingLate, persistsAsOne, dropsNamed, survives, everyBut, oneAt, othersAt}
+use Rattle.link.specs.Duties.{Duty, emptiesLines, dropsVerdicts, bringsNothingLate, persistsAsOne, dropsNamed, survives, oneAt, othersAt}
 use Rattle.link.specs.Line.{acceptedOf, someOf, oneOf, eachOf}
 use Rattle.link.specs.System.{System, nothingLeft, requestOf, beginning, runOf, SystemAct, opens, ends, timer, senderReads, senderWrites, senderActs, senderRestores, receiverPersists, receiverWrites}
 use Rattle.link.specs.System.{receiverCrashes, damagesBack, persistsNumber, senderRevertsTo, bringsLateRequest}
 use Rattle.link.specs.Promise.{Safe}
+use Rattle.link.specs.Needed.{everyBut}
 use Rattle.link.specs.Example.{exampleLink}
 use Rattle.link.proofs.Exchange.{blank}
 use Rattle.link_duties.proofs.Counterexamples.{times, reversed, sends, reads, decides, answered, exchanged, submitted, begun, oldAnswer, answerTo, Case, case, seen, unstored, ahead, frozen}

@@ -7,8 +7,9 @@ use Rattle.numbers.specs.declared.SequenceNumber.the-variants.{Number}
 use Rattle.receiver.specs.Receiver.{validExpected}
 use Rattle.receiver.specs.declared.Expected.the-variants.{Unknown}
 use Rattle.link.specs.Duties.{Duty, exchanges, emptiesLines, dropsReplies, dropsVerdicts, bringsNothingLate, writesInOrder, offersInOrder, senderPersistsFirst, receiverPersistsFirst}
-use Rattle.link.specs.Duties.{persistsAsOne, decidesFromVolatile, dropsNamed, dropsUnpersisted, survives, everyBut}
-use Rattle.link.specs.Promise.{Safe, OnlyAnswers, Needed}
+use Rattle.link.specs.Duties.{persistsAsOne, decidesFromVolatile, dropsNamed, dropsUnpersisted, survives}
+use Rattle.link.specs.Promise.{Safe, OnlyAnswers}
+use Rattle.link.specs.Needed.{everyBut, Needed}
 use Rattle.link.specs.Example.{exampleLink}
 use Rattle.link.proofs.Safety.{none-left}
 use Rattle.link_duties.proofs.Counterexamples.{reversed, oldAnswer, left, leftPending, leftRead, case, caseOf, endOf, computed, disordered, slotSevenOf, slot-seven-runs, unstored, ahead}
