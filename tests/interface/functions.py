@@ -16,8 +16,8 @@ Written by `tests/documents --write`; the gate compares. {functions} public func
 No function has a `requires`. The contract of each is an equation: its result, and what the lent memory named here holds after
 the call, is what the cited definition gives for the inputs and the memory before. So a contract allows one result and one
 content; theorem T-52 of [THEOREMS.md](THEOREMS.md) says it of each function. Of a part that is handed back the address is fixed
-as the bytes are (DECISIONS.md K-1). `settings.valid` is the definition `valid` in crates/settings/specs, `lists::part_of` a
-function of crates/lists/src.
+as the bytes are (DECISIONS.md K-1). `settings.valid` is the definition `valid` in crates/settings/specs; without a name before it
+a definition is of the function's own crate.
 """
 
 EDITS = """
@@ -87,10 +87,18 @@ def public_functions():
 
 
 def row(function):
-    path = [function.name] if function.exported else [function.crate, function.owner, function.name]
-    cited = ", ".join(f"`{name}`" for name in function.cited) or "its arguments"
+    path = [function.name] if function.exported else [function.owner, function.name]
+    own = "" if function.exported else f"{function.crate}."
+    cited = ", ".join(f"`{name.removeprefix(own)}`" for name in function.cited) or "its arguments"
     memory = "".join(f" {name}," for name in function.memory).rstrip(",")
     return f"| `{'::'.join(part for part in path if part)}` | {cited} |{memory} |"
+
+
+def rows_by_crate(functions):
+    """Each row with its crate before it, which is said once."""
+    crates = [function.crate for function in functions]
+    firsts = [crate if crate not in crates[:index] else "" for index, crate in enumerate(crates)]
+    return [f"| {crate} {row(function)}" for crate, function in zip(firsts, functions)]
 
 
 def edit_rows():
@@ -108,11 +116,12 @@ def edit_rows():
 def page():
     functions, edits = public_functions(), edit_rows()
     exported = [row(function) for function in functions if function.exported]
-    others = [row(function) for function in functions if not function.exported]
+    others = rows_by_crate([function for function in functions if not function.exported])
     columns = "| Function | Definition that its contract cites | Lent memory that it fixes |\n|---|---|---|\n"
+    of_crates = "| Crate " + columns.replace("\n|", "\n|---|", 1)
     return (
         HEAD.format(functions=len(functions), exported=len(exported), edits=len(edits))
         + f"\n## The C functions\n\n{columns}" + "\n".join(exported) + "\n"
-        + f"\n## The others\n\n{columns}" + "\n".join(others) + "\n"
+        + f"\n## The others\n\n{of_crates}" + "\n".join(others) + "\n"
         + EDITS + "\n".join(edits) + "\n"
     )

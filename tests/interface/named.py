@@ -64,17 +64,18 @@ def theorem_rows():
 
 
 def theorem_faults():
-    """Each label once, and each name of a row stands in the file that the row links to."""
+    """Each label once, and each name of a row stands in the file that the row names: crate/File, or crate/specs/File."""
     rows = theorem_rows()
     labels = [label for label, _ in rows]
     for label in sorted({*labels, *(f"T-{number}" for number in range(1, len(labels) + 1))}):
         if labels.count(label) != 1:
             yield f"docs/THEOREMS.md: {label} has {labels.count(label)} rows"
     for label, where in rows:
-        links = re.findall(r"\]\(\.\./(crates/\S+\.antt)\) ((?:`[^`]+`(?:, )?)+)", where)
-        if not links:
+        files = re.findall(r"(?:^|; )(\w+)/(specs/)?(\w+) ((?:`[^`]+`(?:, )?)+)", where)
+        if not files:
             yield f"docs/THEOREMS.md: {label} leads to no theorem"
-        for path, names in links:
+        for crate, specs, file, names in files:
+            path = f"crates/{crate}/{specs or 'proofs/'}{file}.antt"
             for name in re.findall(r"`([^`]+)`", names):
                 found = [file for folder in ("proofs", "specs") for file in defining(folder, name)]
                 if ROOT / path not in found:
