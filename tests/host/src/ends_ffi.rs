@@ -240,7 +240,7 @@ pub fn receive(
 /// One of the sender's acts.
 pub fn sender_act(act: &Act, state: &mut [u64], report: &mut [u64]) -> u64 {
     let (words, length) = (state.as_mut_ptr(), state.len());
-    let (told, told_words) = (report.as_mut_ptr(), report.len());
+    let (report_pointer, report_words) = (report.as_mut_ptr(), report.len());
     // SAFETY: each slice has memory of the length passed, and none overlaps another.
     unsafe {
         match *act {
@@ -250,14 +250,14 @@ pub fn sender_act(act: &Act, state: &mut [u64], report: &mut [u64]) -> u64 {
                 message.len(),
                 words,
                 length,
-                told,
-                told_words,
+                report_pointer,
+                report_words,
             ),
-            Act::Open => raw::gmv_sender_open(words, length, told, told_words),
-            Act::Ended => raw::gmv_sender_ended(words, length, told, told_words),
-            Act::Reset => raw::gmv_sender_reset(words, length, told, told_words),
+            Act::Open => raw::gmv_sender_open(words, length, report_pointer, report_words),
+            Act::Ended => raw::gmv_sender_ended(words, length, report_pointer, report_words),
+            Act::Reset => raw::gmv_sender_reset(words, length, report_pointer, report_words),
             Act::Timer { resends } => {
-                raw::gmv_sender_timer(resends, words, length, told, told_words)
+                raw::gmv_sender_timer(resends, words, length, report_pointer, report_words)
             }
             Act::Block { resends, block } => raw::gmv_sender_block(
                 resends,
@@ -267,8 +267,8 @@ pub fn sender_act(act: &Act, state: &mut [u64], report: &mut [u64]) -> u64 {
                 block.data.len(),
                 words,
                 length,
-                told,
-                told_words,
+                report_pointer,
+                report_words,
             ),
         }
     }

@@ -241,7 +241,7 @@ impl Link {
     /// What storing that fails comes upon.
     pub fn count_restore(&mut self, kind: Kind) {
         let is_unstored = [!self.sending.is_persisted(), !self.receiving.is_persisted()];
-        let is_owing = !self.receiving.owed.is_empty();
+        let is_owing = !self.receiving.pending.is_empty();
         let kinds = match kind {
             Kind::SenderRestores => [
                 (kind, true),
@@ -251,7 +251,7 @@ impl Link {
             _ => [
                 (kind, true),
                 (Kind::ReceiverRestoreUnstored, is_unstored[1]),
-                (Kind::ReceiverRestoreOwing, is_owing),
+                (Kind::ReceiverRestorePending, is_owing),
             ],
         };
         self.count_all(&kinds);

@@ -31,7 +31,7 @@ pub enum Kind {
     SenderRestoreUnstored,
     SenderRestoreWithCircuit,
     ReceiverRestoreUnstored,
-    ReceiverRestoreOwing,
+    ReceiverRestorePending,
     BlockWithoutCircuit,
     ReceivedWithoutCircuit,
     BeforeOlder,

@@ -146,7 +146,10 @@ impl Link {
         for &(id, number) in random.pick(&[&answers[..], &answers, &answers[..1], &answers[1..]]) {
             match left {
                 Left::OnTheLine => self.back.extend(self.old_answer(id, number)?),
-                Left::Owed => self.receiving.owed.push_back(self.old_answer(id, number)?),
+                Left::Owed => self
+                    .receiving
+                    .pending
+                    .push_back(self.old_answer(id, number)?),
                 Left::Read => self
                     .sending
                     .arrived

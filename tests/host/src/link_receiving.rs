@@ -67,7 +67,7 @@ impl Link {
         let mut report = [u64::MAX; RECEIVED_WORDS];
         let (mut state, start) = (self.receiving.state, buffer.start);
         let short = &mut self.buffer[..buffer.length];
-        let (settings, block, told) = (&self.settings, incoming(arrived), &mut report);
+        let (settings, block, words) = (&self.settings, incoming(arrived), &mut report);
         let number = ends_ffi::receive(
             settings,
             application,
@@ -75,7 +75,7 @@ impl Link {
             &block,
             short,
             start,
-            told,
+            words,
         );
         if number != 2 || state != self.receiving.state || report != [u64::MAX; RECEIVED_WORDS] {
             return Err(format!("a buffer too short was answered by {number}"));
@@ -93,8 +93,8 @@ impl Link {
         }
         let (state, block) = (&mut end.state, incoming(&arrived));
         let (bytes, mut report) = (&mut self.buffer[..buffer.length], [0; RECEIVED_WORDS]);
-        let (start, told) = (buffer.start, &mut report);
-        let number = ends_ffi::receive(settings, application, state, &block, bytes, start, told);
+        let (start, words) = (buffer.start, &mut report);
+        let number = ends_ffi::receive(settings, application, state, &block, bytes, start, words);
         if number != 0 {
             return Err(format!("the receiver answered {number}"));
         }
@@ -104,7 +104,7 @@ impl Link {
         };
         let length = report[RECEIVED_REPLY_LENGTH] as usize;
         if length > 0 {
-            end.owed.push_back(bytes[from..][..length].to_vec());
+            end.pending.push_back(bytes[from..][..length].to_vec());
         }
         if report[RECEIVED_TRANSACTION] != 0 {
             if !self.sending.has_circuit() {
@@ -144,7 +144,7 @@ impl Link {
 
     pub fn can_reply(&self) -> bool {
         let early = !self.keeps(Duty::ReceiverPersistsFirst);
-        (early || self.receiving.is_persisted()) && !self.receiving.owed.is_empty()
+        (early || self.receiving.is_persisted()) && !self.receiving.pending.is_empty()
     }
 
     /// Sends the oldest reply, once all is persisted.
@@ -153,7 +153,7 @@ impl Link {
             return Ok(());
         }
         self.counts.add(Kind::Replies);
-        if let Some(reply) = self.receiving.owed.pop_front() {
+        if let Some(reply) = self.receiving.pending.pop_front() {
             self.back.extend_from_slice(&reply);
             if !self.keeps(Duty::BringsNothingLate) {
                 self.sent.push(reply);
@@ -168,7 +168,7 @@ impl Link {
         self.count_restore(Kind::ReceiverRestores);
         self.receiving.restore();
         if self.keeps(Duty::DropsUnpersisted) {
-            self.receiving.owed.clear();
+            self.receiving.pending.clear();
         }
         self.check()
     }
@@ -178,7 +178,7 @@ impl Link {
         self.count_crash(Kind::ReceiverCrash);
         self.receiver_finds();
         self.receiving.restore();
-        self.receiving.owed.clear();
+        self.receiving.pending.clear();
         self.receiving.drop_verdicts();
         self.receiving.reader.restart()?;
         self.forward.clear();

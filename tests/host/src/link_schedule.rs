@@ -275,7 +275,7 @@ impl Link {
             && self.sending.named.is_empty()
             && self.sending.arrived.is_empty()
             && self.receiving.arrived.is_empty()
-            && self.receiving.owed.is_empty()
+            && self.receiving.pending.is_empty()
     }
 
     /// What is named is written, read, decided, stored and answered.
@@ -292,11 +292,11 @@ impl Link {
     /// The same, and the answer is read and taken.
     pub fn exchange(&mut self, random: &mut Random) -> Outcome {
         self.request(random)?;
-        self.hear()
+        self.takes_answer()
     }
 
     /// What is on the line back is read as far as one block, and the oldest block that was read is taken.
-    pub fn hear(&mut self) -> Outcome {
+    pub fn takes_answer(&mut self) -> Outcome {
         self.sender_reads(NEVER)?;
         self.sender_acts(0)
     }
@@ -307,7 +307,7 @@ impl Link {
         let on_lines = self.forward.iter().chain(&self.back).filter(is_start);
         let (sending, receiving) = (&self.sending, &self.receiving);
         let read = sending.arrived.len() + receiving.arrived.len();
-        sending.named.len() + receiving.owed.len() + read + on_lines.count()
+        sending.named.len() + receiving.pending.len() + read + on_lines.count()
     }
 
     /// Over good lines from now on, all of the log is delivered.

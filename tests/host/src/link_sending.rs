@@ -61,7 +61,7 @@ impl Link {
             self.receiving.reader.restart()?;
         }
         if self.keeps(Duty::DropsReplies) {
-            self.receiving.owed.clear();
+            self.receiving.pending.clear();
         }
         if self.deviation.sender_drops_verdicts() {
             self.sending.arrived.clear();

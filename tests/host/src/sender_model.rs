@@ -78,13 +78,13 @@ pub enum Event {
 /// What an act that was done says: the message to send now, what happened, and the number of the
 /// block that was read.
 #[derive(Clone, Copy, Debug, PartialEq, Eq)]
-pub struct Told {
+pub struct Answered {
     pub send: Option<Message>,
     pub event: Event,
     pub block: u64,
 }
 
-const NOTHING: Told = Told {
+const NOTHING: Answered = Answered {
     send: None,
     event: Event::Nothing,
     block: 0,
@@ -177,7 +177,7 @@ impl Sender {
         }
     }
 
-    pub fn act(&mut self, act: &Act) -> Result<Told, Refusal> {
+    pub fn act(&mut self, act: &Act) -> Result<Answered, Refusal> {
         match *act {
             Act::Submit { limit, message } => self.submit(limit, message),
             Act::Open => self.open(),
@@ -190,7 +190,7 @@ impl Sender {
 
     /// "Submitting takes the next number only (MSH-13), with MSH-10 its plain decimal; it applies
     /// with or without a circuit unless frozen": 11, 4, 3, 9, 10.
-    fn submit(&mut self, limit: u64, message: &[u8]) -> Result<Told, Refusal> {
+    fn submit(&mut self, limit: u64, message: &[u8]) -> Result<Answered, Refusal> {
         if self.frozen {
             return Err((11, 0));
         }
@@ -214,7 +214,7 @@ impl Sender {
     }
 
     /// "Each new circuit opens with -1 if not yet resynchronised, otherwise with 0."
-    fn open(&mut self) -> Result<Told, Refusal> {
+    fn open(&mut self) -> Result<Answered, Refusal> {
         if self.frozen || self.circuit != Circuit::Closed {
             return Err((11, 0));
         }
@@ -224,19 +224,19 @@ impl Sender {
             Message::MinusOne
         };
         self.circuit = Circuit::Waiting(message, 1);
-        Ok(Told {
+        Ok(Answered {
             send: Some(message),
             ..NOTHING
         })
     }
 
-    fn ended(&mut self) -> Result<Told, Refusal> {
+    fn ended(&mut self) -> Result<Answered, Refusal> {
         self.need_circuit()?;
         self.circuit = Circuit::Closed;
         Ok(NOTHING)
     }
 
-    fn reset(&mut self) -> Result<Told, Refusal> {
+    fn reset(&mut self) -> Result<Answered, Refusal> {
         if !self.frozen {
             return Err((11, 0));
         }
@@ -244,7 +244,7 @@ impl Sender {
         Ok(NOTHING)
     }
 
-    fn timer(&mut self, resends: u64) -> Result<Told, Refusal> {
+    fn timer(&mut self, resends: u64) -> Result<Answered, Refusal> {
         self.need_circuit()?;
         Ok(self.send_again(resends, 0))
     }
@@ -258,27 +258,27 @@ impl Sender {
 
     /// A timer event, an N block or a refused block "resends the waiting message while fewer than
     /// r + 1 sends were made of it"; otherwise the circuit ends. With nothing waiting nothing is done.
-    fn send_again(&mut self, resends: u64, block: u64) -> Told {
+    fn send_again(&mut self, resends: u64, block: u64) -> Answered {
         let Circuit::Waiting(message, sends) = self.circuit else {
-            return Told { block, ..NOTHING };
+            return Answered { block, ..NOTHING };
         };
         if sends < resends + 1 {
             self.circuit = Circuit::Waiting(message, sends + 1);
-            return Told {
+            return Answered {
                 send: Some(message),
                 event: Event::Nothing,
                 block,
             };
         }
         self.circuit = Circuit::Closed;
-        Told {
+        Answered {
             send: None,
             event: Event::Abandoned(sends),
             block,
         }
     }
 
-    fn block(&mut self, resends: u64, block: &Incoming) -> Result<Told, Refusal> {
+    fn block(&mut self, resends: u64, block: &Incoming) -> Result<Answered, Refusal> {
         self.need_circuit()?;
         if block.number != 0 {
             return Ok(self.send_again(resends, block.number));
@@ -293,7 +293,7 @@ impl Sender {
             return Ok(NOTHING);
         };
         if answer.control_id.bytes != message.control_id().as_bytes() {
-            return Ok(Told {
+            return Ok(Answered {
                 event: Event::Dropped,
                 ..NOTHING
             });
@@ -303,7 +303,7 @@ impl Sender {
     }
 
     /// An answer to what waits: what the rules name goes on, all else freezes.
-    fn answered(&mut self, message: Message, code: &[u8], expected: Held) -> Told {
+    fn answered(&mut self, message: Message, code: &[u8], expected: Held) -> Answered {
         let code = match code {
             b"AA" => ACCEPT,
             b"AE" => ERROR,
@@ -328,7 +328,7 @@ impl Sender {
 
     /// AA to 0: -1 goes on if nothing is delivered yet; e if e - 1 is the last one delivered, or the
     /// next one and submitted.
-    fn told_expected(&mut self, expected: Held) -> Told {
+    fn told_expected(&mut self, expected: Held) -> Answered {
         let next = self.delivered + 1;
         let submitted = self.delivered < self.last;
         match expected {
@@ -339,23 +339,23 @@ impl Sender {
         }
     }
 
-    fn freezes(&mut self) -> Told {
+    fn freezes(&mut self) -> Answered {
         self.frozen = true;
         self.circuit = Circuit::Closed;
-        Told {
+        Answered {
             event: Event::Froze,
             ..NOTHING
         }
     }
 
-    fn moves(&mut self, delivered: u64, code: u64) -> Told {
+    fn moves(&mut self, delivered: u64, code: u64) -> Answered {
         self.delivered = delivered;
         self.next_waits(Event::Delivered(delivered, code))
     }
 
     /// The transaction after the last one delivered waits, if it has been submitted; it is sent
     /// once as it begins to wait.
-    fn next_waits(&mut self, event: Event) -> Told {
+    fn next_waits(&mut self, event: Event) -> Answered {
         let message = Message::Transaction(self.delivered + 1);
         let submitted = self.delivered < self.last;
         self.circuit = if submitted {
@@ -363,7 +363,7 @@ impl Sender {
         } else {
             Circuit::Idle
         };
-        Told {
+        Answered {
             send: submitted.then_some(message),
             event,
             block: 0,
@@ -404,7 +404,7 @@ pub fn act_on_words(act: &Act, state: &[u64], report_words: usize) -> Acted {
         return Acted::Reported(11, words, refused_report(act, 0, 0));
     };
     match sender.act(act) {
-        Ok(told) => Acted::Reported(0, sender.encode(), report(&told, sender.sends())),
+        Ok(answered) => Acted::Reported(0, sender.encode(), report(&answered, sender.sends())),
         Err((number, offset)) => {
             let report = refused_report(act, sender.sends(), offset);
             Acted::Reported(number, words, report)
@@ -412,9 +412,9 @@ pub fn act_on_words(act: &Act, state: &[u64], report_words: usize) -> Acted {
     }
 }
 
-fn report(told: &Told, sends: u64) -> [u64; ACT_WORDS] {
-    let [send, send_number] = told.send.map_or([0, 0], Message::words);
-    let (event, sends, delivered, code) = match told.event {
+fn report(answered: &Answered, sends: u64) -> [u64; ACT_WORDS] {
+    let [send, send_number] = answered.send.map_or([0, 0], Message::words);
+    let (event, sends, delivered, code) = match answered.event {
         Event::Nothing => (0, sends, 0, 0),
         Event::Delivered(number, code) => (1, sends, number, code),
         Event::Abandoned(made) => (2, made, 0, 0),
@@ -428,7 +428,7 @@ fn report(told: &Told, sends: u64) -> [u64; ACT_WORDS] {
         event,
         delivered,
         code,
-        told.block,
+        answered.block,
         0,
     ]
 }

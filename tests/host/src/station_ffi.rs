@@ -59,14 +59,14 @@ pub fn station_fresh(state: &mut [u64]) -> u64 {
 /// One of the station's acts; only a block takes the buffer.
 pub fn station_act(unit: &Unit, buffer: &mut [u8], state: &mut [u64], report: &mut [u64]) -> u64 {
     let (words, length) = (state.as_mut_ptr(), state.len());
-    let (told, told_words) = (report.as_mut_ptr(), report.len());
+    let (report_pointer, report_words) = (report.as_mut_ptr(), report.len());
     // SAFETY: each slice has memory of the length passed, and none overlaps another.
     unsafe {
         match *unit {
-            Unit::Opened => raw::gmv_station_open(words, length, told, told_words),
-            Unit::Bad => raw::gmv_station_bad(words, length, told, told_words),
-            Unit::Enquiry => raw::gmv_station_enquiry(words, length, told, told_words),
-            Unit::End => raw::gmv_station_end(words, length, told, told_words),
+            Unit::Opened => raw::gmv_station_open(words, length, report_pointer, report_words),
+            Unit::Bad => raw::gmv_station_bad(words, length, report_pointer, report_words),
+            Unit::Enquiry => raw::gmv_station_enquiry(words, length, report_pointer, report_words),
+            Unit::End => raw::gmv_station_end(words, length, report_pointer, report_words),
             Unit::Block {
                 number,
                 ending,
@@ -80,8 +80,8 @@ pub fn station_act(unit: &Unit, buffer: &mut [u8], state: &mut [u64], report: &m
                 buffer.len(),
                 words,
                 length,
-                told,
-                told_words,
+                report_pointer,
+                report_words,
             ),
         }
     }

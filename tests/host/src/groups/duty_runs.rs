@@ -76,7 +76,7 @@ impl Link {
         self.sends_and_decides()?;
         self.receiver_persists(Part::Both)?;
         self.replies()?;
-        self.hear()
+        self.takes_answer()
     }
 
     /// A circuit on which the exchange for -1 was made and the first transaction is named.
@@ -108,16 +108,16 @@ fn run_of_lines(link: &mut Link, duty: Duty) -> Outcome {
             link.back = [to_minus_one, to_one].concat();
             link.opens(1)?;
             link.loses()?;
-            link.hear()?;
+            link.takes_answer()?;
             link.loses()?;
-            link.hear()
+            link.takes_answer()
         }
         Duty::DropsReplies => {
-            link.receiving.owed.push_back(to_minus_one);
+            link.receiving.pending.push_back(to_minus_one);
             link.opens(1)?;
             link.loses()?;
             link.replies()?;
-            link.hear()?;
+            link.takes_answer()?;
             link.exchanges()
         }
         Duty::DropsVerdicts => {
@@ -134,7 +134,7 @@ fn run_of_lines(link: &mut Link, duty: Duty) -> Outcome {
             if !link.keeps(duty) {
                 link.back.extend(to_one);
             }
-            link.hear()
+            link.takes_answer()
         }
     }
 }
@@ -180,7 +180,7 @@ fn run_of_storing(link: &mut Link, duty: Duty) -> Outcome {
                 link.receiver_restores()?;
             }
             link.replies()?;
-            link.hear()
+            link.takes_answer()
         }
         Duty::PersistsAsOne => {
             link.sends_and_decides()?;

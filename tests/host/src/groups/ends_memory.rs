@@ -92,13 +92,13 @@ fn guarded_act(
     report.fill(77);
     let copied = moved(&act, &mut guarded.data, at_end);
     let found = ends_ffi::sender_act(&copied, state, report);
-    let (number, then, told) = match sender_model::act_on_words(&act, words, ACT_WORDS) {
+    let (number, then, reported) = match sender_model::act_on_words(&act, words, ACT_WORDS) {
         Acted::Unchanged(number) => (number, *words, [77; ACT_WORDS]),
-        Acted::Reported(number, then, told) => (number, then, told),
+        Acted::Reported(number, then, reported) => (number, then, reported),
     };
     same("number", &[found], &[number])
         .and_then(|()| same("state", state, &then))
-        .and_then(|()| same("report", report, &told))
+        .and_then(|()| same("report", report, &reported))
         .map_err(|why| format!("{}, state {words:?}: {why}", act_text(&act)))?;
     *words = then;
     Ok(())
@@ -161,9 +161,9 @@ impl Receiving {
         let (state, block) = ([self.expected], self.block(&self.message));
         match receiver_model::receive(&self.settings, 2, &state, &block, &memory) {
             Received::Refused(number) => (number, self.expected, [77; RECEIVED_WORDS], bytes),
-            Received::Taken(then, told, reply) => {
+            Received::Taken(then, reported, reply) => {
                 bytes[self.start..][..reply.len()].copy_from_slice(&reply);
-                (0, then, told, bytes)
+                (0, then, reported, bytes)
             }
         }
     }
@@ -181,10 +181,10 @@ fn guarded_receive(compare: &mut Compare, guarded: &mut GuardPages, at_end: bool
     buffer.fill(0xEE);
     let (settings, block) = (act.settings, act.block(data));
     let found = ends_ffi::receive(&settings, 2, state, &block, buffer, act.start, report);
-    let (number, then, told, bytes) = act.model();
+    let (number, then, reported, bytes) = act.model();
     same("number", &[found], &[number])
         .and_then(|()| same("state", state, &[then]))
-        .and_then(|()| same("report", report, &told))
+        .and_then(|()| same("report", report, &reported))
         .and_then(|()| same("buffer", buffer, &bytes))
         .map_err(|why| {
             let settings = library::settings_text(&settings);
@@ -207,9 +207,9 @@ fn guarded_control(compare: &mut Compare, guarded: &mut GuardPages, at_end: bool
     let report = guarded.report.words(2, at_end);
     report.fill(77);
     let found = ends_ffi::control_block(&settings, message_type, number, buffer, start, report);
-    let (expected, told, bytes) = control_model(&settings, number, length, start);
+    let (expected, reported, bytes) = control_model(&settings, number, length, start);
     same("number", &[found], &[expected])
-        .and_then(|()| same("report", report, &told))
+        .and_then(|()| same("report", report, &reported))
         .and_then(|()| same("buffer", buffer, &bytes))
         .map_err(|why| {
             let settings = library::settings_text(&settings);

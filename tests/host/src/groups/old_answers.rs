@@ -73,7 +73,7 @@ fn answered_late(link: &mut Link, random: &mut Random) -> Outcome {
     if !link.keeps(Duty::BringsNothingLate) {
         link.back.extend(answer);
     }
-    link.hear()?;
+    link.takes_answer()?;
     link.deliver_all(random)
 }
 
@@ -106,7 +106,7 @@ fn answered_at_once(link: &mut Link, old: &[Answer], random: &mut Random) -> Out
     link.open()?;
     for _ in old {
         write_and_lose(link)?;
-        link.hear()?;
+        link.takes_answer()?;
     }
     link.deliver_all(random)
 }

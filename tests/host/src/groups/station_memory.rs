@@ -76,18 +76,18 @@ fn guarded_act(
         buffer: space,
         report: STATION_REPORT_WORDS,
     };
-    let (number, then, told) = match station_model::act_on_words(unit, words, &lengths) {
+    let (number, then, reported) = match station_model::act_on_words(unit, words, &lengths) {
         Acted::Refused(number) => (number, *words, [77; STATION_REPORT_WORDS]),
-        Acted::Done(then, told, offset) => {
+        Acted::Done(then, reported, offset) => {
             if let Some(offset) = offset {
                 bytes[offset..][..text.len()].copy_from_slice(text);
             }
-            (0, then, told)
+            (0, then, reported)
         }
     };
     same("number", &[found], &[number])
         .and_then(|()| same("state", state, &then))
-        .and_then(|()| same("report", report, &told))
+        .and_then(|()| same("report", report, &reported))
         .and_then(|()| same("buffer", buffer, &bytes))
         .map_err(|why| format!("{}, state {words:?}: {why}", unit_text(unit)))?;
     *words = then;
