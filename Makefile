@@ -1,5 +1,5 @@
 # Two commands: `make` proves and builds all and lists a sample; `make test` is the gate.
-# `make setup` installs the Debian packages that are lacking; the gate does so too, and nothing else does.
+# `make setup` installs the Debian packages that are lacking; the gate does so too, and `make` itself as root.
 # `make bench` measures (PART=blocks, messages or acts: that part alone); `make fuzz` fuzzes for
 # FUZZ_SECONDS; `make clean` removes target/, which is all that is ever made here.
 
@@ -17,11 +17,11 @@ proved_sources := crates.txt $(shell find crates -type f \( -name '*.rt' -o -nam
 # The library and its header for a driver, and the tools, all proved; and the example driver.
 all: tools prove $(archive) $(header) $(driver) sample
 
-# What this needs is here; else it says what is lacking.
+# What this needs is here, or is installed as root; else it says what is lacking.
 tools:
-	@tests/setup --check build
+	@tests/setup build
 
-# The same of what the tests, the bench and the fuzzers need.
+# What the tests, the bench and the fuzzers need is here; else it says what is lacking.
 all_tools:
 	@tests/setup --check all
 
