@@ -8,7 +8,7 @@ use Prim.Native.Char.{code}
 use native.Mathlib.Omega.{arith}
 use lib.ListN.{length, take, getD}
 use lib.Dec.{leb, eqb}
-use borrow.Author.Tests.{le-leb, leb-true, eqb-true}
+use borrow.Author.Tests.{le-leb, leb-true, eq-eqb, eqb-true}
 use Rattle.lists.specs.Bytes.{same, over}
 use Rattle.lists.specs.Outcome.{Called}
 use Rattle.lists.proofs.Tests.{and-left, and-right}
@@ -34,7 +34,7 @@ use Rattle.sender.specs.declared.Sender.{Sender}
 use Rattle.sender.specs.declared.NumberedMessage.{NumberedMessage}
 use Rattle.sender.specs.declared.NumberedMessage.the-variants.{Nothing, Numbered}
 use Rattle.sender.specs.declared.Acted.{Acted}
-use Rattle.sender_calls.specs.SenderCalls.{flagWord, waitingOf, senderWords, sendWords, freshCall, submitCall}
+use Rattle.sender_calls.specs.SenderCalls.{flagWord, waitingOf, senderWords, sendWords, freshCall, openCall, submitCall}
 use Rattle.link.specs.Duties.{every, oneAt}
 use Rattle.link.specs.SenderActs.{actOf, fallsDue}
 use Rattle.link.specs.SenderHistory.{Entry, reported, countedOf}
@@ -50,13 +50,15 @@ use Rattle.link.proofs.Reports.{reports, sends-at-once, nothing-left, abandons-
 use Rattle.link.proofs.Delivery.{answer-moves}
 use Rattle.link.proofs.Facts.{not-both}
 use Rattle.link.proofs.Runs.{run-join}
-use Rattle.call_theorems.specs.Driver.{Passed, madeFrom, Named, SenderMemory, ReceiverMemory, Drivers, drivers, enoughToRead, enoughToSend, enoughToReceive, waitsWords, reportOf, DriverAct, afterDriver, drivenBy, DriversLeft, driversStart}
+use Rattle.call_theorems.specs.Driver.{Passed, madeFrom, Named, ReaderMemory, SenderMemory, ReceiverMemory, Drivers, drivers, enoughToRead, enoughToSend, enoughToReceive, waitsWords, reportOf, DriverAct, afterDriver, drivenBy, DriversLeft, driversStart}
 use Rattle.call_theorems.specs.Driver.{opens, ends, resets, timer, submits, stores, restores, receiverStores, receiverRestores, replies, sends, forgets, reads, takes, drops, receiverReads, receiverDrops}
 use Rattle.call_theorems.specs.Driver.{receives, replaces, receiverReplaces, tries, crashes, receiverCrashes, damagesForward, damagesBack}
 use Rattle.call_theorems.specs.Verdicts.{readerGives}
 use Rattle.call_theorems.specs.Reading.{Shown, shown}
 use Rattle.call_theorems.specs.DriversRun.{actsOf, linkRun}
-use Rattle.call_theorems.specs.DriversPromise.{Agrees, allGiven, DriversSafe, deliveredWord, lastWord, waitsWord, SenderCall, submitting, calledBy, actBy, Offered, abandonedWord, sendWordsOf, applies, messageNamed, sendsShown, Reported}
+use Rattle.call_theorems.specs.DriversPromise.{Agrees, allGiven, DriversSafe, deliveredWord, lastWord, waitsWord, SenderCall, opening, submitting, calledBy, actBy, Offered, abandonedWord, sendWordsOf, applies, messageNamed, sendsShown, Reported}
+use Rattle.call_theorems.specs.Apart.{ofSender, ofReceiver, allOf, withReceiver, opensApart}
+use Rattle.call_theorems.proofs.Apart.{apart-is, driven-join}
 use Rattle.call_theorems.proofs.Shows.{SameVerdict, Behind, Shows, waits-is, over-behind}
 use Rattle.call_theorems.proofs.Driving.{Goes, by-act, fresh-enough, opens-goes, ends-goes, resets-goes, timer-goes, submits-goes, stores-goes, restores-goes}
 use Rattle.call_theorems.proofs.Reporting.{Words, sends-shown, call-words, call-showed, call-number, waiting-back, call-taken, due-resends}
@@ -378,6 +380,35 @@ module _ (k : Passed) (ag : Agrees k) (rd : Ready (k .link)) where
           → (v : Shown) (vs : List Shown) → x .receiver .arrived ≡ v ∷ vs
           → receiveCall (linkOf (madeFrom (k .numbers))) application (x .receiver .memory .state) (v .number) (v .type) (v .content) (x .receiver .memory .reply) start (x .receiver .memory .report) .number ≡ 0
       calls-receive = block-taken k ag rd (drivenBy k begun ds) (linkEnd ds) (standing ds) (calls-run ds)
+
+      -- ---- the two drivers change circuit at different moments
+      module _ (r q : ReaderMemory) (readable : (enoughToRead g r && enoughToRead g q) ≡ true) (closed : waitsWord st ≡ 0) (ss rs : List DriverAct) (own : allOf ofSender ss ≡ true)
+          (others : allOf ofReceiver rs ≡ true) where
+        opening-done : eqb (openCall (x .sender .memory .state) (x .sender .memory .report) .number) 0 ≡ true
+        opening-done = eq-eqb (openCall (x .sender .memory .state) (x .sender .memory .report) .number) 0 (calls-taken opening refl (eq-eqb (waitsWord st) 0 closed))
+
+        -- when the receiver's has gone over too
+        pub calls-apart : DriversSafe l (opensApart k r q x ss rs)
+        calls-apart =
+            subst (DriversSafe l) (sym (apart-is k r q (drivenBy k begun ds) readable opening-done ss rs own others ∙ driven-join k begun ds (ss ++ opens r q ∷ rs))) (calls-safe ((ss ++ opens r q ∷ rs) ++ ds))
+
+        -- and before it has
+        pub calls-meanwhile : DriversSafe l (withReceiver (drivenBy k x rs .receiver) (drivenBy k (afterDriver k (opens r q) x) ss))
+        calls-meanwhile =
+            let f = calls-apart in
+            record {
+              held = f .held;
+              stored = f .stored;
+              has = f .has;
+              stored-has = f .stored-has;
+              covers = f .covers;
+              covers-stored = f .covers-stored;
+              stored-covers = f .stored-covers;
+              stored-covers-stored = f .stored-covers-stored;
+              submitted = f .submitted;
+              unfrozen = f .unfrozen;
+              stored-unfrozen = f .stored-unfrozen;
+            }
 
       -- "An intact answer to the waiting transaction, read before that, moves the mark.": the driver acts on an accepted data block whose MSA-2 is the number of the transaction that waits
       module _ (i : ℕ) (v : Shown) (vs : List Shown) (shows : oneAt i (x .sender .arrived) ≡ v ∷ vs) (accepted : v .number ≡ 0) (kind : v .type ≡ code "D") (waits : waitsWord st ≡ 4)

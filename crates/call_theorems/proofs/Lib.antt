@@ -10,5 +10,6 @@ pub mod Writing
 pub mod Reporting
 pub mod SenderDriving
 pub mod ReceiverDriving
+pub mod Apart
 pub mod Demand
 pub mod DriversExample

@@ -3,3 +3,4 @@ pub mod Reading
 pub mod Driver
 pub mod DriversRun
 pub mod DriversPromise
+pub mod Apart
