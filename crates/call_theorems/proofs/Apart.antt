@@ -9,7 +9,7 @@ use Rattle.lists.specs.Bytes.{same}
 use Rattle.lists.specs.Outcome.{Called}
 use Rattle.lists.proofs.Tests.{and-left, and-right}
 use Rattle.settings.specs.Settings.{linkOf}
-use Rattle.receiver_calls.specs.ReceiverCalls.{receiveCall}
+use Rattle.receiver.specs.ReceiverCalls.{receiveCall}
 use Rattle.sender_calls.specs.SenderCalls.{openCall}
 use Rattle.link.specs.Duties.{oneAt, othersAt}
 use Rattle.link.specs.Line.{Line, damages, disorders}

@@ -27,8 +27,8 @@ use Rattle.receiver.specs.Receiver.{replySpace, validExpected}
 use Rattle.receiver.specs.declared.Application.{Application}
 use Rattle.receiver.specs.declared.Expected.{Expected}
 use Rattle.receiver.specs.declared.Expected.the-variants.{Unknown, Next}
-use Rattle.receiver_calls.specs.ReceiverCalls.{expectedWord, expectedFrom, applicationFrom, receiveCall}
-use Rattle.receiver_calls.specs.declared.ApplicationMade.the-variants.{Known}
+use Rattle.receiver.specs.ReceiverCalls.{expectedWord, expectedFrom, applicationFrom, receiveCall}
+use Rattle.receiver.specs.declared.ApplicationMade.the-variants.{Known}
 use Rattle.sender.specs.Sender.{validSender, waitsOf, freshSender, senderOf}
 use Rattle.sender.specs.declared.Sender.{Sender}
 use Rattle.sender.specs.declared.NumberedMessage.{NumberedMessage}

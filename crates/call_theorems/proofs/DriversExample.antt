@@ -33,7 +33,7 @@ use Rattle.block_calls.specs.ReadCalls.{freshReaderCall, readCall}
 use Rattle.block_calls.specs.WriteCalls.{writeCall}
 use Rattle.message_calls.specs.ControlCalls.{controlBlockCall}
 use Rattle.sender_calls.specs.SenderCalls.{senderIn, freshCall, openCall, endedCall, timerCall, blockCall, submitCall}
-use Rattle.receiver_calls.specs.ReceiverCalls.{receiveCall}
+use Rattle.receiver.specs.ReceiverCalls.{receiveCall}
 use Rattle.link.specs.Duties.{oneAt, othersAt}
 use Rattle.link.specs.Line.{acceptedOf, someOf, oneOf, eachOf}
 use Rattle.link.specs.Example.{exampleLog, exampleLink}

@@ -25,10 +25,10 @@ use Rattle.receiver.specs.declared.Expected.the-variants.{Unknown, Next}
 use Rattle.receiver.specs.declared.Transaction.{Transaction}
 use Rattle.receiver.specs.declared.Transaction.the-variants.{NoTransaction, Numbered}
 use Rattle.receiver.specs.declared.Received.{Received}
-use Rattle.receiver_calls.specs.ReceiverCalls.{expectedWord, expectedFrom, applicationFrom, transactionWord, receivedWords, finished, receiveWith, receiveCall}
-use Rattle.receiver_calls.specs.declared.ApplicationMade.{ApplicationMade}
-use Rattle.receiver_calls.specs.declared.ApplicationMade.the-variants.{Unknown as NoApplication, Known as AnApplication}
-use Rattle.receiver_calls.proofs.ReadBack.{expected-back}
+use Rattle.receiver.specs.ReceiverCalls.{expectedWord, expectedFrom, applicationFrom, transactionWord, receivedWords, finished, receiveWith, receiveCall}
+use Rattle.receiver.specs.declared.ApplicationMade.{ApplicationMade}
+use Rattle.receiver.specs.declared.ApplicationMade.the-variants.{Unknown as NoApplication, Known as AnApplication}
+use Rattle.receiver.proofs.ReadBack.{expected-back}
 use Rattle.words.specs.Words.{verdictFrom}
 use Rattle.words.specs.declared.VerdictMade.{VerdictMade}
 use Rattle.link.specs.Duties.{every, oneAt, othersAt}

@@ -24,7 +24,7 @@ use Rattle.sender.specs.declared.Event.{Event}
 use Rattle.sender.specs.declared.Event.the-variants.{NoEvent, Delivered, DeliveredUnknown, Abandoned, Froze, Dropped}
 use Rattle.sender.specs.declared.Acted.{Acted}
 use Rattle.sender_calls.specs.SenderCalls.{waitingWord, persistedWords, senderWords, sendWords, eventWords, actWords}
-use Rattle.receiver_calls.specs.ReceiverCalls.{expectedWord}
+use Rattle.receiver.specs.ReceiverCalls.{expectedWord}
 use Rattle.link.specs.SenderHistory.{Entry, reported, crashed}
 use Rattle.link.specs.Line.{Line}
 use Rattle.link.specs.System.{Link, System, SendingEnd, ReceivingEnd, sendsOf, namedAfter, actedEnd}

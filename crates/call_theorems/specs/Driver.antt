@@ -16,7 +16,7 @@ use Rattle.block_calls.specs.WriteCalls.{writeCall}
 use Rattle.message_calls.specs.MessageCalls.{minusOne}
 use Rattle.message_calls.specs.ControlCalls.{controlBlockCall}
 use Rattle.sender_calls.specs.SenderCalls.{freshCall, openCall, endedCall, resetCall, timerCall, blockCall, submitCall}
-use Rattle.receiver_calls.specs.ReceiverCalls.{receiveCall}
+use Rattle.receiver.specs.ReceiverCalls.{receiveCall}
 use Rattle.link.specs.Duties.{oneAt, othersAt}
 use Rattle.link.specs.Line.{Reader, Line, line, newReader, emptyLine, readerAfter, damages, disorders}
 use Rattle.link.specs.System.{Link}

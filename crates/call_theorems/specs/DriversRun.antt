@@ -6,9 +6,9 @@ use lib.ListN.{length, take}
 use lib.Dec.{eqb}
 use Rattle.lists.specs.Bytes.{same}
 use Rattle.lists.specs.Outcome.{Called}
-use Rattle.receiver_calls.specs.ReceiverCalls.{applicationFrom}
-use Rattle.receiver_calls.specs.declared.ApplicationMade.{ApplicationMade}
-use Rattle.receiver_calls.specs.declared.ApplicationMade.the-variants.{Unknown, Known}
+use Rattle.receiver.specs.ReceiverCalls.{applicationFrom}
+use Rattle.receiver.specs.declared.ApplicationMade.{ApplicationMade}
+use Rattle.receiver.specs.declared.ApplicationMade.the-variants.{Unknown, Known}
 use Rattle.link.specs.System.{SystemAct, opens as linkOpens, ends as linkEnds, resets as linkResets, timer as linkTimer, submits as linkSubmits, senderPersists, senderWrites, senderForgets, senderReads}
 use Rattle.link.specs.System.{senderActs, senderDiscards, senderRestores, senderCrashes, receiverReads as linkReceiverReads, receiverActs, receiverDiscards, receiverPersists, receiverWrites}
 use Rattle.link.specs.System.{receiverRestores as linkReceiverRestores, receiverCrashes as linkReceiverCrashes, damagesForward as linkDamagesForward, damagesBack as linkDamagesBack}

@@ -2,10 +2,6 @@
 // f + 1 first. A line for each: what was tried, and what came.
 use crate::print::print_number;
 use crate::print::print_text;
-use receiver::Application;
-use receiver::Expected;
-use receiver::Transaction;
-use refusal::Verdict;
 use sender::Sender;
 use sender::SenderMade;
 use sender::SenderSettings;
@@ -14,6 +10,8 @@ use settings::Made;
 use settings::Settings;
 
 const DATA_LIMIT: usize = 128;
+// The application accepts what is due.
+const CODE_AA: u64 = 1;
 // Where the MSA segment of a reply to a control ID of 15 bytes stands, without its CR.
 const MSA_START: usize = 48;
 
@@ -30,42 +28,38 @@ const TRANSACTION_GREATEST: [u8; 59] =
 
 const ONE_MORE: [u8; 59] = *b"MSH|^~\\&|||||||ADT|999999999999999|P|2.3.1|999999999999999\r";
 
-fn print_transaction(transaction: Transaction) {
-    match transaction {
-        Transaction::NoTransaction => print_text(b" none"),
-        Transaction::Numbered(n) => print_number(n),
+// A word that is 0 where there is no number.
+fn print_word(word: u64) {
+    if word == 0 {
+        print_text(b" none");
+        return;
     }
-}
-
-fn print_expected(expected: Expected) {
-    match expected {
-        Expected::Unknown => print_text(b" none"),
-        Expected::Next(n) => print_number(n),
-    }
+    print_number(word);
 }
 
 // The act's number, the transaction to persist, the expected number then, and the end of the answer: MSA-1 to MSA-4.
-fn print_received(settings: Settings, expected: Expected, content: &[u8]) -> Expected {
+fn print_received(made: Made, expected: u64, content: &[u8]) -> u64 {
+    let mut state = [expected];
+    let mut report = [0u64; 3];
     let mut buffer = [0u8; DATA_LIMIT + 15];
-    let received = receiver::receive(
-        settings,
-        Application::Accepts,
-        expected,
-        Verdict::Accepted(b'D', content.len()),
+    let number = receiver::received_words(
+        made,
+        CODE_AA,
+        &mut state,
+        0,
+        b'D' as u64,
         content,
         &mut buffer,
         0,
+        &mut report,
     );
-    let persisted = received.persisted;
-    let then = persisted.expected;
-    let transaction = persisted.transaction;
-    print_number(received.refusal);
-    print_transaction(transaction);
-    print_expected(then);
+    print_number(number);
+    print_word(report[0]);
+    print_word(state[0]);
     print_text(b" ");
     print_acknowledgment(&buffer);
     print_text(b"\n");
-    then
+    state[0]
 }
 
 fn print_acknowledgment(reply: &[u8]) {
@@ -74,11 +68,11 @@ fn print_acknowledgment(reply: &[u8]) {
     }
 }
 
-fn run_receiver(settings: Settings) {
+fn run_receiver(made: Made) {
     print_text(b"received 999999999999998:");
-    let expected = print_received(settings, Expected::Unknown, &TRANSACTION_GREATEST);
+    let expected = print_received(made, 0, &TRANSACTION_GREATEST);
     print_text(b"received one more:");
-    let unused = print_received(settings, expected, &ONE_MORE);
+    let unused = print_received(made, expected, &ONE_MORE);
 }
 
 // The act's number and the last number submitted then.
@@ -115,10 +109,7 @@ pub(crate) fn run() {
         Settings::END_BLOCK as u64,
         DATA_LIMIT as u64,
     );
-    let Made::Valid(settings) = made else {
-        return;
-    };
-    run_receiver(settings);
+    run_receiver(made);
     print_text(b"first number 999999999999998, submitted 999999999999998:");
     run_first(GREATEST, &TRANSACTION_GREATEST, &ONE_MORE);
     print_text(b"first number 999999999999999:");

@@ -1,5 +1,6 @@
 // The sender's control blocks.
-use settings::Settings;
+use crate::unchecked::unchecked_hybrid;
+use crate::unchecked::unchecked_minimal;
 ghost use mathlib.Core.Path.{_≡_};
 ghost use mathlib.Core.List.{[]};
 ghost use Rattle.lists.specs.Outcome.{called};
@@ -20,7 +21,7 @@ pub extern "C" fn gmv_hybrid_control_block(
     ensures { λ r. ⌜ called r [] (now (buffer .exit)) (now (report .exit)) ≡ controlBlockCall (hybridLink «start_block» «end_block» «data_limit») (now (letters .entry)) number (now (buffer .entry)) start (now (report .entry)) ⌝ }
 {
     message_calls::control_block_words(
-        Settings::hybrid_link(start_block, end_block, data_limit),
+        unchecked_hybrid(start_block, end_block, data_limit),
         letters,
         number,
         buffer,
@@ -41,7 +42,7 @@ pub extern "C" fn gmv_minimal_control_block(
     ensures { λ r. ⌜ called r [] (now (buffer .exit)) (now (report .exit)) ≡ controlBlockCall (minimalLink «data_limit») (now (letters .entry)) number (now (buffer .entry)) start (now (report .entry)) ⌝ }
 {
     message_calls::control_block_words(
-        Settings::minimal_link(data_limit),
+        unchecked_minimal(data_limit),
         letters,
         number,
         buffer,

@@ -1,12 +1,13 @@
 // The C functions (include/giamuvich.h): plain numbers, byte slices and words that the driver lends. Each makes the settings
-// where it has any, and calls the function of the same act in the crate of its layer's calls.
+// where it has any, and calls the function of the same act in the crate of its layer or of its calls.
 mod blocks;
 mod control;
 mod fields;
 mod messages;
-mod receiver;
+mod receiver_acts;
 mod sender;
 mod station;
+mod unchecked;
 mod version;
 
 pub use blocks::gmv_hybrid_check;
@@ -23,9 +24,9 @@ pub use messages::gmv_answer_read;
 pub use messages::gmv_answer_write;
 pub use messages::gmv_control_write;
 pub use messages::gmv_header_read;
-pub use receiver::gmv_hybrid_receive;
-pub use receiver::gmv_minimal_receive;
-pub use receiver::gmv_receiver_fresh;
+pub use receiver_acts::gmv_hybrid_receive;
+pub use receiver_acts::gmv_minimal_receive;
+pub use receiver_acts::gmv_receiver_fresh;
 pub use sender::gmv_sender_block;
 pub use sender::gmv_sender_ended;
 pub use sender::gmv_sender_fresh;

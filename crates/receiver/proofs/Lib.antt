@@ -1,2 +1,4 @@
 pub mod Laws
 pub mod Replying
+pub mod CallLaws
+pub mod ReadBack

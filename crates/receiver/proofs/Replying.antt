@@ -82,10 +82,6 @@ unfolding validLink
 link-limit g h = valid-limit g (and-left (valid g) (leb 128 (g .«data_limit»)) h)
 
 module _ (g : Settings) (a : Application) (s : Expected) (v : Verdict) (d : List ℕ) (start : ℕ) (b : List ℕ) where
-  pub receive-setting : validLink g ≡ false → refused 1 s b ≡ receiveOf g a s v d start b
-  unfolding receiveOf
-  receive-setting h = rw h
-
   module _ (h : validLink g ≡ true) where
     pub receive-short : leb (start + replySpace g) (length b) ≡ false → refused 2 s b ≡ receiveOf g a s v d start b
     unfolding receiveOf

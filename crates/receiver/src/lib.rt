@@ -1,12 +1,16 @@
-// The receiver of sequence numbers: what it decides on a block, what must be persisted, and the reply block.
+// The receiver of sequence numbers: what it decides on a block, what must be persisted, and the reply block; and what its C
+// functions do, on slices and settings that are made: the words are looked at, and the answer is written into the words.
 mod deciding;
+mod inputs;
+mod receive_words;
 mod receiving;
 mod table;
 
 use fields::Field;
 use header::Code;
 use numbers::SequenceNumber;
-pub use receiving::receive;
+pub use receive_words::fresh_receiver_words;
+pub use receive_words::received_words;
 
 // The stored state: none (document 01: NONE), or the expected sequence number.
 pub enum Expected {
@@ -18,6 +22,12 @@ pub enum Expected {
 pub enum Application {
     Accepts,
     Errs,
+}
+
+// What a number from C stands for.
+pub enum ApplicationMade {
+    Unknown,
+    Known(Application),
 }
 
 // A transaction that is to be persisted.

@@ -161,7 +161,7 @@ fn reply(
 
 // The act on a block that the reader accepted or refused: its verdict, and the data of an accepted one. The reply is written
 // into the buffer from an offset on; what the answer says must be persisted before it goes out.
-pub fn receive(
+pub(crate) fn receive(
     settings: Settings,
     application: Application,
     expected: Expected,
@@ -170,11 +170,9 @@ pub fn receive(
     buffer: &mut [u8],
     start: usize,
 ) -> Received
+    requires { ⌜ validLink settings ≡ true ⌝ }
     ensures { λ r. ⌜ outcome r (now (buffer .exit)) ≡ receiveOf settings application expected verdict (now (content .entry)) start (now (buffer .entry)) ⌝ }
 {
-    if !settings.is_link() {
-        return nothing_new(refusal::SETTING, 0, expected, 0);
-    }
     if !is_long_enough(settings, buffer.len(), start) {
         return nothing_new(refusal::TOO_SHORT, 0, expected, 0);
     }

@@ -11,7 +11,6 @@ pub mod Messages
 pub mod Numbers
 pub mod Once
 pub mod Receiver
-pub mod ReceiverCalls
 pub mod Refusal
 pub mod Sender
 pub mod SenderCalls

@@ -2,9 +2,14 @@
 use borrow.Author.Needs.{needs}
 use Rattle.giamuvich.proofs.control.gmv_hybrid_control_block.Statement.{statement}
 use Rattle.giamuvich.proofs.control.gmv_hybrid_control_block.Tie as tie
+use mathlib.Core.Path.{_∙_}
+use Rattle.settings.specs.declared.Made.{Made}
+use Rattle.message_calls.specs.ControlCalls.{controlBlockCall}
+use Rattle.message_calls.proofs.ControlLaws.{call-refuses}
+use Rattle.giamuvich.proofs.Laws.{hybrid-passed}
 
-hybrid-link-requires : tie.Need-hybrid-link-requires
-hybrid-link-requires c κs = search needs
+unchecked-hybrid-requires : tie.Need-unchecked-hybrid-requires
+unchecked-hybrid-requires c κs = search needs
 
 control-block-words-requires : tie.Need-control-block-words-requires
 control-block-words-requires c κs = search needs
@@ -17,11 +22,14 @@ same-length-2 c = search needs
 
 returns : tie.Need-returns
 returns c =
-    let at-control-block-words = c .before .before .before .before in
-    let at-hybrid-link = at-control-block-words .before .before .before in
-    rw (at-hybrid-link .hybrid-link .ensures) at (at-control-block-words .control-block-words .ensures)
+    let words = c .before .before .before .before in
+    let unchecked = words .before .before .before in
+    let a = unchecked .before .before .before .before .args in
+    (rw (unchecked .unchecked-hybrid .ensures) at (words .control-block-words .ensures))
+    ∙ hybrid-passed (λ (m : Made). controlBlockCall m (a .letters .now) (a .number) (a .buffer .now) (a .start) (a .report .now))
+    (call-refuses (a .letters .now) (a .number) (a .buffer .now) (a .start) (a .report .now)) (a .start-block) (a .end-block) (a .data-limit)
 
 pub gmv-hybrid-control-block-spec : {M : Type 1} → statement M
 gmv-hybrid-control-block-spec =
     tie.close
-    (tie.spec hybrid-link-requires control-block-words-requires same-length same-length-2 returns)
+    (tie.spec unchecked-hybrid-requires control-block-words-requires same-length same-length-2 returns)

@@ -5,55 +5,41 @@ use mathlib.Core.Path.{sym, ap, _∙_}
 use Rattle.receiver.specs.Receiver.{repliedOf}
 use Rattle.receiver.specs.declared.Decision.{Decision}
 use Rattle.receiver.proofs.Laws.{possible}
-use Rattle.receiver.proofs.Replying.{receive-setting, receive-short, receive-state, receive-replied, linked}
+use Rattle.receiver.proofs.Replying.{receive-short, receive-state, receive-replied, linked}
 use Rattle.receiver.proofs.receiving.receive.Statement.{statement}
 use Rattle.receiver.proofs.receiving.receive.Tie as tie
 
-is-link-requires : tie.Need-is-link-requires
-is-link-requires c κs = search needs
+is-long-enough-requires : tie.Need-is-long-enough-requires
+is-long-enough-requires c κs = c .before .before .pre
 
 nothing-new-requires : tie.Need-nothing-new-requires
 nothing-new-requires c κs = search needs
 
 returns : tie.Need-returns
 returns c =
-    let link = c .before .before in
-    let a = link .before .before .before .args in
+    let long = c .before .before in
+    let begun = long .before .before .before in
+    let a = begun .args in
     rw (c .nothing-new .ensures)
-    (receive-setting (a .settings) (a .application) (a .expected) (a .verdict) (a .content .now) (a .start) (a .buffer .now)
-    (sym (link .is-link .ensures) ∙ not-true _ (c .before .if1 .taken)))
+    (receive-short (a .settings) (a .application) (a .expected) (a .verdict) (a .content .now) (a .start) (a .buffer .now)
+    (begun .pre) (sym (long .is-long-enough .ensures) ∙ not-true _ (c .before .if1 .taken)))
 
-is-long-enough-requires : tie.Need-is-long-enough-requires
-is-long-enough-requires c κs = sym (c .before .is-link .ensures) ∙ not-false _ (c .if1 .left)
+is-expected-requires : tie.Need-is-expected-requires
+is-expected-requires c κs = search needs
 
 nothing-new-requires-2 : tie.Need-nothing-new-requires-2
 nothing-new-requires-2 c κs = search needs
 
 returns-2 : tie.Need-returns-2
 returns-2 c =
-    let long = c .before .before in
-    let link = long .before .before in
-    let a = link .before .before .before .args in
-    rw (c .nothing-new2 .ensures)
-    (receive-short (a .settings) (a .application) (a .expected) (a .verdict) (a .content .now) (a .start) (a .buffer .now)
-    (sym (link .is-link .ensures) ∙ not-false _ (long .before .if1 .left)) (sym (long .is-long-enough .ensures) ∙ not-true _ (c .before .if2 .taken)))
-
-is-expected-requires : tie.Need-is-expected-requires
-is-expected-requires c κs = search needs
-
-nothing-new-requires-3 : tie.Need-nothing-new-requires-3
-nothing-new-requires-3 c κs = search needs
-
-returns-3 : tie.Need-returns-3
-returns-3 c =
     let expected = c .before .before in
     let long = expected .before .before in
-    let link = long .before .before in
-    let a = link .before .before .before .args in
-    rw (c .nothing-new3 .ensures)
+    let begun = long .before .before .before in
+    let a = begun .args in
+    rw (c .nothing-new2 .ensures)
     (receive-state (a .settings) (a .application) (a .expected) (a .verdict) (a .content .now) (a .start) (a .buffer .now)
-    (sym (link .is-link .ensures) ∙ not-false _ (long .before .if1 .left)) (sym (long .is-long-enough .ensures) ∙ not-false _ (expected .before .if2 .left))
-    (sym (expected .is-expected .ensures) ∙ not-true _ (c .before .if3 .taken)))
+    (begun .pre) (sym (long .is-long-enough .ensures) ∙ not-false _ (expected .before .if1 .left))
+    (sym (expected .is-expected .ensures) ∙ not-true _ (c .before .if2 .taken)))
 
 decide-requires : tie.Need-decide-requires
 decide-requires c κs = search needs
@@ -63,45 +49,42 @@ reply-requires c κs =
     let decided = c .before in
     let expected = decided .before .before in
     let long = expected .before .before in
-    let link = long .before .before in
-    let a = link .before .before .before .args in
+    let begun = long .before .before .before in
+    let a = begun .args in
     let ready = linked (a .settings) (a .application) (a .expected) (a .verdict) (a .content .now) (a .start) (a .buffer .now)
-    (sym (link .is-link .ensures) ∙ not-false _ (long .before .if1 .left)) (sym (long .is-long-enough .ensures) ∙ not-false _ (expected .before .if2 .left)) in
+    (begun .pre) (sym (long .is-long-enough .ensures) ∙ not-false _ (expected .before .if1 .left)) in
     let able = possible (a .settings .kind) (a .application) (a .expected) (a .content .now) (a .verdict)
-    (sym (expected .is-expected .ensures) ∙ not-false _ (decided .before .if3 .left)) in
+    (sym (expected .is-expected .ensures) ∙ not-false _ (decided .before .if2 .left)) in
     (ready, rw (decided .decide .ensures) able)
 
 same-length : tie.Need-same-length
 same-length c = search needs
 
-returns-4 : tie.Need-returns-4
-returns-4 c =
+returns-3 : tie.Need-returns-3
+returns-3 c =
     let replied = c .before .before in
     let decided = replied .before .before in
     let expected = decided .before .before in
     let long = expected .before .before in
-    let link = long .before .before in
-    let a = link .before .before .before .args in
+    let begun = long .before .before .before in
+    let a = begun .args in
     replied .reply .ensures
     ∙ ap (λ (z : Decision). repliedOf (a .settings) (a .expected) (a .content .now) (a .start) (a .buffer .now) z) (decided .decide .ensures)
     ∙ receive-replied (a .settings) (a .application) (a .expected) (a .verdict) (a .content .now) (a .start) (a .buffer .now)
-    (sym (link .is-link .ensures) ∙ not-false _ (long .before .if1 .left)) (sym (long .is-long-enough .ensures) ∙ not-false _ (expected .before .if2 .left))
-    (sym (expected .is-expected .ensures) ∙ not-false _ (decided .before .if3 .left))
+    (begun .pre) (sym (long .is-long-enough .ensures) ∙ not-false _ (expected .before .if1 .left))
+    (sym (expected .is-expected .ensures) ∙ not-false _ (decided .before .if2 .left))
 
 pub receive-spec : {M : Type 1} → statement M
 receive-spec =
     tie.close
     (tie.spec
-    is-link-requires
+    is-long-enough-requires
     nothing-new-requires
     returns
-    is-long-enough-requires
+    is-expected-requires
     nothing-new-requires-2
     returns-2
-    is-expected-requires
-    nothing-new-requires-3
-    returns-3
     decide-requires
     reply-requires
     same-length
-    returns-4)
+    returns-3)

@@ -13,15 +13,15 @@ use Rattle.refusal.specs.Refusal.{SETTING, TOO-SHORT}
 use Rattle.words.specs.Words.{verdictFrom}
 use Rattle.words.specs.declared.VerdictMade.{VerdictMade}
 use Rattle.words.specs.declared.VerdictMade.the-variants.{Unknown as UnknownVerdict, Known as KnownVerdict}
 use Rattle.receiver.specs.Receiver.{receiveOf}
 use Rattle.receiver.specs.declared.Application.the-variants.{Accepts, Errs}
 use Rattle.receiver.specs.declared.Expected.{Expected}
 use Rattle.receiver.specs.declared.Expected.the-variants.{Unknown as NoneExpected, Next}
 use Rattle.receiver.specs.declared.Transaction.{Transaction}
 use Rattle.receiver.specs.declared.Transaction.the-variants.{NoTransaction, Numbered}
 use Rattle.receiver.specs.declared.Received.{Received}
-use Rattle.receiver_calls.specs.declared.ApplicationMade.{ApplicationMade}
-use Rattle.receiver_calls.specs.declared.ApplicationMade.the-variants.{Unknown, Known}
+use Rattle.receiver.specs.declared.ApplicationMade.{ApplicationMade}
+use Rattle.receiver.specs.declared.ApplicationMade.the-variants.{Unknown, Known}
 
 -- GMV_RECEIVER_EXPECTED: 0 is none
 abbrev pub expectedWord : Expected → ℕ

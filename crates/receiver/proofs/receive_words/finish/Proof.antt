@@ -1,11 +1,11 @@
--- `receiver_calls::receive_words::finish` meets its contract.
+-- `receiver::receive_words::finish` meets its contract.
 use borrow.Author.Needs.{needs}
-use Rattle.receiver_calls.proofs.receive_words.finish.Statement.{statement}
-use Rattle.receiver_calls.proofs.receive_words.finish.Tie as tie
+use Rattle.receiver.proofs.receive_words.finish.Statement.{statement}
+use Rattle.receiver.proofs.receive_words.finish.Tie as tie
 use native.Mathlib.Omega.{arith}
 use lib.ListN.{length-set}
 use borrow.Author.Tests.{eq-eqb, ne-eqb}
-use Rattle.receiver_calls.proofs.Laws.{finish-refused, finish-written}
+use Rattle.receiver.proofs.CallLaws.{finish-refused, finish-written}
 
 returns : tie.Need-returns
 returns c =

@@ -1,10 +1,11 @@
 // The receiver's acts on words.
 use crate::ApplicationMade;
+use crate::Received;
 use crate::inputs::application_from;
 use crate::inputs::expected_from;
 use crate::inputs::expected_word;
 use crate::inputs::transaction_word;
-use receiver::Received;
+use crate::receiving::receive;
 use settings::Made;
 use words::VerdictMade;
 ghost use mathlib.Core.Path.{_≡_};
@@ -12,7 +13,7 @@ ghost use mathlib.Core.List.{[]};
 ghost use Prim.Native.Nat.{_≤_};
 ghost use lib.ListN.{length};
 ghost use Rattle.lists.specs.Outcome.{outcome, called};
-ghost use Rattle.receiver_calls.specs.ReceiverCalls.{freshCall, finished, receiveCall};
+ghost use Rattle.receiver.specs.ReceiverCalls.{freshCall, finished, receiveCall};
 
 // No number expected.
 pub fn fresh_receiver_words(state: &mut [u64]) -> u64
@@ -44,7 +45,8 @@ fn finish(received: Received, state: &mut [u64], report: &mut [u64]) -> u64
     0
 }
 
-// The receiver's act on a block, for a link's settings.
+// The receiver's act on a block, for a link's settings. They are looked at here, whoever made them (1 comes before 2), and again
+// by the writer where there is a reply. So a C function makes them and does not look.
 pub fn received_words(
     made: Made,
     application: u64,
@@ -67,15 +69,16 @@ pub fn received_words(
     let VerdictMade::Known(verdict) = words::verdict_from(number, t) else {
         return refusal::SETTING;
     };
-    let enough = (1 <= state.len()) & (3 <= report.len());
-    if !enough {
-        return words::refuse_short(settings.is_link());
+    if !settings.is_link() {
+        return refusal::SETTING;
     }
-    let expected = expected_from(state[0]);
-    let received = receiver::receive(
+    if !((1 <= state.len()) & (3 <= report.len())) {
+        return refusal::TOO_SHORT;
+    }
+    let received = receive(
         settings,
         application_verdict,
-        expected,
+        expected_from(state[0]),
         verdict,
         content,
         buffer,

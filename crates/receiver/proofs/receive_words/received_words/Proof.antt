@@ -1,13 +1,13 @@
--- `receiver_calls::receive_words::received_words` meets its contract.
+-- `receiver::receive_words::received_words` meets its contract.
 use borrow.Author.Needs.{needs}
 use Rattle.lists.proofs.Calls.{state-words, report-words}
-use Rattle.receiver_calls.proofs.receive_words.received_words.Statement.{statement}
-use Rattle.receiver_calls.proofs.receive_words.received_words.Tie as tie
+use Rattle.receiver.proofs.receive_words.received_words.Statement.{statement}
+use Rattle.receiver.proofs.receive_words.received_words.Tie as tie
 use mathlib.Core.Path.{refl, sym, ap, _∙_}
 use borrow.Author.Tests.{not-true, not-false}
 use Rattle.receiver.specs.Receiver.{receiveOf}
 use Rattle.receiver.specs.declared.Expected.{Expected}
-use Rattle.receiver_calls.proofs.Laws.{done, call-as, call-short, call-done}
+use Rattle.receiver.proofs.CallLaws.{done, call-as, call-setting, call-short, call-done}
 
 enum-known-made : tie.Need-enum-known-made
 enum-known-made c = search needs
@@ -61,41 +61,59 @@ returns-3 c =
 is-link-requires : tie.Need-is-link-requires
 is-link-requires c κs = search needs
 
-refuse-short-requires : tie.Need-refuse-short-requires
-refuse-short-requires c κs = search needs
-
 returns-4 : tie.Need-returns-4
 returns-4 c =
-    let tested = c .before .before in
-    let judged = tested .before .before in
+    let link = c .before in
+    let judged = link .before .before in
     let verdict = judged .before .before in
     let chosen = verdict .before .before in
     let application = chosen .before .before in
     let made = application .before .before in
     let a = made .before .before .before .before .before .before .args in
-    rw (c .refuse-short .ensures, c .before .is-link .ensures)
-    (call-short (a .state .now) (a .content .now) (a .buffer .now) (a .start) (a .report .now) (made .made .given .0 .0)
-    (chosen .application-verdict .given .0 .0) (judged .verdict .given .0 .0) (not-true _ (tested .if1 .taken))
+    call-setting (a .state .now) (a .content .now) (a .buffer .now) (a .start) (a .report .now) (made .made .given .0 .0)
+    (chosen .application-verdict .given .0 .0) (judged .verdict .given .0 .0) (sym (link .is-link .ensures) ∙ not-true _ (c .if1 .taken))
     ∙ call-as (a .state .now) (a .content .now) (a .buffer .now) (a .start) (a .report .now) (a .made) (a .application) (a .number) (a .t) _ _ _
     (made .made .given .1) (sym (application .application-from .ensures) ∙ chosen .application-verdict .given .1)
-    (sym (verdict .verdict-from .ensures) ∙ judged .verdict .given .1))
+    (sym (verdict .verdict-from .ensures) ∙ judged .verdict .given .1)
+
+returns-5 : tie.Need-returns-5
+returns-5 c =
+    let looked = c .before in
+    let link = looked .before in
+    let judged = link .before .before in
+    let verdict = judged .before .before in
+    let chosen = verdict .before .before in
+    let application = chosen .before .before in
+    let made = application .before .before in
+    let a = made .before .before .before .before .before .before .args in
+    call-short (a .state .now) (a .content .now) (a .buffer .now) (a .start) (a .report .now) (made .made .given .0 .0)
+    (chosen .application-verdict .given .0 .0) (judged .verdict .given .0 .0) (sym (link .is-link .ensures) ∙ not-false _ (looked .if1 .left))
+    (not-true _ (c .if2 .taken))
+    ∙ call-as (a .state .now) (a .content .now) (a .buffer .now) (a .start) (a .report .now) (a .made) (a .application) (a .number) (a .t) _ _ _
+    (made .made .given .1) (sym (application .application-from .ensures) ∙ chosen .application-verdict .given .1)
+    (sym (verdict .verdict-from .ensures) ∙ judged .verdict .given .1)
 
 slice-read-expected-from : tie.Need-slice-read-expected-from
 slice-read-expected-from c =
-    let a = c .before .before .before .before .before .before .before .before .before .before .before .before .before .before .before .before .before .args in
-    let l = state-words 1 3 (a .state .now) (a .report .now) (not-false _ (c .before .if1 .left)) in search needs
+    let tested = c .before in
+    let made = tested .before .before .before .before .before .before .before .before .before .before .before .before in
+    let a = made .before .before .before .before .before .before .args in
+    let l = state-words 1 3 (a .state .now) (a .report .now) (not-false _ (tested .if2 .left)) in search needs
 
 expected-from-requires : tie.Need-expected-from-requires
 expected-from-requires c κs = search needs
 
 receive-requires : tie.Need-receive-requires
-receive-requires c κs = search needs
+receive-requires c κs =
+    let looked = c .before .before .before .before in
+    sym (looked .before .is-link .ensures) ∙ not-false _ (looked .if1 .left)
 
 finish-requires : tie.Need-finish-requires
 finish-requires c κs =
     let tested = c .before .before .before .before .before .before .before .before in
-    let a = tested .before .before .before .before .before .before .before .before .before .before .before .before .before .before .before .before .args in
-    let enough = not-false _ (tested .if1 .left) in
+    let made = tested .before .before .before .before .before .before .before .before .before .before .before .before in
+    let a = made .before .before .before .before .before .before .args in
+    let enough = not-false _ (tested .if2 .left) in
     (state-words 1 3 (a .state .now) (a .report .now) enough, report-words 1 3 (a .state .now) (a .report .now) enough)
 
 same-length : tie.Need-same-length
@@ -107,13 +125,15 @@ same-length-2 c = search needs
 same-length-3 : tie.Need-same-length-3
 same-length-3 c = search needs
 
-returns-5 : tie.Need-returns-5
-returns-5 c =
+returns-6 : tie.Need-returns-6
+returns-6 c =
     let finished = c .before .before .before .before in
     let received = finished .before .before .before .before .before in
     let expected = received .before .before in
     let tested = expected .before .before in
-    let judged = tested .before .before in
+    let looked = tested .before in
+    let link = looked .before in
+    let judged = link .before .before in
     let verdict = judged .before .before in
     let chosen = verdict .before .before in
     let application = chosen .before .before in
@@ -125,7 +145,8 @@ returns-5 c =
     done (a .state .now) (a .report .now) (received .receive .result) (received .receive .last .1 .1 .1 .1 .1 .0) (finished .finish .result)
     (finished .finish .last .1 .0) (finished .finish .last .1 .1 .0) _ (finished .finish .ensures)
     (received .receive .ensures ∙ ap (λ (z : Expected). receiveOf g app z v (a .content .now) (a .start) (a .buffer .now)) (expected .expected-from .ensures))
-    ∙ call-done (a .state .now) (a .content .now) (a .buffer .now) (a .start) (a .report .now) g app v (not-false _ (tested .if1 .left))
+    ∙ call-done (a .state .now) (a .content .now) (a .buffer .now) (a .start) (a .report .now) g app v (sym (link .is-link .ensures) ∙ not-false _ (looked .if1 .left))
+    (not-false _ (tested .if2 .left))
     ∙ call-as (a .state .now) (a .content .now) (a .buffer .now) (a .start) (a .report .now) (a .made) (a .application) (a .number) (a .t) _ _ _
     (made .made .given .1) (sym (application .application-from .ensures) ∙ chosen .application-verdict .given .1)
     (sym (verdict .verdict-from .ensures) ∙ judged .verdict .given .1)
@@ -146,8 +167,8 @@ received-words-spec =
     enum-told-3
     returns-3
     is-link-requires
-    refuse-short-requires
     returns-4
+    returns-5
     slice-read-expected-from
     expected-from-requires
     receive-requires
@@ -155,4 +176,4 @@ received-words-spec =
     same-length
     same-length-2
     same-length-3
-    returns-5)
+    returns-6)

@@ -1,6 +1,6 @@
--- `receiver_calls::inputs::expected_from` meets its contract.
-use Rattle.receiver_calls.proofs.inputs.expected_from.Statement.{statement}
-use Rattle.receiver_calls.proofs.inputs.expected_from.Tie as tie
+-- `receiver::inputs::expected_from` meets its contract.
+use Rattle.receiver.proofs.inputs.expected_from.Statement.{statement}
+use Rattle.receiver.proofs.inputs.expected_from.Tie as tie
 use borrow.Author.Tests.{eq-eqb, ne-eqb}
 
 returns : tie.Need-returns

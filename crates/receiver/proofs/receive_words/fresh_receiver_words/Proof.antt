@@ -1,8 +1,8 @@
--- `receiver_calls::receive_words::fresh_receiver_words` meets its contract.
+-- `receiver::receive_words::fresh_receiver_words` meets its contract.
 use borrow.Author.Needs.{needs}
-use Rattle.receiver_calls.proofs.receive_words.fresh_receiver_words.Statement.{statement}
-use Rattle.receiver_calls.proofs.receive_words.fresh_receiver_words.Tie as tie
-use Rattle.receiver_calls.proofs.Laws.{fresh-few, fresh-done}
+use Rattle.receiver.proofs.receive_words.fresh_receiver_words.Statement.{statement}
+use Rattle.receiver.proofs.receive_words.fresh_receiver_words.Tie as tie
+use Rattle.receiver.proofs.CallLaws.{fresh-few, fresh-done}
 
 returns : tie.Need-returns
 returns c = fresh-few (c .before .args .state .now) (c .if1 .taken)

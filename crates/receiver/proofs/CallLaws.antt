@@ -5,26 +5,24 @@ use mathlib.Core.Bool.{Bool, true, false, _&&_}
 use Prim.Native.Nat.{ℕ, _≤_, _<_}
 use lib.ListN.{length, getD, set}
 use lib.Dec.{leb, eqb}
-use borrow.Author.Tests.{le-leb, lt-leb, leb-true}
+use borrow.Author.Tests.{le-leb, lt-leb}
 use Rattle.lists.proofs.Calls.{withBuffer}
-use Rattle.lists.specs.Bytes.{over}
 use Rattle.lists.specs.Outcome.{Outcome, outcome, Called, called}
 use Rattle.lists.proofs.Over.{written-over}
-use Rattle.lists.proofs.Tests.{and-left, and-right}
 use Rattle.settings.specs.Settings.{validLink}
 use Rattle.settings.specs.declared.Made.{Made}
-use Rattle.settings.specs.declared.Made.the-variants.{Valid}
+use Rattle.settings.specs.declared.Made.the-variants.{Valid, Refused}
 use Rattle.settings.specs.declared.Settings.{Settings}
 use Rattle.refusal.specs.declared.Verdict.{Verdict}
-use Rattle.words.specs.Words.{shortRefusal, verdictFrom}
+use Rattle.words.specs.Words.{verdictFrom}
 use Rattle.words.specs.declared.VerdictMade.{VerdictMade}
-use Rattle.words.specs.declared.VerdictMade.the-variants.{Known as KnownVerdict}
+use Rattle.words.specs.declared.VerdictMade.the-variants.{Unknown as UnknownVerdict, Known as KnownVerdict}
 use Rattle.receiver.specs.Receiver.{receiveOf}
 use Rattle.receiver.specs.declared.Application.{Application}
 use Rattle.receiver.specs.declared.Received.{Received}
-use Rattle.receiver_calls.specs.ReceiverCalls.{expectedWord, expectedFrom, applicationFrom, transactionWord, freshCall, receivedWords, finished, receiveWith, receiveCall}
-use Rattle.receiver_calls.specs.declared.ApplicationMade.{ApplicationMade}
-use Rattle.receiver_calls.specs.declared.ApplicationMade.the-variants.{Known}
+use Rattle.receiver.specs.ReceiverCalls.{expectedWord, expectedFrom, applicationFrom, transactionWord, freshCall, receivedWords, finished, receiveWith, receiveCall}
+use Rattle.receiver.specs.declared.ApplicationMade.{ApplicationMade}
+use Rattle.receiver.specs.declared.ApplicationMade.the-variants.{Unknown, Known}
 
 pub fresh-few : (st : List ℕ) → length st < 1 → called 2 st [] [] ≡ freshCall st
 unfolding freshCall
@@ -65,21 +63,25 @@ module _ (st d b : List ℕ) (start : ℕ) (p : List ℕ) where
       ∙ ap (λ (z : VerdictMade). receiveWith m (applicationFrom application) z st d b start p) (sym g)
 
   module _ (g : Settings) (a : Application) (v : Verdict) where
-    pub call-short : (leb 1 (length st) && leb 3 (length p)) ≡ false
-        → called (shortRefusal (validLink g)) st b p ≡ receiveWith (Valid g) (Known a) (KnownVerdict v) st d b start p
-    call-short h = go (validLink g) refl
-      where
-        go : (t : Bool) → validLink g ≡ t → called (shortRefusal (validLink g)) st b p ≡ receiveWith (Valid g) (Known a) (KnownVerdict v) st d b start p
-        go true e = rw (e, h)
-        go false e = rw e
+    pub call-setting : validLink g ≡ false → called 1 st b p ≡ receiveWith (Valid g) (Known a) (KnownVerdict v) st d b start p
+    call-setting h = rw h
 
-    -- what `receive` answers, its 1 too
-    pub call-done : (leb 1 (length st) && leb 3 (length p)) ≡ true
-        → finished st p (receiveOf g a (expectedFrom (getD st 0 0)) v d start b) ≡ receiveWith (Valid g) (Known a) (KnownVerdict v) st d b start p
-    unfolding receiveOf
-    call-done h = go (validLink g) refl
-      where
-        go : (t : Bool) → validLink g ≡ t
-            → finished st p (receiveOf g a (expectedFrom (getD st 0 0)) v d start b) ≡ receiveWith (Valid g) (Known a) (KnownVerdict v) st d b start p
-        go true e = rw (e, h)
-        go false e = rw e
+    module _ (h : validLink g ≡ true) where
+      pub call-short : (leb 1 (length st) && leb 3 (length p)) ≡ false
+          → called 2 st b p ≡ receiveWith (Valid g) (Known a) (KnownVerdict v) st d b start p
+      call-short e = rw (h, e)
+
+      pub call-done : (leb 1 (length st) && leb 3 (length p)) ≡ true
+          → finished st p (receiveOf g a (expectedFrom (getD st 0 0)) v d start b) ≡ receiveWith (Valid g) (Known a) (KnownVerdict v) st d b start p
+      call-done e = rw (h, e)
+
+  -- the settings of no link are refused as none are
+  pub call-refuses : (application number t : ℕ) (g : Settings) → validLink g ≡ false
+      → receiveCall (Valid g) application st number t d b start p ≡ receiveCall Refused application st number t d b start p
+  unfolding receiveCall
+  call-refuses application number t g h = go (applicationFrom application) (verdictFrom number t)
+    where
+      go : (a : ApplicationMade) (v : VerdictMade) → receiveWith (Valid g) a v st d b start p ≡ receiveWith Refused a v st d b start p
+      go Unknown v = refl
+      go (Known a) UnknownVerdict = refl
+      go (Known a) (KnownVerdict v) = rw h

@@ -1,10 +1,10 @@
 // Numbers from C, and words, as values.
+use crate::Application;
 use crate::ApplicationMade;
-use receiver::Application;
-use receiver::Expected;
-use receiver::Transaction;
+use crate::Expected;
+use crate::Transaction;
 ghost use mathlib.Core.Path.{_≡_};
-ghost use Rattle.receiver_calls.specs.ReceiverCalls.{expectedWord, expectedFrom, applicationFrom, transactionWord};
+ghost use Rattle.receiver.specs.ReceiverCalls.{expectedWord, expectedFrom, applicationFrom, transactionWord};
 
 pub(crate) fn expected_word(expected: Expected) -> u64
     ensures { λ r. ⌜ r ≡ expectedWord expected ⌝ }

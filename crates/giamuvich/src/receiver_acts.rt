@@ -1,16 +1,17 @@
 // The receiver.
-use settings::Settings;
+use crate::unchecked::unchecked_hybrid;
+use crate::unchecked::unchecked_minimal;
 ghost use mathlib.Core.Path.{_≡_};
 ghost use mathlib.Core.List.{[]};
 ghost use Rattle.lists.specs.Outcome.{called};
 ghost use Rattle.settings.specs.Settings.{hybridLink, minimalLink};
-ghost use Rattle.receiver_calls.specs.ReceiverCalls.{freshCall, receiveCall};
+ghost use Rattle.receiver.specs.ReceiverCalls.{freshCall, receiveCall};
 
 #[no_mangle]
 pub extern "C" fn gmv_receiver_fresh(state: &mut [u64]) -> u64
     ensures { λ r. ⌜ called r (now (state .exit)) [] [] ≡ freshCall (now (state .entry)) ⌝ }
 {
-    receiver_calls::fresh_receiver_words(state)
+    receiver::fresh_receiver_words(state)
 }
 
 #[no_mangle]
@@ -29,8 +30,8 @@ pub extern "C" fn gmv_hybrid_receive(
 ) -> u64
     ensures { λ r. ⌜ called r (now (state .exit)) (now (buffer .exit)) (now (report .exit)) ≡ receiveCall (hybridLink «start_block» «end_block» «data_limit») application (now (state .entry)) «block_number» «block_type» (now (content .entry)) (now (buffer .entry)) start (now (report .entry)) ⌝ }
 {
-    receiver_calls::received_words(
-        Settings::hybrid_link(start_block, end_block, data_limit),
+    receiver::received_words(
+        unchecked_hybrid(start_block, end_block, data_limit),
         application,
         state,
         block_number,
@@ -56,8 +57,8 @@ pub extern "C" fn gmv_minimal_receive(
 ) -> u64
     ensures { λ r. ⌜ called r (now (state .exit)) (now (buffer .exit)) (now (report .exit)) ≡ receiveCall (minimalLink «data_limit») application (now (state .entry)) «block_number» «block_type» (now (content .entry)) (now (buffer .entry)) start (now (report .entry)) ⌝ }
 {
-    receiver_calls::received_words(
-        Settings::minimal_link(data_limit),
+    receiver::received_words(
+        unchecked_minimal(data_limit),
         application,
         state,
         block_number,

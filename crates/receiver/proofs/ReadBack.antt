@@ -1,15 +1,14 @@
 -- The word stands for the expected number: what is written is read back.
 use mathlib.Core.Path.{_≡_, refl}
-use mathlib.Core.Bool.{true, _&&_}
-use Prim.Native.Nat.{ℕ}
+use mathlib.Core.Bool.{true}
 use native.Mathlib.Omega.{arith}
 use lib.Dec.{leb}
 use borrow.Author.Tests.{leb-true, ne-eqb}
 use Rattle.lists.proofs.Tests.{and-left}
 use Rattle.receiver.specs.Receiver.{validExpected}
 use Rattle.receiver.specs.declared.Expected.{Expected}
 use Rattle.receiver.specs.declared.Expected.the-variants.{Unknown, Next}
-use Rattle.receiver_calls.specs.ReceiverCalls.{expectedWord, expectedFrom}
+use Rattle.receiver.specs.ReceiverCalls.{expectedWord, expectedFrom}
 
 pub expected-back : (e : Expected) → validExpected e ≡ true → expectedFrom (expectedWord e) ≡ e
 unfolding validExpected
