@@ -1,2 +1,4 @@
 pub mod Texts
 pub mod History
+pub mod CallLaws
+pub mod ReadBack

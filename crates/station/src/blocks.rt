@@ -90,7 +90,13 @@ fn block_when_open(
 }
 
 // A good block with its number, ended by ETB or ETX. The text of the expected one is appended to what the buffer holds.
-pub fn good_block(station: Station, n: u64, ending: Ending, text: &[u8], buffer: &mut [u8]) -> Acted
+pub(crate) fn good_block(
+    station: Station,
+    n: u64,
+    ending: Ending,
+    text: &[u8],
+    buffer: &mut [u8],
+) -> Acted
     ensures { λ r. ⌜ outcome r (now (buffer .exit)) ≡ goodBlockOf station n ending (now (text .entry)) (now (buffer .entry)) ⌝ }
 {
     let Station::Open(expected, held) = station else {

@@ -1,11 +1,15 @@
-// The X3.28 receiving station (000, C.3). The line driver frames the units and reports what arrived.
+// The X3.28 receiving station (000, C.3). The line driver frames the units and reports what arrived. What its C functions do, on
+// slices: the words are looked at, and the answer is written into the words.
+mod acts;
 mod blocks;
 mod units;
+mod words;
 
-pub use blocks::good_block;
-pub use units::bad_block;
-pub use units::end_of_transmission;
-pub use units::station_opened;
+pub use acts::bad_words;
+pub use acts::block_words;
+pub use acts::end_words;
+pub use acts::fresh_station_words;
+pub use acts::opened_words;
 
 // The last block number: after it comes 0.
 pub(crate) const LAST_NUMBER: u64 = 7;
@@ -16,10 +20,22 @@ pub enum Station {
     Open(u64, usize),
 }
 
+// What a station's words encode.
+pub enum Decoded {
+    Unknown,
+    Known(Station),
+}
+
 // How a good block ended.
 pub enum Ending {
     Etb,
     Etx,
+}
+
+// What a number from C stands for.
+pub enum DecodedEnding {
+    Unknown,
+    Known(Ending),
 }
 
 pub enum Reply {

@@ -33,7 +33,7 @@ pub(crate) fn refuse_station(station: Station) -> Acted
 }
 
 // A block that the driver found bad, or one ended by ENQ.
-pub fn bad_block(station: Station) -> Acted
+pub(crate) fn bad_block(station: Station) -> Acted
     ensures { λ r. ⌜ r ≡ badBlockOf station ⌝ }
 {
     let Station::Open(expected, _) = station else {
@@ -46,7 +46,7 @@ pub fn bad_block(station: Station) -> Acted
 }
 
 // EOT was received.
-pub fn end_of_transmission(station: Station) -> Acted
+pub(crate) fn end_of_transmission(station: Station) -> Acted
     ensures { λ r. ⌜ r ≡ eotOf station ⌝ }
 {
     let Station::Open(expected, _) = station else {
@@ -59,7 +59,7 @@ pub fn end_of_transmission(station: Station) -> Acted
 }
 
 // The driver opened the station, whatever it was.
-pub fn station_opened() -> Acted
+pub(crate) fn station_opened() -> Acted
     ensures { λ r. ⌜ r ≡ stationActed openedStation NoReply Incomplete ⌝ }
 {
     answer(Station::Open(1, 0), Reply::NoReply)

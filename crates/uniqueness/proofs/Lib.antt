@@ -16,7 +16,6 @@ pub mod Sender
 pub mod SenderCalls
 pub mod Settings
 pub mod Station
-pub mod StationCalls
 pub mod Stream
 pub mod WholeBlock
 pub mod Words

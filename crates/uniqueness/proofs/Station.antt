@@ -1,40 +1,49 @@
 -- The public functions of the crate station. Written by tests/interface/uniqueness --write.
-use mathlib.Core.Path.{refl, sym, _∙_}
+use mathlib.Core.Path.{refl}
 use Rattle.uniqueness.specs.Unique.{Unique}
 use Rattle.uniqueness.proofs.Once.{once}
-use Rattle.station.proofs.good_block as good-block-contract
-use Rattle.station.proofs.good_block.Reads as good-block-reads
-use Rattle.station.proofs.bad_block as bad-block-contract
-use Rattle.station.proofs.bad_block.Reads as bad-block-reads
-use Rattle.station.proofs.end_of_transmission as end-of-transmission-contract
-use Rattle.station.proofs.end_of_transmission.Reads as end-of-transmission-reads
-use Rattle.station.proofs.station_opened as station-opened-contract
-use Rattle.station.proofs.station_opened.Reads as station-opened-reads
+use Rattle.station.proofs.fresh_station_words as fresh-station-words-contract
+use Rattle.station.proofs.fresh_station_words.Reads as fresh-station-words-reads
+use Rattle.station.proofs.opened_words as opened-words-contract
+use Rattle.station.proofs.opened_words.Reads as opened-words-reads
+use Rattle.station.proofs.bad_words as bad-words-contract
+use Rattle.station.proofs.bad_words.Reads as bad-words-reads
+use Rattle.station.proofs.end_words as end-words-contract
+use Rattle.station.proofs.end_words.Reads as end-words-reads
+use Rattle.station.proofs.block_words as block-words-contract
+use Rattle.station.proofs.block_words.Reads as block-words-reads
 
-pub good-block : Unique good-block-contract.ended (λ M. good-block-contract.clauses {M = M})
-good-block = record {
-  holds = good-block-reads.Learnt;
+pub fresh-station-words : Unique fresh-station-words-contract.ended (λ M. fresh-station-words-contract.clauses {M = M})
+fresh-station-words = record {
+  holds = fresh-station-words-reads.Learnt;
   says = λ M 𝓤 H A mem run. refl;
-  one = λ κs a z z′ ws ws′ h h′. once h h′ (λ y. y .answer) (λ y. (tt, (tt, (tt, (tt, (y .buffer, tt))))));
+  one = λ κs a z z′ ws ws′ h h′. once h h′ (λ y. y .number) (λ y. (y .state, tt));
 }
 
-pub bad-block : Unique bad-block-contract.ended (λ M. bad-block-contract.clauses {M = M})
-bad-block = record {
-  holds = bad-block-reads.Learnt;
+pub opened-words : Unique opened-words-contract.ended (λ M. opened-words-contract.clauses {M = M})
+opened-words = record {
+  holds = opened-words-reads.Learnt;
   says = λ M 𝓤 H A mem run. refl;
-  one = λ κs a z z′ ws ws′ h h′. (h ∙ sym h′, refl);
+  one = λ κs a z z′ ws ws′ h h′. once h h′ (λ y. y .number) (λ y. (y .state, (y .report, tt)));
 }
 
-pub end-of-transmission : Unique end-of-transmission-contract.ended (λ M. end-of-transmission-contract.clauses {M = M})
-end-of-transmission = record {
-  holds = end-of-transmission-reads.Learnt;
+pub bad-words : Unique bad-words-contract.ended (λ M. bad-words-contract.clauses {M = M})
+bad-words = record {
+  holds = bad-words-reads.Learnt;
   says = λ M 𝓤 H A mem run. refl;
-  one = λ κs a z z′ ws ws′ h h′. (h ∙ sym h′, refl);
+  one = λ κs a z z′ ws ws′ h h′. once h h′ (λ y. y .number) (λ y. (y .state, (y .report, tt)));
 }
 
-pub station-opened : Unique station-opened-contract.ended (λ M. station-opened-contract.clauses {M = M})
-station-opened = record {
-  holds = station-opened-reads.Learnt;
+pub end-words : Unique end-words-contract.ended (λ M. end-words-contract.clauses {M = M})
+end-words = record {
+  holds = end-words-reads.Learnt;
   says = λ M 𝓤 H A mem run. refl;
-  one = λ κs a z z′ ws ws′ h h′. (h ∙ sym h′, refl);
+  one = λ κs a z z′ ws ws′ h h′. once h h′ (λ y. y .number) (λ y. (y .state, (y .report, tt)));
+}
+
+pub block-words : Unique block-words-contract.ended (λ M. block-words-contract.clauses {M = M})
+block-words = record {
+  holds = block-words-reads.Learnt;
+  says = λ M 𝓤 H A mem run. refl;
+  one = λ κs a z z′ ws ws′ h h′. once h h′ (λ y. y .number) (λ y. (tt, (tt, (tt, (y .buffer, (y .state, (y .report, tt)))))));
 }
