@@ -591,4 +591,11 @@ READ_OUT_FAULTS = [
     fault('the books believe the bytes', 'linkstatus/books.c', '        compare_numbers(&books);\n', '', None),
     fault('the books believe the mark', 'linkstatus/books.c', '        compare_delivered(&books);\n', '', None),
     fault('the books believe the count', 'linkstatus/books.c', '        compare_count(&books);\n', '', None),
+    fault('the books count back past the last -1', 'linkstatus/books.c',
+          'else if (pair->record.cleared != 0 && resynchronized &&', 'else if (0 &&', None),
+    fault("an earlier tenant's purged file excuses a lost result", 'linkstatus/books.c', 'back <= stored_since(record)',
+          'back <= record->stored', None),
+    fault("a purged file excuses the number that is not its own", 'linkstatus/books.c',
+          'const uint64_t back = record->words[GMV_RECEIVER_EXPECTED] - number;',
+          'const uint64_t back = record->stored - books->base - number + first_of(books);', None),
 ]
