@@ -287,7 +287,8 @@ static int submit_next(sending_end *end)
                                end->record.words, GMV_SENDER_WORDS, end->report, GMV_ACT_WORDS);
     switch (number) {
     case GMV_OK:
-        log_store(end->folder, end->record.words[GMV_SENDER_LAST], end->message, (size_t)length);
+        log_store(end->folder, end->record.words[GMV_SENDER_LAST], end->message, (size_t)length,
+                  &file.seen.st_mtim);
         after_act(end, number, "gmv_sender_submit");
         spool_remove(end->folder, &file);
         break;

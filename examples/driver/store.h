@@ -21,6 +21,9 @@ void sync_file(const char *path);
 /* Returns when the file survives a crash. Ends the program where it cannot be stored. */
 void store_durably(const char *folder, const char *name, const void *bytes, size_t length);
 
+/* The same, and the file counts as written at that time: it is as old as the one that it was copied from. */
+void store_as_of(const char *folder, const char *name, const void *bytes, size_t length, const struct timespec *written);
+
 /* The same without syncing, for what need not survive. */
 void store_lightly(const char *folder, const char *name, const void *bytes, size_t length);
 

@@ -299,6 +299,10 @@ CASES = [
     ('a result that is too late', state(MIDDLE), live(MIDDLE, 4, 1),
      ['critical: the oldest of 3 not delivered waits for 372 s', WAITS % '1 time'] +
      [line.replace('for 0 s', 'for 372 s') for line in middle_said()] + ONE_CIRCUIT + shown(), 2, {'log/17.hl7': 372}),
+    ('a later result that is too late', state(MIDDLE), live(MIDDLE, 4, 1),
+     ['critical: the oldest of 3 not delivered waits for 372 s', WAITS % '1 time'] +
+     [line.replace('for 0 s', 'for 372 s') for line in middle_said()] + ONE_CIRCUIT + shown(), 2,
+     {'log/16.hl7': 999, 'log/17.hl7': 0, 'log/19.hl7': 372}),
     ('no refused file', state(MIDDLE), None, [STOPPED, NO_DRIVER] + MIDDLE_SAID, 2, {}),
     ('a leftover of a crash', receiver(3, 2), None,
      [STOPPED, 'receiver: expects 3, 2 transactions stored', 'no driver runs on this folder'], 2,

@@ -3,6 +3,7 @@ hang up, state files that are wrong and well formed, strangers. faults.py puts e
 
 import ctypes
 import os
+import re
 import select
 import socket
 import struct
@@ -79,6 +80,24 @@ def replaced(bench):
             os.listdir(os.path.join(folder, 'refused')))
     if read(folder, 'refused', '9-a') != b'no header':
         return 'the refused file is not what it was'
+    return None if end.finish() == 0 else 'ends badly'
+
+
+def old_results(bench):
+    """A result is as old as the host's file, also after it was submitted, and behind one that is younger."""
+    folder = bench.sender()
+    for number, age in ((1, 0), (2, 3600)):
+        bench.put('%06d' % number, text(number))
+        moment = time.time() - age
+        os.utime(os.path.join(folder, 'spool', '%06d' % number), (moment, moment))
+    end = bench.start('send', 's', ['--minimal-connect', '127.0.0.1:1'])
+    if not wait_for(lambda: read_words(folder, 'state')['last'] == 2 and not os.listdir(os.path.join(folder, 'spool'))):
+        return 'not submitted'
+    wanted = re.compile('critical: the oldest of 2 not delivered waits for 36[0-9][0-9] s')
+    if not wait_for(lambda: wanted.match(said(bench.programs, folder)[0][0])):
+        return 'linkstatus says %s' % said(bench.programs, folder)[0]
+    if time.time() - os.stat(os.path.join(folder, 'log', '1.hl7')).st_mtime > 60:
+        return 'the younger one is not as old as its file'
     return None if end.finish() == 0 else 'ends badly'
 
 
@@ -519,8 +538,9 @@ def hanging(bench):
     return None if end.finish() == 0 else 'ends badly'
 
 
-REPAIRS = [long_names, replaced, dropped_bytes, moved_folders, linked_files, floods, busy, deaf_caller, vanished_peers, plain_devices, hangups, first_forms, beyond, wrong_count,
-           strangers, shown_settings, busy_books, different_limits, hanging]
+REPAIRS = [long_names, replaced, old_results, dropped_bytes, moved_folders, linked_files, floods, busy, deaf_caller,
+           vanished_peers, plain_devices, hangups, first_forms, beyond, wrong_count, strangers, shown_settings, busy_books,
+           different_limits, hanging]
 
 
 UNSANITIZED = (replaced, busy, busy_books, hangups)  # a library is preloaded, which does not go with a sanitizer's; or mostly waiting
@@ -536,6 +556,8 @@ FAULTS = [
     fault('a long name ends the driver', 'spool.c', 'else if (errno == ENAMETOOLONG && kept > 0)', 'else if (0)', long_names),
     fault("the host's next file goes with the last one", 'spool.c', 'if (is_seen_file(path, &file->seen) && unlink(path) != 0',
           'if (unlink(path) != 0', replaced),
+    fault('a result is young again when it is submitted', 'store.c', '(written != NULL && set_time(file, written) != 0)', '0',
+          old_results),
     fault('what was written still comes', 'line.c', 'const struct linger drop = {1, 0};', 'const struct linger drop = {0, 0};',
           dropped_bytes),
     fault('a folder that was moved', 'store.c', 'if (stat(path, &status) != 0 || status.st_dev != locked.st_dev ||', 'if (0 &&',
@@ -587,6 +609,7 @@ READ_OUT_FAULTS = [
           'else if (0)', None),
     fault('a dead receiver is called good', 'status.c', 'add_reason(verdict, CRITICAL, R_NO_DRIVER);', ';', None),
     fault('an empty refused file is a warning', 'store.c', 'if (status.st_size == 0) {', 'if (0) {', None),
+    fault('only the first result has an age', 'log.c', 'number <= last; number++', 'number <= first; number++', None),
     fault('the books believe the numbers', 'linkstatus/books.c', '        compare_messages(&books);\n', '', None),
     fault('the books believe the bytes', 'linkstatus/books.c', '        compare_numbers(&books);\n', '', None),
     fault('the books believe the mark', 'linkstatus/books.c', '        compare_delivered(&books);\n', '', None),

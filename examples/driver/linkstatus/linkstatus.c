@@ -97,7 +97,7 @@ static int find_undelivered(verdict *verdict, const char *folder, const sender_r
     all->waiting = record->words[GMV_SENDER_LAST] + 1 - waits;
     take_oldest(&oldest, all->spool.files, all->spool.oldest);
     take_oldest(&oldest, all->refused.files, all->refused.oldest);
-    take_oldest(&oldest, all->waiting, log_time(folder, waits));
+    take_oldest(&oldest, all->waiting, log_oldest(folder, waits, record->words[GMV_SENDER_LAST]));
     all->age = (uint64_t)(present - oldest);
     return 0;
 }
