@@ -145,12 +145,43 @@ def floods(bench):
     return None if end.finish() == 0 else 'ends badly'
 
 
-def slow_disk(bench):
-    """An end on a disk on which each sync takes 40 ms."""
+def unread(port):
+    """How many bytes of the circuits of this port are on their way, or arrived and not read."""
+    with open('/proc/net/tcp', encoding='ascii') as file:
+        rows = [line.split() for line in file.readlines()[1:]]
+    circuits = [row for row in rows if row[3] == '01' and ':%04X' % port in (row[1][-5:], row[2][-5:])]
+    return sum(int(count, 16) for row in circuits for count in row[4].split(':'))
+
+
+def sender_floods(bench):
+    """The same at a sender that waits on nothing."""
+    folder, peer = bench.sender(), Peer()
+    end = bench.start('send', 's', peer.line)
+    peer.accept()
+    peer.block()
+    peer.reply('AA', '-1', '-1')
+    if not wait_for(lambda: read_words(folder, 'state')['resynchronized'] == 1):
+        return 'no circuit'
+    renames = Renames(folder, 'live')
+    try:
+        peer.circuit.sendall(SB * 65536)
+        heard = wait_for(lambda: unread(peer.server.getsockname()[1]) == 0)
+        if renames.seen() > 200:
+            return '%d read-outs for 65,535 verdicts' % renames.seen()
+        if not heard or not wait_for(lambda: b'act_block 8\n' in read(folder, 'live')):
+            return 'the blocks are not heard: %s' % read_words(folder, 'live')
+    finally:
+        renames.close()
+        peer.close()
+    return None if end.finish() == 0 else 'ends badly'
+
+
+def slow_disk(bench, milliseconds=40):
+    """An end on a disk on which each sync takes so long."""
     library = bench.path('slow.so')
     subprocess.run(['gcc', '-shared', '-fPIC', '-O1', '-Wall', '-Wextra', '-Werror', '-o', library,
                     os.path.join(HERE, 'slow.c'), '-ldl'], check=True)
-    return {'LD_PRELOAD': library, 'SYNC_MILLISECONDS': '40'}
+    return {'LD_PRELOAD': library, 'SYNC_MILLISECONDS': str(milliseconds)}
 
 
 def busy(bench):
@@ -172,6 +203,40 @@ def busy(bench):
     new.sendall(b''.join(RULES.block(text(number, '')) for number in range(stored + 1, stored + 31)))
     if not wait_for(lambda: read_words(folder, 'state')['stored'] > stored + 1):
         return 'nothing more is stored'
+    begin = time.monotonic()
+    status = end.finish()
+    if status != 0 or time.monotonic() > begin + 2:
+        return 'it stops after %.1f s with %s' % (time.monotonic() - begin, status)
+    return None
+
+
+def answers(first, last):
+    """The answers to these transactions, in one part."""
+    return b''.join(RULES.block(answer('AA', str(number), str(number))) for number in range(first, last + 1))
+
+
+def sender_busy(bench):
+    """The same at a sender: while one part's many answers are acted on, and each delivery is stored."""
+    folder, count = bench.sender(), 40
+    for number in range(1, count + 1):
+        bench.put('%06d' % number, text(number, ''))
+    end = bench.start('send', 's', ['--minimal-connect', '127.0.0.1:1'])
+    if not wait_for(lambda: read_words(folder, 'state')['last'] == count) or end.finish() != 0:
+        return 'not submitted'
+    end = End(bench.programs, 'send', folder, ['--minimal-listen', '0'], ['--timer', '60000'])
+    bench.ends.append(end)
+    end.start(slow_disk(bench, 60))
+    old = call(end)
+    old.sendall(RULES.block(answer('AA', '-1', '-1')) + answers(1, count))
+    if not wait_for(lambda: read_words(folder, 'state')['delivered'] >= 2):
+        return 'nothing is delivered'
+    begin, new = time.monotonic(), call(end)
+    if b'|0|P|' not in new.recv(4096) or time.monotonic() > begin + 2:
+        return 'a new caller is heard after %.1f s' % (time.monotonic() - begin)
+    delivered = read_words(folder, 'state')['delivered']
+    new.sendall(RULES.block(answer('AA', '0', str(delivered + 1))) + answers(delivered + 1, count))
+    if not wait_for(lambda: read_words(folder, 'state')['delivered'] > delivered + 1):
+        return 'nothing more is delivered'
     begin = time.monotonic()
     status = end.finish()
     if status != 0 or time.monotonic() > begin + 2:
@@ -538,12 +603,12 @@ def hanging(bench):
     return None if end.finish() == 0 else 'ends badly'
 
 
-REPAIRS = [long_names, replaced, old_results, dropped_bytes, moved_folders, linked_files, floods, busy, deaf_caller,
-           vanished_peers, plain_devices, hangups, first_forms, beyond, wrong_count, strangers, shown_settings, busy_books,
+REPAIRS = [long_names, replaced, old_results, dropped_bytes, moved_folders, linked_files, floods, sender_floods, busy,
+           sender_busy, deaf_caller, vanished_peers, plain_devices, hangups, first_forms, beyond, wrong_count, strangers, shown_settings, busy_books,
            different_limits, hanging]
 
 
-UNSANITIZED = (replaced, busy, busy_books, hangups)  # a library is preloaded, which does not go with a sanitizer's; or mostly waiting
+UNSANITIZED = (replaced, busy, sender_busy, busy_books, hangups)  # a library is preloaded, which does not go with a sanitizer's; or mostly waiting
 
 
 def fault(name, file, old, new, test):
@@ -570,6 +635,13 @@ FAULTS = [
     fault('a part is not left for its end', 'receiving_end.c', 'end->line.circuit >= 0 && !stop_requested()) {',
           'end->line.circuit >= 0) {', busy),
     fault('a part is not left for a new caller', 'receiving_end.c', 'if (line_is_called(&end->line))', 'if (0)', busy),
+    fault('a read-out for each verdict at a sender', 'sending_end.c', '            hear_block(end);\n        if (line_is_called',
+          '            hear_block(end), show_sender(end->folder, &end->record, end->report, &end->counts, &end->running);\n'
+          '        if (line_is_called', sender_floods),
+    fault('a part is not left for a sender\'s end', 'sending_end.c', 'end->line.circuit >= 0 && !stop_requested()) {',
+          'end->line.circuit >= 0) {', sender_busy),
+    fault('a part is not left for a new caller at a sender', 'sending_end.c', 'if (line_is_called(&end->line))', 'if (0)',
+          sender_busy),
     Fault('a deaf peer keeps others out', [
         ('line.c', '|| stop_requested() || line_is_called(line))', '|| stop_requested())'),
         ('receiving_end.c', 'MOST_WAIT = 8000', 'MOST_WAIT = 600000')], deaf_caller),
