@@ -464,6 +464,8 @@ void sender_create(const char *folder, const char *first)
     for (size_t i = 0; i < sizeof parts / sizeof parts[0]; i++) {
         path_of(path, folder, parts[i]);
         make_folder(path);
+        if (i == 0)
+            require_no_numbers(path); /* what is in the log was submitted by a state that is gone */
         sync_folder(path);
     }
     path_of(path, folder, "..");

@@ -207,6 +207,16 @@ int greatest_number(const char *path, uint64_t *greatest)
     return for_each_number(path, take_greater, greatest);
 }
 
+void require_no_numbers(const char *path)
+{
+    uint64_t greatest;
+
+    if (greatest_number(path, &greatest) != 0)
+        fail("cannot read %s: %s", path, strerror(errno));
+    if (greatest != 0)
+        fail("%s has messages, and no state counts them: put the folder aside", path);
+}
+
 int is_missing(const char *path)
 {
     struct stat status;

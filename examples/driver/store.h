@@ -49,6 +49,9 @@ int for_each_number(const char *path, void (*act)(void *, uint64_t), void *with)
 /* The greatest of these numbers; 0 where there is none. */
 int greatest_number(const char *path, uint64_t *greatest);
 
+/* Ends the program where the folder has such files: an end that is made begins with none. */
+void require_no_numbers(const char *path);
+
 /* Whether there is nothing of that name. */
 int is_missing(const char *path);
 

@@ -496,6 +496,24 @@ def beyond(bench):
     return None
 
 
+def lost_states(bench):
+    """Where a state is gone and its messages are not, no new one is made beside them."""
+    for folder, init, file in ((bench.receiver(), ('receiver-init',), 'transactions/000000000000001.hl7'),
+                               (bench.sender(), ('sender-init', '1'), 'log/1.hl7')):
+        write(os.path.join(folder, file), text(1, 'PID|of somebody\r'))
+        for name in ('state', 'form'):
+            os.unlink(os.path.join(folder, name))
+        status, words = bench.driver(init[0], folder, *init[1:])
+        if status != 1 or 'has messages, and no state counts them' not in words:
+            return '%s: %d %s' % (init[0], status, words)
+        if os.path.exists(os.path.join(folder, 'state')) or read(folder, file) != text(1, 'PID|of somebody\r'):
+            return '%s has changed the folder' % init[0]
+        os.unlink(os.path.join(folder, file))
+        if bench.driver(init[0], folder, *init[1:])[0] != 0:
+            return '%s refuses a folder without messages' % init[0]
+    return None
+
+
 def wrong_count(bench):
     """A state with a wrong `stored`, well formed and with a right check: no result is written over."""
     folder = bench.receiver()
@@ -604,7 +622,7 @@ def hanging(bench):
 
 
 REPAIRS = [long_names, replaced, old_results, dropped_bytes, moved_folders, linked_files, floods, sender_floods, busy,
-           sender_busy, deaf_caller, vanished_peers, plain_devices, hangups, first_forms, beyond, wrong_count, strangers, shown_settings, busy_books,
+           sender_busy, deaf_caller, vanished_peers, plain_devices, hangups, first_forms, beyond, lost_states, wrong_count, strangers, shown_settings, busy_books,
            different_limits, hanging]
 
 
@@ -659,6 +677,9 @@ FAULTS = [
     fault('a wrong count is believed', 'receiving_end.c', 'if (greatest > end->record.stored + 1)', 'if (0)', wrong_count),
     fault('an old sender\'s state is believed', 'sending_end.c', 'if (greatest > end->record.words[GMV_SENDER_LAST] + 1)', 'if (0)',
           beyond),
+    fault('a receiver is made where transactions are', 'receiving_end.c', '    require_no_numbers(path);\n', '', lost_states),
+    fault('a sender is made where a log is', 'sending_end.c', '            require_no_numbers(path);', '            ;',
+          lost_states),
     fault('a stored transaction is written over', 'receiving_end.c', 'if (end->stored_any && !is_missing(path))', 'if (0)', beyond),
     fault('a stranger\'s -1 is not told', 'receiving_end.c', 'if (before == 0 || after->words[GMV_RECEIVER_EXPECTED] != 0)',
           'if (1)', strangers),
