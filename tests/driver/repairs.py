@@ -176,12 +176,17 @@ def sender_floods(bench):
     return None if end.finish() == 0 else 'ends badly'
 
 
+def preloaded(bench, name, **variables):
+    """The environment of a driver into which this library is preloaded."""
+    library = bench.path(name + '.so')
+    subprocess.run(['gcc', '-shared', '-fPIC', '-O1', '-Wall', '-Wextra', '-Werror', '-o', library,
+                    os.path.join(HERE, name + '.c'), '-ldl'], check=True)
+    return dict(variables, LD_PRELOAD=library)
+
+
 def slow_disk(bench, milliseconds=40):
     """An end on a disk on which each sync takes so long."""
-    library = bench.path('slow.so')
-    subprocess.run(['gcc', '-shared', '-fPIC', '-O1', '-Wall', '-Wextra', '-Werror', '-o', library,
-                    os.path.join(HERE, 'slow.c'), '-ldl'], check=True)
-    return {'LD_PRELOAD': library, 'SYNC_MILLISECONDS': str(milliseconds)}
+    return preloaded(bench, 'slow', SYNC_MILLISECONDS=str(milliseconds))
 
 
 def busy(bench):
@@ -357,7 +362,8 @@ def keepalive_timer(port):
 
 
 def vanished_peers(bench):
-    """A receiver that calls finds out that its peer is gone without a word, and calls again."""
+    """A receiver that calls finds out that its peer is gone without a word, and calls again. (The system answers in the
+    peer's place; where nothing comes back, the circuit's options count: kept_alive.)"""
     bench.receiver()
     server = socket.create_server(('127.0.0.1', 0))
     server.settimeout(15)
@@ -378,6 +384,27 @@ def vanished_peers(bench):
             return 'a peer that vanished is not noticed'
     server.close()
     return None if end.finish() == 0 else 'ends badly'
+
+
+def kept_alive(bench):
+    """Each circuit, whoever called, has the options by which the system finds out that the peer is gone: also where nothing
+    comes back at all, and while something that was written is on its way. The caller's is reset at its end."""
+    bench.receiver()
+    bench.sender()
+    circuits = []
+    for name, command, reset in (('r', 'receive', 0), ('s', 'send', 1)):
+        line = ['--minimal-connect', '127.0.0.1:%d' % bench.ends[0].port] if reset else ['--minimal-listen', '0']
+        end = End(bench.programs, command, bench.path(name), line, ['--keepalive', '7'])
+        bench.ends.append(end)
+        path = bench.path('options-' + name)
+        end.start(preloaded(bench, 'options', OPTIONS=path))
+        circuits.append((command, path, b'kept alive 1, after 7 s, each 1 s, 3 times, in all 10000 ms; reset %d' % reset))
+    for command, path, wanted in circuits:
+        if not wait_for(lambda path=path: os.path.exists(path) and read(path)):
+            return 'no circuit'
+        if read(path).splitlines()[-1] != wanted:
+            return 'the options of %s are %s' % (command, read(path))
+    return None if [end.finish() for end in bench.ends] == [0, 0] else 'ends badly'
 
 
 def plain_devices(bench):
@@ -584,7 +611,7 @@ def running_pair(bench, *options):
 def busy_books(bench):
     """While results go through as fast as they can, the books of the pair never differ, and neither the pair nor the
     receiver is called anything but good."""
-    slow = {'LD_PRELOAD': slow_disk(bench)['LD_PRELOAD'], 'FOLDER_MILLISECONDS': '15'}
+    slow = preloaded(bench, 'slow', FOLDER_MILLISECONDS='15')
     folders, ends = running_pair(bench)
     for number in range(1, BUSY + 1):
         bench.put('%06d' % number, text(number))
@@ -622,11 +649,11 @@ def hanging(bench):
 
 
 REPAIRS = [long_names, replaced, old_results, dropped_bytes, moved_folders, linked_files, floods, sender_floods, busy,
-           sender_busy, deaf_caller, vanished_peers, plain_devices, hangups, first_forms, beyond, lost_states, wrong_count, strangers, shown_settings, busy_books,
-           different_limits, hanging]
+           sender_busy, deaf_caller, vanished_peers, kept_alive, plain_devices, hangups, first_forms, beyond, lost_states,
+           wrong_count, strangers, shown_settings, busy_books, different_limits, hanging]
 
 
-UNSANITIZED = (replaced, busy, sender_busy, busy_books, hangups)  # a library is preloaded, which does not go with a sanitizer's; or mostly waiting
+UNSANITIZED = (replaced, busy, sender_busy, kept_alive, busy_books, hangups)  # a library is preloaded, which does not go with a sanitizer's; or mostly waiting
 
 
 def fault(name, file, old, new, test):
@@ -664,6 +691,12 @@ FAULTS = [
         ('line.c', '|| stop_requested() || line_is_called(line))', '|| stop_requested())'),
         ('receiving_end.c', 'MOST_WAIT = 8000', 'MOST_WAIT = 600000')], deaf_caller),
     fault('no keepalive', 'line.c', 'const int yes = 1, silence', 'const int yes = 0, silence', vanished_peers),
+    fault('no end of waiting for what is on its way', 'line.c',
+          'setsockopt(circuit, IPPROTO_TCP, TCP_USER_TIMEOUT, &limit, sizeof limit) == 0 &&', '', kept_alive),
+    fault('no keepalive at an end that listens', 'line.c',
+          '(set_nonblocking(circuit) != 0 || !keep_alive(circuit, line->link))', '(set_nonblocking(circuit) != 0)', kept_alive),
+    fault('a silent peer is asked for ever', 'line.c', 'TCP_KEEPCNT, &probes, sizeof probes) == 0', 'TCP_KEEPCNT, &probes, 0) != 2',
+          kept_alive),
     fault('a plain device is not named', 'line.c', 'if (link->kind == TERMINAL && is_plain_device(link->address))', 'if (0)',
           plain_devices),
     fault('no pause after a hang-up', 'line.c', 'wait_longer(line, MOST_HANGUP_PAUSE);', 'line->next_try = now() + LEAST_PAUSE;',
