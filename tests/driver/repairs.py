@@ -408,7 +408,8 @@ def kept_alive(bench):
 
 
 def plain_devices(bench):
-    """A device that no terminal server renews is named, since nobody empties its line; a link to one is not."""
+    """A device that no terminal server renews is named, since nobody empties its line; a link to one is not. One that is
+    there only after the start is named too, and once."""
     (master, path), sentence = open_terminal(), '%s is a plain device: nobody empties this line between two circuits'
     os.symlink(path, bench.path('tty'))
     bench.receiver('direct')
@@ -420,9 +421,27 @@ def plain_devices(bench):
             return 'it is not said: %s' % direct.error_text()
         if not wait_for(lambda: spoken(linked)) or happened(linked):
             return 'it is said of a link: %s' % linked.error_text()
-        return None if [direct.finish(), linked.finish()] == [0, 0] else 'ends badly'
+        if [direct.finish(), linked.finish()] != [0, 0]:
+            return 'ends badly'
+        return late_device(bench)
     finally:
         os.close(master)
+
+
+def late_device(bench):
+    """A folder stands for the device: it cannot be opened, and is tried again and again."""
+    bench.receiver('late')
+    end = bench.start('receive', 'late', ['--hybrid-tty', bench.path('device')])
+    if not wait_for(lambda: spoken(end)) or happened(end):
+        return 'something is said of a device that is not there: %s' % end.error_text()
+    os.mkdir(bench.path('device'))
+    if not wait_for(lambda: said(bench.programs, bench.path('late'))[0][-1] == 'no peer: Is a directory'):
+        return 'it is not tried: %s' % said(bench.programs, bench.path('late'))[0]
+    time.sleep(0.6)
+    sentence = '%s is a plain device: nobody empties this line between two circuits' % bench.path('device')
+    if end.finish() != 0 or happened(end) != [sentence]:
+        return 'a device that comes late is not named once: %s' % end.error_text()
+    return None
 
 
 def calls_of(peer, seconds):
@@ -697,8 +716,13 @@ FAULTS = [
           '(set_nonblocking(circuit) != 0 || !keep_alive(circuit, line->link))', '(set_nonblocking(circuit) != 0)', kept_alive),
     fault('a silent peer is asked for ever', 'line.c', 'TCP_KEEPCNT, &probes, sizeof probes) == 0', 'TCP_KEEPCNT, &probes, 0) != 2',
           kept_alive),
-    fault('a plain device is not named', 'line.c', 'if (link->kind == TERMINAL && is_plain_device(link->address))', 'if (0)',
+    fault('a plain device is not named', 'line.c', 'if (!line->plain)', 'if (0)', plain_devices),
+    Fault('a plain device that comes late is not named', [
+        ('line.c', 'if (!line->plain)', 'if (0)'),
+        ('line.c', 'line->link = link;', 'line->link = link;\n    struct stat found;\n    if (link->kind == TERMINAL && '
+         'lstat(link->address, &found) == 0 && !S_ISLNK(found.st_mode))\n        say_plain_device(link->address);')],
           plain_devices),
+    fault('a plain device is named at each call', 'line.c', 'if (!line->plain)', 'if (1)', plain_devices),
     fault('no pause after a hang-up', 'line.c', 'wait_longer(line, MOST_HANGUP_PAUSE);', 'line->next_try = now() + LEAST_PAUSE;',
           hangups),
     fault('repeats are not folded', 'said.c', 'if (strcmp(line, last->line) == 0 ||', 'if (0 &&', hangups),
