@@ -10,7 +10,7 @@ import struct
 import subprocess
 import time
 
-from duties import Peer, RULES, answer, damaged_states, happened, spoken, text, used_time, wait_for
+from duties import Peer, RULES, answer, damaged_states, freezing, happened, spoken, text, used_time, wait_for
 from ends import End, change_state, read, read_words, state_of
 from faults import Fault
 from lines import open_terminal
@@ -257,22 +257,28 @@ def turned(folder):
         return time.monotonic() * 1000
 
 
-def deaf_caller(bench):
-    """A peer that reads no answers keeps nobody else out, however long the timer is."""
-    folder = bench.receiver()
-    end = bench.start('receive', 'r', ['--minimal-listen', '0'], '--timer', '600000')
+def deafens(end):
+    """A caller that asks and asks and reads no answer, once the receiver waits to be read."""
     deaf, limit = socket.socket(), time.monotonic() + 20
     deaf.setsockopt(socket.SOL_SOCKET, socket.SO_RCVBUF, 4096)
     deaf.connect(('127.0.0.1', end.port))
     deaf.setblocking(False)
-    while time.monotonic() * 1000 < turned(folder) + 2500:  # until the receiver waits to be read
+    while time.monotonic() * 1000 < turned(end.folder) + 2500:
         if time.monotonic() > limit:
-            return 'it goes on answering'
+            raise RuntimeError('it goes on answering')
         if select.select([], [deaf], [], 0.1)[1]:
             try:
                 deaf.send(QUERY * 500)
             except BlockingIOError:
                 pass
+    return deaf
+
+
+def deaf_caller(bench):
+    """A peer that reads no answers keeps nobody else out, however long the timer is, and does not hold up the end."""
+    bench.receiver()
+    end = bench.start('receive', 'r', ['--minimal-listen', '0'], '--timer', '600000')
+    deaf = deafens(end)
     new, begin = call(end), time.monotonic()
     new.settimeout(3)
     new.sendall(QUERY)
@@ -284,6 +290,24 @@ def deaf_caller(bench):
         return 'a new caller hears %s after %.1f s' % (heard, time.monotonic() - begin)
     deaf.close()
     new.close()
+    deaf, begin = deafens(end), time.monotonic()
+    status = end.finish()
+    if status != 0 or time.monotonic() > begin + 2:
+        return 'it stops after %.1f s with %s' % (time.monotonic() - begin, status)
+    deaf.close()
+    return None
+
+
+def deaf_for_long(bench):
+    """With nobody else calling, such a circuit ends before the driver looks as if it hangs, however long the timer is."""
+    folder = bench.receiver()
+    end = bench.start('receive', 'r', ['--minimal-listen', '0'], '--timer', '600000')
+    deaf, limit = deafens(end), time.monotonic() + 7.5
+    while read_words(folder, 'live')['circuit_open'] == 1:
+        if time.monotonic() > limit:
+            return 'the circuit is still open'
+        time.sleep(0.05)
+    deaf.close()
     return None if end.finish() == 0 else 'ends badly'
 
 
@@ -326,6 +350,26 @@ def moved_folders(bench):
         if set(os.listdir(bench.path(name))) & {'live', 'live.new'}:
             return '%s wrote into the new folder' % command
     return None
+
+
+def moved_receiver(bench):
+    """Also where a block comes before the driver has looked at its folder: what it stores does not go into the new one."""
+    folder = bench.receiver()
+    end = bench.start('receive', 'r', ['--minimal-listen', '0'])
+    circuit = call(end)
+    circuit.sendall(QUERY)
+    if not RULES.accepted(circuit.recv(4096)):
+        return 'no answer'
+    turn = turned(folder)
+    if not wait_for(lambda: turned(folder) > turn):  # now it looks again in a second
+        return 'it does not turn'
+    os.rename(folder, folder + '-aside')
+    if bench.driver('receiver-init', folder)[0] != 0:
+        return 'not made anew'
+    circuit.sendall(RULES.block(text(1)))
+    if not wait_for(lambda: end.process.poll() == 1, 5) or 'is another folder now' not in end.error_text():
+        return 'it goes on: %s' % end.error_text()
+    return 'it stored into the new folder' if transactions(folder) or read_words(folder, 'state')['stored'] else None
 
 
 def linked_files(bench):
@@ -445,13 +489,13 @@ def late_device(bench):
 
 
 def calls_of(peer, seconds):
-    """How often a peer that hangs up at once is called in this time."""
-    count, until = 0, time.monotonic() + seconds
+    """When a peer that hangs up at once is called in this time."""
+    times, until = [], time.monotonic() + seconds
     while time.monotonic() < until:
         if select.select([peer.server], [], [], max(0.0, until - time.monotonic()))[0]:
             peer.server.accept()[0].close()
-            count += 1
-    return count
+            times.append(time.monotonic())
+    return times
 
 
 def hangups(bench):
@@ -460,9 +504,12 @@ def hangups(bench):
     bench.sender()
     peer = Peer()
     end = bench.start('send', 's', peer.line)
-    count = calls_of(peer, 2)
+    times = calls_of(peer, 2)
+    count, pauses = len(times), [later - time for time, later in zip(times, times[1:])]
     if not 4 <= count <= 20:
         return 'called %d times in 2 seconds' % count
+    if pauses[-1] < 3 * sorted(pauses)[len(pauses) // 2]:
+        return 'the pauses do not grow: %s' % pauses
     sentence = '127.0.0.1:%d took the call and soon hung up' % peer.server.getsockname()[1]
     if happened(end) != [sentence]:
         return 'it is not said once: %s' % end.error_text()
@@ -667,12 +714,13 @@ def hanging(bench):
     return None if end.finish() == 0 else 'ends badly'
 
 
-REPAIRS = [long_names, replaced, old_results, dropped_bytes, moved_folders, linked_files, floods, sender_floods, busy,
-           sender_busy, deaf_caller, vanished_peers, kept_alive, plain_devices, hangups, first_forms, beyond, lost_states,
+REPAIRS = [long_names, replaced, old_results, dropped_bytes, moved_folders, moved_receiver, linked_files, floods, sender_floods, busy,
+           sender_busy, deaf_caller, deaf_for_long, vanished_peers, kept_alive, plain_devices, hangups, first_forms, beyond, lost_states,
            wrong_count, strangers, shown_settings, busy_books, different_limits, hanging]
 
 
-UNSANITIZED = (replaced, busy, sender_busy, kept_alive, busy_books, hangups)  # a library is preloaded, which does not go with a sanitizer's; or mostly waiting
+# A library is preloaded, which does not go with a sanitizer's; or mostly waiting.
+UNSANITIZED = (replaced, busy, sender_busy, deaf_for_long, kept_alive, busy_books, hangups)
 
 
 def fault(name, file, old, new, test):
@@ -691,6 +739,8 @@ FAULTS = [
           dropped_bytes),
     fault('a folder that was moved', 'store.c', 'if (stat(path, &status) != 0 || status.st_dev != locked.st_dev ||', 'if (0 &&',
           moved_folders),
+    fault('a transaction into a folder that was moved', 'receiving_end.c',
+          '    require_same_folder(end->folder);\n    if (after->stored', '    if (after->stored', moved_receiver),
     fault('a link in the spool is taken', 'spool.c', 'return lstat(path, &status) == 0', 'return stat(path, &status) == 0',
           linked_files),
     fault('a read-out for each verdict', 'receiving_end.c', '            receive_block(end);\n        if (line_is_called',
@@ -706,9 +756,11 @@ FAULTS = [
           'end->line.circuit >= 0) {', sender_busy),
     fault('a part is not left for a new caller at a sender', 'sending_end.c', 'if (line_is_called(&end->line))', 'if (0)',
           sender_busy),
-    Fault('a deaf peer keeps others out', [
-        ('line.c', '|| stop_requested() || line_is_called(line))', '|| stop_requested())'),
-        ('receiving_end.c', 'MOST_WAIT = 8000', 'MOST_WAIT = 600000')], deaf_caller),
+    fault('a deaf peer keeps others out', 'line.c', '|| stop_requested() || line_is_called(line))', '|| stop_requested())',
+          deaf_caller),
+    fault('a deaf peer holds up the end', 'line.c', '|| stop_requested() || line_is_called(line))', '|| line_is_called(line))',
+          deaf_caller),
+    fault('a deaf peer keeps its circuit', 'receiving_end.c', 'MOST_WAIT = 8000', 'MOST_WAIT = 600000', deaf_for_long),
     fault('no keepalive', 'line.c', 'const int yes = 1, silence', 'const int yes = 0, silence', vanished_peers),
     fault('no end of waiting for what is on its way', 'line.c',
           'setsockopt(circuit, IPPROTO_TCP, TCP_USER_TIMEOUT, &limit, sizeof limit) == 0 &&', '', kept_alive),
@@ -725,6 +777,8 @@ FAULTS = [
     fault('a plain device is named at each call', 'line.c', 'if (!line->plain)', 'if (1)', plain_devices),
     fault('no pause after a hang-up', 'line.c', 'wait_longer(line, MOST_HANGUP_PAUSE);', 'line->next_try = now() + LEAST_PAUSE;',
           hangups),
+    fault('a pause that does not grow', 'line.c', 'wait_longer(line, MOST_HANGUP_PAUSE);', 'line->next_try = now() + 200;',
+          hangups),
     fault('repeats are not folded', 'said.c', 'if (strcmp(line, last->line) == 0 ||', 'if (0 &&', hangups),
     fault('a line without its time', 'said.c', 'fprintf(stderr, "%s %s", time, line);', 'fprintf(stderr, "%s", line);',
           shown_settings),
@@ -740,6 +794,8 @@ FAULTS = [
     fault('a stored transaction is written over', 'receiving_end.c', 'if (end->stored_any && !is_missing(path))', 'if (0)', beyond),
     fault('a stranger\'s -1 is not told', 'receiving_end.c', 'if (before == 0 || after->words[GMV_RECEIVER_EXPECTED] != 0)',
           'if (1)', strangers),
+    fault('a frozen sender does not turn', 'sending_end.c', 'line_wait(&end->line, 0, now() + BEAT);',
+          'line_wait(&end->line, 0, LLONG_MAX);', freezing),
     fault('a driver with nothing to do does not turn', 'receiving_end.c', 'earliest(line_next_try(&end.line), now() + BEAT)',
           'line_next_try(&end.line)', hanging),
 ]
