@@ -267,12 +267,23 @@ int lock_folder(const char *folder)
     if (file < 0 || fstat(file, &locked) != 0)
         fail("cannot open %s: %s", path, strerror(errno));
     if (fcntl(file, F_SETLK, &lock) == 0) {
+        if (futimens(file, NULL) != 0) /* since when it starts */
+            fail("cannot write %s: %s", path, strerror(errno));
         remove_live(folder);
         return 0;
     }
     if (errno != EACCES && errno != EAGAIN)
         fail("cannot lock %s: %s", path, strerror(errno));
     return -1;
+}
+
+time_t lock_time(const char *folder)
+{
+    char path[PATH_LENGTH];
+    struct stat status;
+
+    path_of(path, folder, "lock");
+    return stat(path, &status) == 0 ? status.st_mtime : time(NULL);
 }
 
 /* Reading is enough to ask: the one who asks need not be the driver's user. */

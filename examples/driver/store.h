@@ -66,4 +66,7 @@ void require_same_folder(const char *folder);
 /* Whether a process has the lock: 1, 0, or -1 where it cannot be told. */
 int folder_is_locked(const char *folder);
 
+/* When the lock was taken last; the present where that cannot be told. */
+time_t lock_time(const char *folder);
+
 #endif

@@ -649,9 +649,9 @@ def shown_settings(bench):
     """The read-out has the settings, the process and the peer's address."""
     folder = bench.receiver()
     end = bench.start('receive', 'r', ['--minimal-listen', '0'], '--data-limit', '300', '--timer', '77', '--resends', '5',
-                      '--type', 'ORU', '--application', 'AE')
+                      '--type', 'ORU', '--application', 'AE', '--keepalive', '9')
     circuit = call(end)
-    settings = 'settings: minimal-listen 0, data limit 300, timer 77, resends 5, type ORU, application AE'
+    settings = 'settings: minimal-listen 0, data limit 300, timer 77, resends 5, type ORU, application AE, keepalive 9'
     wanted = ['process %d, last turned 0 s ago' % end.process.pid, settings,
               'peer: 127.0.0.1:%d' % circuit.getsockname()[1]]
     if not wait_for(lambda: said(bench.programs, folder)[0][-3:] == wanted):
@@ -714,13 +714,25 @@ def hanging(bench):
     return None if end.finish() == 0 else 'ends badly'
 
 
+def slow_starts(bench):
+    """A driver that starts is said to start since it took the folder, and not since an earlier one did."""
+    folder = bench.receiver()
+    os.utime(os.path.join(folder, 'lock'), (time.time() - 3600, time.time() - 3600))
+    end = End(bench.programs, 'receive', folder, ['--minimal-connect', '127.0.0.1:1'], [])
+    bench.ends.append(end)
+    end.start(slow_disk(bench, 700))
+    if not wait_for(lambda: said(bench.programs, folder)[0][0] == 'warning: the driver is starting', 1.5):
+        return 'linkstatus says %s' % said(bench.programs, folder)[0]
+    return None if end.finish() == 0 else 'ends badly'
+
+
 REPAIRS = [long_names, replaced, old_results, dropped_bytes, moved_folders, moved_receiver, linked_files, floods, sender_floods, busy,
            sender_busy, deaf_caller, deaf_for_long, vanished_peers, kept_alive, plain_devices, hangups, first_forms, beyond, lost_states,
-           wrong_count, strangers, shown_settings, busy_books, different_limits, hanging]
+           wrong_count, strangers, shown_settings, busy_books, different_limits, hanging, slow_starts]
 
 
 # A library is preloaded, which does not go with a sanitizer's; or mostly waiting.
-UNSANITIZED = (replaced, busy, sender_busy, deaf_for_long, kept_alive, busy_books, hangups)
+UNSANITIZED = (replaced, busy, sender_busy, deaf_for_long, kept_alive, busy_books, hangups, slow_starts)
 
 
 def fault(name, file, old, new, test):
@@ -782,6 +794,8 @@ FAULTS = [
     fault('repeats are not folded', 'said.c', 'if (strcmp(line, last->line) == 0 ||', 'if (0 &&', hangups),
     fault('a line without its time', 'said.c', 'fprintf(stderr, "%s %s", time, line);', 'fprintf(stderr, "%s", line);',
           shown_settings),
+    fault('the keepalive is not shown', 'settings.c', 'snprintf(text + length, size - (size_t)length, ", keepalive %ld"',
+          '(void)(", keepalive %ld"', shown_settings),
     fault('a state without a check is taken again', 'records.c', 'return unchecked && !is_missing(path) ?', 'return 0 ?', first_forms),
     fault('the check is not compared', 'records.c', '    return takes(at, wanted);\n}\n\n/* A state\'s title',
           '    *at += strlen(wanted);\n    return 1;\n}\n\n/* A state\'s title', damaged_states),
@@ -794,6 +808,7 @@ FAULTS = [
     fault('a stored transaction is written over', 'receiving_end.c', 'if (end->stored_any && !is_missing(path))', 'if (0)', beyond),
     fault('a stranger\'s -1 is not told', 'receiving_end.c', 'if (before == 0 || after->words[GMV_RECEIVER_EXPECTED] != 0)',
           'if (1)', strangers),
+    fault('a start has no time of its own', 'store.c', 'if (futimens(file, NULL) != 0)', 'if (0)', slow_starts),
     fault('a frozen sender does not turn', 'sending_end.c', 'line_wait(&end->line, 0, now() + BEAT);',
           'line_wait(&end->line, 0, LLONG_MAX);', freezing),
     fault('a driver with nothing to do does not turn', 'receiving_end.c', 'earliest(line_next_try(&end.line), now() + BEAT)',
@@ -813,6 +828,8 @@ READ_OUT_FAULTS = [
     fault('a frozen sender ends with 0', 'linkstatus/linkstatus.c', 'return all.severity;', 'return GOOD;', None),
     fault('a driver that hangs is called good', 'status.c', 'else if (seconds_since(running->turned) >= PASSING)',
           'else if (0)', None),
+    fault('a driver that hangs at its start is called starting', 'status.c', 'presence == DRIVER_STARTS && starting >= PASSING',
+          '0', None),
     fault('a dead receiver is called good', 'status.c', 'add_reason(verdict, CRITICAL, R_NO_DRIVER);', ';', None),
     fault('an empty refused file is a warning', 'store.c', 'if (status.st_size == 0) {', 'if (0) {', None),
     fault('only the first result has an age', 'log.c', 'number <= last; number++', 'number <= first; number++', None),
