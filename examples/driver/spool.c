@@ -90,22 +90,23 @@ static int link_refused(const char *folder, const char *path, const spool_file *
     char refused_name[SPOOL_NAME + 64], copy_text[32] = "";
     size_t kept = strlen(file->name);
 
-    for (int copy = 0;;) {
+    for (int copy = 0, error;;) {
         snprintf(refused_name, sizeof refused_name, "refused/%d-%.*s%s", (int)number, (int)kept, file->name,
                  copy_text);
         path_of(refused, folder, refused_name);
         if (link(path, refused) == 0)
             return 0;
-        if (errno == EEXIST && is_seen_file(refused, &file->seen))
+        error = errno; /* looking at a file that is gone meanwhile changes it */
+        if (error == EEXIST && is_seen_file(refused, &file->seen))
             return 0; /* a crash came before the spool's name went */
-        if (errno == ENOENT && is_missing(path))
+        if (error == ENOENT && is_missing(path))
             return -1;
-        if (errno == EEXIST)
+        if (error == EEXIST)
             snprintf(copy_text, sizeof copy_text, ".%d", ++copy);
-        else if (errno == ENAMETOOLONG && kept > 0)
+        else if (error == ENAMETOOLONG && kept > 0)
             kept--;
         else
-            fail("cannot move %s to %s: %s", path, refused, strerror(errno));
+            fail("cannot move %s to %s: %s", path, refused, strerror(error));
     }
 }
 

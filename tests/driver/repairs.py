@@ -63,6 +63,33 @@ def long_names(bench):
     return None
 
 
+def forged_names(bench):
+    """A name with line feeds makes no line of its own, neither where its file is refused nor where the driver fails."""
+    folder = bench.sender()
+    bench.put('a\n2026-11-16 09:57:46 gmv_driver: stopped\x1b', b'no header')
+    end = bench.start('send', 's', ['--minimal-connect', '127.0.0.1:1'])
+    if not wait_for(lambda: os.listdir(os.path.join(folder, 'refused'))) or end.finish() != 0:
+        return 'not refused: %s' % end.error_text()
+    wanted = 'a\\x0A2026-11-16 09:57:46 gmv_driver: stopped\\x1B is refused by 9'
+    if happened(end) != [wanted]:
+        return 'said is %s' % spoken(end)
+    status, words = bench.driver('send', bench.path('none\n2026'), '--minimal-connect', '127.0.0.1:1')
+    return None if status == 1 and words.count('\n') == 1 else 'it fails with %s' % words
+
+
+def vanished_name(bench):
+    """A refused file whose name was in use at one moment and free at the next is moved all the same."""
+    folder = bench.sender()
+    write(os.path.join(folder, 'refused', '9-a'), b'an earlier one')
+    bench.put('a', b'no header')
+    end = End(bench.programs, 'send', folder, ['--minimal-connect', '127.0.0.1:1'], [])
+    bench.ends.append(end)
+    end.start(preloaded(bench, 'slow', REMOVE_LINKED='1'))
+    if not wait_for(lambda: os.listdir(os.path.join(folder, 'refused')) == ['9-a.1']):
+        return 'refused are %s: %s' % (os.listdir(os.path.join(folder, 'refused')), end.error_text())
+    return None if end.finish() == 0 else 'ends badly'
+
+
 def replaced(bench):
     """A file that the host puts under a name that the driver is just about to take out of the spool is not lost."""
     folder = bench.sender()
@@ -726,13 +753,13 @@ def slow_starts(bench):
     return None if end.finish() == 0 else 'ends badly'
 
 
-REPAIRS = [long_names, replaced, old_results, dropped_bytes, moved_folders, moved_receiver, linked_files, floods, sender_floods, busy,
+REPAIRS = [long_names, forged_names, vanished_name, replaced, old_results, dropped_bytes, moved_folders, moved_receiver, linked_files, floods, sender_floods, busy,
            sender_busy, deaf_caller, deaf_for_long, vanished_peers, kept_alive, plain_devices, hangups, first_forms, beyond, lost_states,
            wrong_count, strangers, shown_settings, busy_books, different_limits, hanging, slow_starts]
 
 
 # A library is preloaded, which does not go with a sanitizer's; or mostly waiting.
-UNSANITIZED = (replaced, busy, sender_busy, deaf_for_long, kept_alive, busy_books, hangups, slow_starts)
+UNSANITIZED = (vanished_name, replaced, busy, sender_busy, deaf_for_long, kept_alive, busy_books, hangups, slow_starts)
 
 
 def fault(name, file, old, new, test):
@@ -742,7 +769,12 @@ def fault(name, file, old, new, test):
 # What was mended, put back: the name, the file, the text that stands there once, what is put in its place, and the test
 # that must find it.
 FAULTS = [
-    fault('a long name ends the driver', 'spool.c', 'else if (errno == ENAMETOOLONG && kept > 0)', 'else if (0)', long_names),
+    fault('a long name ends the driver', 'spool.c', 'else if (error == ENAMETOOLONG && kept > 0)', 'else if (0)', long_names),
+    fault('a name makes a line', 'said.c', 'fprintf(stderr, "%s %s\\n", time, escaped);', 'fprintf(stderr, "%s %s", time, line);',
+          forged_names),
+    fault('a name makes a line of a failure', 'common.c', 'fprintf(stderr, "%s %s: %s\\n", time, program, escaped);',
+          'fprintf(stderr, "%s %s: %s\\n", time, program, line);', forged_names),
+    fault('a look changes why a file was not moved', 'spool.c', 'if (error == EEXIST)\n', 'if (errno == EEXIST)\n', vanished_name),
     fault("the host's next file goes with the last one", 'spool.c', 'if (is_seen_file(path, &file->seen) && unlink(path) != 0',
           'if (unlink(path) != 0', replaced),
     fault('a result is young again when it is submitted', 'store.c', '(written != NULL && set_time(file, written) != 0)', '0',
@@ -792,7 +824,7 @@ FAULTS = [
     fault('a pause that does not grow', 'line.c', 'wait_longer(line, MOST_HANGUP_PAUSE);', 'line->next_try = now() + 200;',
           hangups),
     fault('repeats are not folded', 'said.c', 'if (strcmp(line, last->line) == 0 ||', 'if (0 &&', hangups),
-    fault('a line without its time', 'said.c', 'fprintf(stderr, "%s %s", time, line);', 'fprintf(stderr, "%s", line);',
+    fault('a line without its time', 'said.c', 'fprintf(stderr, "%s %s\\n", time, escaped);', 'fprintf(stderr, "%s\\n", escaped);',
           shown_settings),
     fault('the keepalive is not shown', 'settings.c', 'snprintf(text + length, size - (size_t)length, ", keepalive %ld"',
           '(void)(", keepalive %ld"', shown_settings),
