@@ -222,8 +222,8 @@ static int is_same_link(const struct stat *a, const struct stat *b)
            a->st_ctim.tv_sec == b->st_ctim.tv_sec && a->st_ctim.tv_nsec == b->st_ctim.tv_nsec;
 }
 
-/* Only a symbolic link that a terminal server makes anew stands for one circuit. Said once: the device may come after the
- * driver, and be opened again and again. */
+/* Only a symbolic link that a terminal server makes anew stands for one circuit. Said once: the device may come after
+ * the driver, and be opened again and again. */
 static void note_plain_device(line *line)
 {
     if (!line->plain)

@@ -103,7 +103,8 @@ void store_durably(const char *folder, const char *name, const void *bytes, size
     store(folder, name, bytes, length, NULL, 1);
 }
 
-void store_as_of(const char *folder, const char *name, const void *bytes, size_t length, const struct timespec *written)
+void store_as_of(const char *folder, const char *name, const void *bytes, size_t length,
+                 const struct timespec *written)
 {
     store(folder, name, bytes, length, written, 1);
 }

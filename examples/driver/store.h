@@ -22,7 +22,8 @@ void sync_file(const char *path);
 void store_durably(const char *folder, const char *name, const void *bytes, size_t length);
 
 /* The same, and the file counts as written at that time: it is as old as the one that it was copied from. */
-void store_as_of(const char *folder, const char *name, const void *bytes, size_t length, const struct timespec *written);
+void store_as_of(const char *folder, const char *name, const void *bytes, size_t length,
+                 const struct timespec *written);
 
 /* The same without syncing, for what need not survive. */
 void store_lightly(const char *folder, const char *name, const void *bytes, size_t length);

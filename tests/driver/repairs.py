@@ -5,6 +5,7 @@ import ctypes
 import os
 import re
 import select
+import signal
 import socket
 import struct
 import subprocess
@@ -240,6 +241,22 @@ def busy(bench):
     if status != 0 or time.monotonic() > begin + 2:
         return 'it stops after %.1f s with %s' % (time.monotonic() - begin, status)
     return None
+
+
+def read_in_time(bench):
+    """An answer that is there when the timer has run out counts, also where it is the last send's."""
+    folder, peer = bench.sender(), Peer()
+    end = bench.start('send', 's', peer.line, '--timer', '300', '--resends', '0')
+    peer.accept()
+    peer.block()
+    end.signal(signal.SIGSTOP)
+    peer.reply('AA', '-1', '-1')
+    time.sleep(0.5)
+    end.signal(signal.SIGCONT)
+    if not wait_for(lambda: read_words(folder, 'state')['resynchronized'] == 1) or happened(end):
+        return 'the answer does not count: %s' % end.error_text()
+    peer.close()
+    return None if end.finish() == 0 else 'ends badly'
 
 
 def answers(first, last):
@@ -753,9 +770,10 @@ def slow_starts(bench):
     return None if end.finish() == 0 else 'ends badly'
 
 
-REPAIRS = [long_names, forged_names, vanished_name, replaced, old_results, dropped_bytes, moved_folders, moved_receiver, linked_files, floods, sender_floods, busy,
-           sender_busy, deaf_caller, deaf_for_long, vanished_peers, kept_alive, plain_devices, hangups, first_forms, beyond, lost_states,
-           wrong_count, strangers, shown_settings, busy_books, different_limits, hanging, slow_starts]
+REPAIRS = [long_names, forged_names, vanished_name, replaced, old_results, dropped_bytes, moved_folders, moved_receiver,
+           linked_files, floods, sender_floods, busy, sender_busy, read_in_time, deaf_caller, deaf_for_long, vanished_peers,
+           kept_alive, plain_devices, hangups, first_forms, beyond, lost_states, wrong_count, strangers, shown_settings,
+           busy_books, different_limits, hanging, slow_starts]
 
 
 # A library is preloaded, which does not go with a sanitizer's; or mostly waiting.
@@ -770,8 +788,8 @@ def fault(name, file, old, new, test):
 # that must find it.
 FAULTS = [
     fault('a long name ends the driver', 'spool.c', 'else if (error == ENAMETOOLONG && kept > 0)', 'else if (0)', long_names),
-    fault('a name makes a line', 'said.c', 'fprintf(stderr, "%s %s\\n", time, escaped);', 'fprintf(stderr, "%s %s", time, line);',
-          forged_names),
+    fault('a name makes a line', 'said.c', 'fprintf(stderr, "%s %s\\n", time, escaped);',
+          'fprintf(stderr, "%s %s", time, line);', forged_names),
     fault('a name makes a line of a failure', 'common.c', 'fprintf(stderr, "%s %s: %s\\n", time, program, escaped);',
           'fprintf(stderr, "%s %s: %s\\n", time, program, line);', forged_names),
     fault('a look changes why a file was not moved', 'spool.c', 'if (error == EEXIST)\n', 'if (errno == EEXIST)\n', vanished_name),
@@ -800,6 +818,8 @@ FAULTS = [
           'end->line.circuit >= 0) {', sender_busy),
     fault('a part is not left for a new caller at a sender', 'sending_end.c', 'if (line_is_called(&end->line))', 'if (0)',
           sender_busy),
+    fault('the timer before what was read', 'sending_end.c', '    if (seen & LINE_WRITABLE)\n',
+          '    run_timer(end);\n    if (seen & LINE_WRITABLE)\n', read_in_time),
     fault('a deaf peer keeps others out', 'line.c', '|| stop_requested() || line_is_called(line))', '|| stop_requested())',
           deaf_caller),
     fault('a deaf peer holds up the end', 'line.c', '|| stop_requested() || line_is_called(line))', '|| line_is_called(line))',
