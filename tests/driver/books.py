@@ -175,6 +175,11 @@ CASES = [
      [SINCE % (3, 0), GREATEST % (3, 'none'), DIFFER], None),
     ('behind an earlier tenant of the first form, which kept no count', pair(1, 3, 4, 4, 3, 5, cleared=0, cleared_after=0),
      [AGREE % 3], ''),
+    ('a receiver that was kept and purged, and -1 did not arrive', changed(
+        pair(1, 0, 0, 2, 0, 1, cleared=0, cleared_after=0), at_1=None),
+     ['books: the expected number says that 1 are stored, and 0 were submitted', NOTHING, DIFFER], None),
+    ('the same, with a greater first number', changed(pair(5, 4, 4, 2, 0, 1, cleared=0, cleared_after=0), at_1=None),
+     ['books: the expected number says that 0 are stored, and the mark covers 0', NOTHING, DIFFER], None),
     ("a receiver that still has the old tenant's 1", changed(pair(1, 1, 1, 2, 1), at_1=text(1, 'old')),
      ['books: 1 marked delivered and not stored',
       'books: position 1 is not number 1 of the log; it is another message, with number 1', NOTHING, DIFFER], None),
