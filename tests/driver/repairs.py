@@ -11,7 +11,7 @@ import struct
 import subprocess
 import time
 
-from duties import Peer, RULES, answer, damaged_states, freezing, happened, spoken, text, used_time, wait_for
+from duties import Peer, RULES, answer, damaged_states, deaf_peers, happened, spoken, text, used_time, wait_for
 from ends import End, change_state, read, read_words, state_of
 from faults import Fault
 from lines import open_terminal
@@ -266,7 +266,7 @@ def answers(first, last):
 
 def sender_busy(bench):
     """The same at a sender: while one part's many answers are acted on, and each delivery is stored."""
-    folder, count = bench.sender(), 40
+    folder, count = bench.sender(), 30
     for number in range(1, count + 1):
         bench.put('%06d' % number, text(number, ''))
     end = bench.start('send', 's', ['--minimal-connect', '127.0.0.1:1'])
@@ -307,7 +307,7 @@ def deafens(end):
     deaf.setsockopt(socket.SOL_SOCKET, socket.SO_RCVBUF, 4096)
     deaf.connect(('127.0.0.1', end.port))
     deaf.setblocking(False)
-    while time.monotonic() * 1000 < turned(end.folder) + 2500:
+    while time.monotonic() * 1000 < turned(end.folder) + 2000:
         if time.monotonic() > limit:
             raise RuntimeError('it goes on answering')
         if select.select([], [deaf], [], 0.1)[1]:
@@ -523,9 +523,8 @@ def late_device(bench):
     if not wait_for(lambda: spoken(end)) or happened(end):
         return 'something is said of a device that is not there: %s' % end.error_text()
     os.mkdir(bench.path('device'))
-    if not wait_for(lambda: said(bench.programs, bench.path('late'))[0][-1] == 'no peer: Is a directory'):
-        return 'it is not tried: %s' % said(bench.programs, bench.path('late'))[0]
-    time.sleep(0.6)
+    wait_for(lambda: happened(end), 1)
+    time.sleep(0.6)  # for further tries
     sentence = '%s is a plain device: nobody empties this line between two circuits' % bench.path('device')
     if end.finish() != 0 or happened(end) != [sentence]:
         return 'a device that comes late is not named once: %s' % end.error_text()
@@ -747,15 +746,18 @@ def different_limits(bench):
 
 
 def hanging(bench):
-    """A driver that is stopped is seen: its last turn gets older. One that runs turns each second."""
-    folder = bench.receiver()
-    end = bench.start('receive', 'r', ['--minimal-listen', '0'])
-    if not wait_for(lambda: os.path.exists(os.path.join(folder, 'live'))):
+    """A driver that is stopped is seen: its last turn gets older. One that runs turns each second, a frozen one too."""
+    folders, froze = (bench.receiver(), bench.sender()), dict(waited='1', code='AR', control_id='1', expected='7')
+    change_state(os.path.join(folders[1], 'state'), last=1, resynchronized=1, frozen=1, **froze)
+    ends = [bench.start('receive', 'r', ['--minimal-listen', '0']),
+            bench.start('send', 's', ['--minimal-connect', '127.0.0.1:1'])]
+    if not wait_for(lambda: all(os.path.exists(os.path.join(folder, 'live')) for folder in folders)):
         return 'not shown'
-    turned = read_words(folder, 'live')['turned']
-    if not wait_for(lambda: read_words(folder, 'live')['turned'] > turned + 500, 4):
-        return 'a driver with nothing to do does not turn'
-    return None if end.finish() == 0 else 'ends badly'
+    before = [turned(folder) for folder in folders]
+    for name, folder, turn in zip(('a driver with nothing to do', 'a frozen driver'), folders, before):
+        if not wait_for(lambda folder=folder, turn=turn: turned(folder) > turn + 500, 4):
+            return '%s does not turn' % name
+    return None if [end.finish() for end in ends] == [0, 0] else 'ends badly'
 
 
 def slow_starts(bench):
@@ -764,8 +766,8 @@ def slow_starts(bench):
     os.utime(os.path.join(folder, 'lock'), (time.time() - 3600, time.time() - 3600))
     end = End(bench.programs, 'receive', folder, ['--minimal-connect', '127.0.0.1:1'], [])
     bench.ends.append(end)
-    end.start(slow_disk(bench, 700))
-    if not wait_for(lambda: said(bench.programs, folder)[0][0] == 'warning: the driver is starting', 1.5):
+    end.start(slow_disk(bench, 400))
+    if not wait_for(lambda: said(bench.programs, folder)[0][0] == 'warning: the driver is starting', 1):
         return 'linkstatus says %s' % said(bench.programs, folder)[0]
     return None if end.finish() == 0 else 'ends badly'
 
@@ -776,6 +778,7 @@ REPAIRS = [long_names, forged_names, vanished_name, replaced, old_results, dropp
            busy_books, different_limits, hanging, slow_starts]
 
 
+WAITING = (deaf_peers, deaf_caller, deaf_for_long, hangups)
 # A library is preloaded, which does not go with a sanitizer's; or mostly waiting.
 UNSANITIZED = (vanished_name, replaced, busy, sender_busy, deaf_for_long, kept_alive, busy_books, hangups, slow_starts)
 
@@ -862,7 +865,7 @@ FAULTS = [
           'if (1)', strangers),
     fault('a start has no time of its own', 'store.c', 'if (futimens(file, NULL) != 0)', 'if (0)', slow_starts),
     fault('a frozen sender does not turn', 'sending_end.c', 'line_wait(&end->line, 0, now() + BEAT);',
-          'line_wait(&end->line, 0, LLONG_MAX);', freezing),
+          'line_wait(&end->line, 0, LLONG_MAX);', hanging),
     fault('a driver with nothing to do does not turn', 'receiving_end.c', 'earliest(line_next_try(&end.line), now() + BEAT)',
           'line_next_try(&end.line)', hanging),
 ]
