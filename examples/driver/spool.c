@@ -59,9 +59,11 @@ ssize_t spool_read(const char *folder, spool_file *file, uint8_t *message, size_
     char path[PATH_LENGTH];
 
     spool_path(path, folder, file->name);
-    if (stat(path, &file->seen) != 0)
-        memset(&file->seen, 0, sizeof file->seen);
-    return read_or_miss(path, message, size);
+    if (stat(path, &file->seen) == 0)
+        return read_or_miss(path, message, size);
+    if (errno != ENOENT)
+        fail("cannot read %s: %s", path, strerror(errno));
+    return -1;
 }
 
 /* A second name is no change of the file. */

@@ -36,6 +36,23 @@ def call(end):
     return circuit
 
 
+def hears(circuit, seconds=2):
+    """What comes within this time; nothing where nothing does."""
+    circuit.settimeout(seconds)
+    try:
+        return circuit.recv(4096)
+    except socket.timeout:
+        return b''
+
+
+def stops(end):
+    """Asks a driver to stop, and gives it two seconds. None, or what is wrong."""
+    end.signal(signal.SIGTERM)
+    if not wait_for(lambda: end.process.poll() is not None, 2):
+        return 'it does not stop'
+    return None if end.process.returncode == 0 else 'ends badly'
+
+
 def transactions(folder):
     return sorted(name for name in os.listdir(os.path.join(folder, 'transactions')) if name.endswith('.hl7'))
 
@@ -228,19 +245,15 @@ def busy(bench):
     old.sendall(part)
     if not wait_for(lambda: len(transactions(folder)) >= 2):
         return 'nothing is stored'
-    begin, new = time.monotonic(), call(end)
+    new = call(end)
     new.sendall(QUERY)
-    if not RULES.accepted(new.recv(4096)) or time.monotonic() > begin + 2:
-        return 'a new caller is heard after %.1f s' % (time.monotonic() - begin)
+    if not RULES.accepted(hears(new)):
+        return 'a new caller is not heard'
     stored = read_words(folder, 'state')['stored']
     new.sendall(b''.join(RULES.block(text(number, '')) for number in range(stored + 1, stored + 31)))
     if not wait_for(lambda: read_words(folder, 'state')['stored'] > stored + 1):
         return 'nothing more is stored'
-    begin = time.monotonic()
-    status = end.finish()
-    if status != 0 or time.monotonic() > begin + 2:
-        return 'it stops after %.1f s with %s' % (time.monotonic() - begin, status)
-    return None
+    return stops(end)
 
 
 def read_in_time(bench):
@@ -279,18 +292,14 @@ def sender_busy(bench):
     old.sendall(RULES.block(answer('AA', '-1', '-1')) + answers(1, count))
     if not wait_for(lambda: read_words(folder, 'state')['delivered'] >= 2):
         return 'nothing is delivered'
-    begin, new = time.monotonic(), call(end)
-    if b'|0|P|' not in new.recv(4096) or time.monotonic() > begin + 2:
-        return 'a new caller is heard after %.1f s' % (time.monotonic() - begin)
+    new = call(end)
+    if b'|0|P|' not in hears(new):
+        return 'a new caller is not heard'
     delivered = read_words(folder, 'state')['delivered']
     new.sendall(RULES.block(answer('AA', '0', str(delivered + 1))) + answers(delivered + 1, count))
     if not wait_for(lambda: read_words(folder, 'state')['delivered'] > delivered + 1):
         return 'nothing more is delivered'
-    begin = time.monotonic()
-    status = end.finish()
-    if status != 0 or time.monotonic() > begin + 2:
-        return 'it stops after %.1f s with %s' % (time.monotonic() - begin, status)
-    return None
+    return stops(end)
 
 
 def turned(folder):
@@ -323,23 +332,17 @@ def deaf_caller(bench):
     bench.receiver()
     end = bench.start('receive', 'r', ['--minimal-listen', '0'], '--timer', '600000')
     deaf = deafens(end)
-    new, begin = call(end), time.monotonic()
-    new.settimeout(3)
+    new = call(end)
     new.sendall(QUERY)
-    try:
-        heard = new.recv(4096)
-    except socket.timeout:
-        return 'a new caller is not heard'
+    heard = hears(new, 3)
     if RULES.accepted(heard) != [(b'D', answer('AA', '0', '-1'))]:
-        return 'a new caller hears %s after %.1f s' % (heard, time.monotonic() - begin)
+        return 'a new caller hears %s' % heard
     deaf.close()
     new.close()
-    deaf, begin = deafens(end), time.monotonic()
-    status = end.finish()
-    if status != 0 or time.monotonic() > begin + 2:
-        return 'it stops after %.1f s with %s' % (time.monotonic() - begin, status)
+    deaf = deafens(end)
+    problem = stops(end)
     deaf.close()
-    return None
+    return problem
 
 
 def deaf_for_long(bench):
