@@ -399,24 +399,36 @@ def moved_folders(bench):
     return None
 
 
-def moved_receiver(bench):
-    """Also where a block comes before the driver has looked at its folder: what it stores does not go into the new one."""
-    folder = bench.receiver()
-    end = bench.start('receive', 'r', ['--minimal-listen', '0'])
-    circuit = call(end)
-    circuit.sendall(QUERY)
-    if not RULES.accepted(circuit.recv(4096)):
-        return 'no answer'
-    turn = turned(folder)
-    if not wait_for(lambda: turned(folder) > turn):  # now it looks again in a second
-        return 'it does not turn'
-    os.rename(folder, folder + '-aside')
-    if bench.driver('receiver-init', folder)[0] != 0:
-        return 'not made anew'
-    circuit.sendall(RULES.block(text(1)))
-    if not wait_for(lambda: end.process.poll() == 1, 5) or 'is another folder now' not in end.error_text():
-        return 'it goes on: %s' % end.error_text()
-    return 'it stored into the new folder' if transactions(folder) or read_words(folder, 'state')['stored'] else None
+def moved_while_storing(bench):
+    """Also where a block comes before the driver has looked at its folder again: what it stores does not go into the new
+    one."""
+    peer, circuit = Peer(), None
+    for name, init, command, line in (('s', ('sender-init', '1'), 'send', peer.line),
+                                      ('r', ('receiver-init',), 'receive', ['--minimal-listen', '0'])):
+        folder = bench.sender() if name == 's' else bench.receiver()
+        end = bench.start(command, name, line)
+        if name == 's':
+            peer.accept()
+            circuit, block = peer.circuit, RULES.block(answer('AA', '-1', '-1'))
+        else:
+            circuit, block = call(end), RULES.block(text(1))
+            circuit.sendall(QUERY)
+        if not circuit.recv(4096):
+            return 'nothing comes'
+        made = read(folder, 'state')
+        end.signal(signal.SIGSTOP)
+        os.rename(folder, folder + '-aside')
+        if bench.driver(init[0], folder, *init[1:])[0] != 0:
+            return 'not made anew'
+        circuit.sendall(block)
+        time.sleep(0.1)
+        end.signal(signal.SIGCONT)
+        if not wait_for(lambda end=end: end.process.poll() == 1, 5) or 'is another folder now' not in end.error_text():
+            return '%s goes on: %s' % (command, end.error_text())
+        if read(folder, 'state') != made or (name == 'r' and transactions(folder)):
+            return '%s stored into the new folder' % command
+    peer.close()
+    return None
 
 
 def linked_files(bench):
@@ -775,7 +787,7 @@ def slow_starts(bench):
     return None if end.finish() == 0 else 'ends badly'
 
 
-REPAIRS = [long_names, forged_names, vanished_name, replaced, old_results, dropped_bytes, moved_folders, moved_receiver,
+REPAIRS = [long_names, forged_names, vanished_name, replaced, old_results, dropped_bytes, moved_folders, moved_while_storing,
            linked_files, floods, sender_floods, busy, sender_busy, read_in_time, deaf_caller, deaf_for_long, vanished_peers,
            kept_alive, plain_devices, hangups, first_forms, beyond, lost_states, wrong_count, strangers, shown_settings,
            busy_books, different_limits, hanging, slow_starts]
@@ -808,7 +820,9 @@ FAULTS = [
     fault('a folder that was moved', 'store.c', 'if (stat(path, &status) != 0 || status.st_dev != locked.st_dev ||', 'if (0 &&',
           moved_folders),
     fault('a transaction into a folder that was moved', 'receiving_end.c',
-          '    require_same_folder(end->folder);\n    if (after->stored', '    if (after->stored', moved_receiver),
+          '    require_same_folder(end->folder);\n    if (after->stored', '    if (after->stored', moved_while_storing),
+    fault('a state into a folder that was moved', 'sending_end.c', '    require_same_folder(end->folder);\n    store_sender',
+          '    store_sender', moved_while_storing),
     fault('a link in the spool is taken', 'spool.c', 'return lstat(path, &status) == 0', 'return stat(path, &status) == 0',
           linked_files),
     fault('a read-out for each verdict', 'receiving_end.c', '            receive_block(end);\n        if (line_is_called',
