@@ -12,7 +12,7 @@ import subprocess
 import time
 
 from duties import Peer, RULES, answer, damaged_states, deaf_peers, happened, spoken, text, used_time, wait_for
-from ends import End, change_state, read, read_words, state_of
+from ends import End, Files, change_state, read, read_words, state_of
 from faults import Fault
 from lines import open_terminal
 from readout import said
@@ -415,6 +415,10 @@ def moved_while_storing(bench):
             circuit.sendall(QUERY)
         if not circuit.recv(4096):
             return 'nothing comes'
+        shown = b'\nwaiting 2\n' if name == 's' else b'\nblocks 1\n'
+        if not wait_for(lambda folder=folder, shown=shown: shown in (Files(folder).read('live') or b'')):
+            return 'not shown'
+        time.sleep(0.02)  # now it waits for the line
         made = read(folder, 'state')
         end.signal(signal.SIGSTOP)
         os.rename(folder, folder + '-aside')
@@ -556,6 +560,19 @@ def calls_of(peer, seconds):
     return times
 
 
+def answered_calls(peer, seconds):
+    """How often a peer that answers 0, and hangs up all the same, is called in this time."""
+    count, until = 0, time.monotonic() + seconds
+    while time.monotonic() < until:
+        if select.select([peer.server], [], [], 0.2)[0]:
+            peer.accept()
+            peer.block()
+            peer.reply('AA', '0', '2')
+            peer.circuit.close()
+            count += 1
+    return count
+
+
 def hangups(bench):
     """A peer that takes the call and hangs up is called after pauses that grow, and the line on it is folded. One on whose
     circuit something was delivered is called at once again."""
@@ -563,7 +580,7 @@ def hangups(bench):
     peer = Peer()
     end = bench.start('send', 's', peer.line)
     times = calls_of(peer, 2)
-    count, pauses = len(times), [later - time for time, later in zip(times, times[1:])]
+    count, pauses = len(times), [after - before for before, after in zip(times, times[1:])]
     if not 4 <= count <= 20:
         return 'called %d times in 2 seconds' % count
     if pauses[-1] < 3 * sorted(pauses)[len(pauses) // 2]:
@@ -582,17 +599,9 @@ def hangups(bench):
     if not wait_for(lambda: read_words(bench.path('s'), 'live')['hung_up'] == 0):
         return 'a delivery does not end it'
     peer.circuit.close()
-    begin = time.monotonic()
     if not select.select([peer.server], [], [], 2)[0]:
-        return 'after a delivery it calls again only after %.1f s' % (time.monotonic() - begin)
-    count = 0
-    while time.monotonic() < begin + 3:  # it answers 0, and hangs up all the same
-        if select.select([peer.server], [], [], 0.2)[0]:
-            peer.accept()
-            peer.block()
-            peer.reply('AA', '0', '2')
-            peer.circuit.close()
-            count += 1
+        return 'after a delivery it does not call again'
+    count = answered_calls(peer, 3)
     if count > 25:
         return 'a peer that answers 0 and hangs up is called %d times in 3 seconds' % count
     peer.close()
