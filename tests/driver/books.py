@@ -6,7 +6,8 @@ import os
 from ends import state_text
 from readout import said
 
-DIFFER, AGREE = 'books: THEY DIFFER', 'books: they agree: the first %d of the log are stored, each once, in order, byte for byte'
+DIFFER = 'books: THEY DIFFER'
+AGREE = 'books: they agree: the first %d of the log are stored, each once, in order, byte for byte'
 FROM = 'books: they agree from number %d on, byte for byte; what is before it was purged'
 GREATEST = 'books: the greatest number of the log that is stored is %d; missing below it: %s'
 NOTHING = 'books: no message of the log is stored'
