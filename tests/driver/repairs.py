@@ -349,7 +349,7 @@ def deaf_for_long(bench):
     """With nobody else calling, such a circuit ends before the driver looks as if it hangs, however long the timer is."""
     folder = bench.receiver()
     end = bench.start('receive', 'r', ['--minimal-listen', '0'], '--timer', '600000')
-    deaf, limit = deafens(end), time.monotonic() + 7.5
+    deaf, limit = deafens(end), time.monotonic() + 8
     while read_words(folder, 'live')['circuit_open'] == 1:
         if time.monotonic() > limit:
             return 'the circuit is still open'
