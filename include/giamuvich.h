@@ -474,7 +474,8 @@ uint64_t gmv_minimal_receive(uint64_t data_limit,
  *            type is refused only there (1),
  *   HOST-24  each block that the reader finds on an open circuit is reported, a refused one too, in
  *            any order,
- *   HOST-41  the timer runs anew from each send that a report names, as long as something waits,
+ *   HOST-41  the timer runs anew from each send that a report names, as long as something waits; when
+ *            it runs out, what was read is told first,
  *   HOST-32  after GMV_EVENT_ABANDONED and GMV_EVENT_FROZE the circuit has ended for the sender: the
  *            driver closes the line, and does not call gmv_sender_ended (it would answer 11),
  *   HOST-26  the type of control messages and resends are the same in every call of one sender. */
@@ -598,7 +599,9 @@ uint64_t gmv_sender_reset(uint64_t *state, size_t state_words,
 
 /* The timer ran out: what waits is sent again while it was sent fewer than resends + 1 times, and
  * given up otherwise. With nothing waiting nothing is done. 1: resends is over 99. 11: no circuit is
- * open. */
+ * open.
+ * Verdicts that were read are told to gmv_sender_block before this call (HOST-41): after giving up
+ * the answer that was there in time is refused by 11, and no longer counts. */
 uint64_t gmv_sender_timer(uint64_t resends, uint64_t *state, size_t state_words,
                           uint64_t *report, size_t report_words);
 

@@ -12,6 +12,8 @@
 
 #include "giamuvich.h"
 
+enum { FAILURE_LENGTH = 16384 /* more than two paths */ };
+
 static int stop_pipe[2] = {-1, -1};
 static volatile sig_atomic_t stopping;
 static const char *program = "gmv_driver";
@@ -33,17 +35,29 @@ void name_program(const char *name, int status)
     failure = status;
 }
 
+void escape(char *escaped, size_t size, const char *line, size_t length)
+{
+    size_t written = 0;
+
+    for (size_t i = 0; i < length && written + 5 <= size; i++) {
+        const unsigned byte = (unsigned char)line[i];
+
+        written += (size_t)sprintf(escaped + written, byte < ' ' || byte == 0x7F ? "\\x%02X" : "%c", byte);
+    }
+    escaped[written] = '\0';
+}
+
 void fail(const char *format, ...)
 {
-    char time[TIME_TEXT];
+    char time[TIME_TEXT], line[FAILURE_LENGTH], escaped[FAILURE_LENGTH];
     va_list values;
 
     time_of_day(time);
-    fprintf(stderr, "%s %s: ", time, program);
     va_start(values, format);
-    vfprintf(stderr, format, values);
+    vsnprintf(line, sizeof line, format, values);
     va_end(values);
-    fprintf(stderr, "\n");
+    escape(escaped, sizeof escaped, line, strlen(line));
+    fprintf(stderr, "%s %s: %s\n", time, program, escaped);
     exit(failure);
 }
 

@@ -9,6 +9,10 @@
  * cannot store or cannot read what it stored does not guess: what is persisted is enough to go on from. */
 void fail(const char *format, ...) __attribute__((noreturn, format(printf, 1, 2)));
 
+/* Copies so many bytes of a line, as far as they go in, with each control character as \xHH: a name that a host gave
+ * to a file makes no line of its own. */
+void escape(char *escaped, size_t size, const char *line, size_t length);
+
 /* Another program's name in that message, and the status that it ends with. */
 void name_program(const char *name, int status);
 

@@ -59,14 +59,6 @@ static int listen_on(const char *port)
     return listening;
 }
 
-/* Only a symbolic link that a terminal server makes anew stands for one circuit. */
-static int is_plain_device(const char *path)
-{
-    struct stat status;
-
-    return lstat(path, &status) == 0 && !S_ISLNK(status.st_mode);
-}
-
 void line_prepare(line *line, const settings *link)
 {
     memset(line, 0, sizeof *line);
@@ -76,8 +68,6 @@ void line_prepare(line *line, const settings *link)
     line->pause = LEAST_PAUSE;
     line->since = now();
     strcpy(line->peer, link->kind == TCP_LISTEN ? NOBODY_CALLS : NOT_CALLED);
-    if (link->kind == TERMINAL && is_plain_device(link->address))
-        say_plain_device(link->address);
 }
 
 /* ---- opening a circuit: a descriptor that does not block, or -1 */
@@ -232,6 +222,15 @@ static int is_same_link(const struct stat *a, const struct stat *b)
            a->st_ctim.tv_sec == b->st_ctim.tv_sec && a->st_ctim.tv_nsec == b->st_ctim.tv_nsec;
 }
 
+/* Only a symbolic link that a terminal server makes anew stands for one circuit. Said once: the device may come after
+ * the driver, and be opened again and again. */
+static void note_plain_device(line *line)
+{
+    if (!line->plain)
+        say_plain_device(line->link->address);
+    line->plain = 1;
+}
+
 /* The terminal server makes the symbolic link anew for each circuit. One that had a circuit already is
  * not opened again: the server has not yet seen that this circuit ended, and its line is not empty. */
 static int open_terminal(line *line)
@@ -244,7 +243,9 @@ static int open_terminal(line *line)
         note_reason(line, strerror(errno));
         return -1;
     }
-    if (S_ISLNK(status.st_mode) && is_same_link(&status, &line->used)) {
+    if (!S_ISLNK(status.st_mode))
+        note_plain_device(line);
+    else if (is_same_link(&status, &line->used)) {
         note_reason(line, "the terminal server has made no new link");
         return -1;
     }

@@ -25,6 +25,7 @@ typedef struct {
     char peer[RUNNING_TEXT];   /* the circuit's other end, or why there is no circuit */
     char ended[RUNNING_TEXT];  /* the other end of the circuit that a new caller ended; else empty */
     struct stat used;          /* the terminal's symbolic link that the last circuit had */
+    int plain;                 /* the terminal was a plain device, and it was said */
 } line;
 
 /* What line_wait saw. */

@@ -10,13 +10,14 @@ static void log_name(char *name, uint64_t number)
     snprintf(name, LOG_NAME, "%llu.hl7", (unsigned long long)number);
 }
 
-void log_store(const char *folder, uint64_t number, const uint8_t *message, size_t length)
+void log_store(const char *folder, uint64_t number, const uint8_t *message, size_t length,
+               const struct timespec *written)
 {
     char log[PATH_LENGTH], name[LOG_NAME];
 
     path_of(log, folder, "log");
     log_name(name, number);
-    store_durably(log, name, message, length);
+    store_as_of(log, name, message, length, written);
 }
 
 static void log_path(char *path, const char *folder, uint64_t number)
@@ -36,11 +37,17 @@ ssize_t log_read(const char *folder, uint64_t number, uint8_t *message, size_t s
     return read_or_miss(path, message, size);
 }
 
-time_t log_time(const char *folder, uint64_t number)
+/* A later number may be the older one, where an earlier one had to be written anew. */
+time_t log_oldest(const char *folder, uint64_t first, uint64_t last)
 {
+    time_t oldest = time(NULL);
     char path[PATH_LENGTH];
     struct stat status;
 
-    log_path(path, folder, number);
-    return stat(path, &status) == 0 ? status.st_mtime : time(NULL);
+    for (uint64_t number = first; number <= last; number++) {
+        log_path(path, folder, number);
+        if (stat(path, &status) == 0 && status.st_mtime < oldest)
+            oldest = status.st_mtime;
+    }
+    return oldest;
 }

@@ -265,6 +265,7 @@ void receiver_create(const char *folder)
         fail("%s has a state already", folder);
     path_of(path, folder, "transactions");
     make_folder(path);
+    require_no_numbers(path);
     sync_folder(path);
     path_of(path, folder, "..");
     sync_folder(path);

@@ -31,12 +31,14 @@ static struct repeated {
     long long next, pause;
 } repeated[SENTENCES];
 
+/* The line feed at its end is the line's own. */
 static void print_line(const char *line)
 {
-    char time[TIME_TEXT];
+    char time[TIME_TEXT], escaped[4 * LINE_LENGTH];
 
     time_of_day(time);
-    fprintf(stderr, "%s %s", time, line);
+    escape(escaped, sizeof escaped, line, strlen(line) - 1);
+    fprintf(stderr, "%s %s\n", time, escaped);
 }
 
 static void say_repeated(struct repeated *last)
@@ -44,7 +46,7 @@ static void say_repeated(struct repeated *last)
     char line[2 * LINE_LENGTH], what[LINE_LENGTH], times[COUNTED];
 
     strcpy(what, last->line + strlen("gmv_driver: "));
-    what[strcspn(what, "\n")] = '\0';
+    what[strlen(what) - 1] = '\0';
     snprintf(line, sizeof line, REPEATED, counted(times, last->more, "time", "times"), last->since, what);
     print_line(line);
     last->more = 0;

@@ -287,7 +287,8 @@ static int submit_next(sending_end *end)
                                end->record.words, GMV_SENDER_WORDS, end->report, GMV_ACT_WORDS);
     switch (number) {
     case GMV_OK:
-        log_store(end->folder, end->record.words[GMV_SENDER_LAST], end->message, (size_t)length);
+        log_store(end->folder, end->record.words[GMV_SENDER_LAST], end->message, (size_t)length,
+                  &file.seen.st_mtim);
         after_act(end, number, "gmv_sender_submit");
         spool_remove(end->folder, &file);
         break;
@@ -463,6 +464,8 @@ void sender_create(const char *folder, const char *first)
     for (size_t i = 0; i < sizeof parts / sizeof parts[0]; i++) {
         path_of(path, folder, parts[i]);
         make_folder(path);
+        if (i == 0)
+            require_no_numbers(path); /* what is in the log was submitted by a state that is gone */
         sync_folder(path);
     }
     path_of(path, folder, "..");

@@ -106,9 +106,13 @@ void settings_text(const settings *link, char *text, size_t size)
         (unsigned long long)link->resends, (const char *)link->type,
         link->application == GMV_CODE_AA ? "AA" : "AE");
 
-    if (link->hybrid && length > 0 && (size_t)length < size)
+    if (length < 0 || (size_t)length >= size)
+        return;
+    if (link->hybrid)
         snprintf(text + length, size - (size_t)length, ", start block %llu, end block %llu",
                  (unsigned long long)link->start_block, (unsigned long long)link->end_block);
+    else
+        snprintf(text + length, size - (size_t)length, ", keepalive %ld", link->keepalive);
 }
 
 /* Acts on things that need no line, made for their check of the settings alone. */

@@ -59,9 +59,11 @@ ssize_t spool_read(const char *folder, spool_file *file, uint8_t *message, size_
     char path[PATH_LENGTH];
 
     spool_path(path, folder, file->name);
-    if (stat(path, &file->seen) != 0)
-        memset(&file->seen, 0, sizeof file->seen);
-    return read_or_miss(path, message, size);
+    if (stat(path, &file->seen) == 0)
+        return read_or_miss(path, message, size);
+    if (errno != ENOENT)
+        fail("cannot read %s: %s", path, strerror(errno));
+    return -1;
 }
 
 /* A second name is no change of the file. */
@@ -90,22 +92,23 @@ static int link_refused(const char *folder, const char *path, const spool_file *
     char refused_name[SPOOL_NAME + 64], copy_text[32] = "";
     size_t kept = strlen(file->name);
 
-    for (int copy = 0;;) {
+    for (int copy = 0, error;;) {
         snprintf(refused_name, sizeof refused_name, "refused/%d-%.*s%s", (int)number, (int)kept, file->name,
                  copy_text);
         path_of(refused, folder, refused_name);
         if (link(path, refused) == 0)
             return 0;
-        if (errno == EEXIST && is_seen_file(refused, &file->seen))
+        error = errno; /* looking at a file that is gone meanwhile changes it */
+        if (error == EEXIST && is_seen_file(refused, &file->seen))
             return 0; /* a crash came before the spool's name went */
-        if (errno == ENOENT && is_missing(path))
+        if (error == ENOENT && is_missing(path))
             return -1;
-        if (errno == EEXIST)
+        if (error == EEXIST)
             snprintf(copy_text, sizeof copy_text, ".%d", ++copy);
-        else if (errno == ENAMETOOLONG && kept > 0)
+        else if (error == ENAMETOOLONG && kept > 0)
             kept--;
         else
-            fail("cannot move %s to %s: %s", path, refused, strerror(errno));
+            fail("cannot move %s to %s: %s", path, refused, strerror(error));
     }
 }
 

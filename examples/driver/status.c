@@ -10,6 +10,7 @@
 #define R_FROZEN "frozen: do not reset before the books are compared"
 #define R_NO_DRIVER "no driver runs"
 #define R_STARTS "the driver is starting"
+#define R_START_HANGS "the driver has been starting for %llu s"
 #define R_UNKNOWN "it cannot be told whether a driver runs"
 #define R_HANGS "the driver has not turned for %llu s"
 #define R_NO_CIRCUIT "no circuit for %llu s: %s"
@@ -144,10 +145,12 @@ void say_verdict(FILE *out, const verdict *verdict)
 }
 
 /* What holds of every running driver. */
-static void judge_running(verdict *verdict, enum presence presence, const running_details *running)
+static void judge_running(verdict *verdict, enum presence presence, uint64_t starting, const running_details *running)
 {
     if (presence == DRIVER_STOPPED)
         add_reason(verdict, CRITICAL, R_NO_DRIVER);
+    else if (presence == DRIVER_STARTS && starting >= PASSING)
+        add_reason(verdict, CRITICAL, R_START_HANGS, (unsigned long long)starting);
     else if (presence == DRIVER_STARTS)
         add_reason(verdict, WARNING, R_STARTS);
     else if (presence == DRIVER_UNKNOWN)
@@ -206,7 +209,7 @@ void judge_sender(verdict *verdict, const sender_status *status)
 
     if (frozen)
         add_reason(verdict, CRITICAL, R_FROZEN);
-    judge_running(verdict, status->presence, &status->running);
+    judge_running(verdict, status->presence, status->starting, &status->running);
     if (!frozen)
         judge_circuit(verdict, status->presence, &status->running);
     if (status->presence == DRIVER_RUNS)
@@ -241,7 +244,7 @@ void judge_receiver(verdict *verdict, const receiver_status *status)
 {
     char stored[COUNTED];
 
-    judge_running(verdict, status->presence, &status->running);
+    judge_running(verdict, status->presence, status->starting, &status->running);
     judge_circuit(verdict, status->presence, &status->running);
     if (status->presence == DRIVER_RUNS)
         judge_requests(verdict, status);

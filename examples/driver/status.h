@@ -42,6 +42,7 @@ typedef struct {
  * where none runs. */
 typedef struct {
     enum presence presence;
+    uint64_t starting; /* seconds since a driver that starts took the folder */
     sender_record record;
     sender_counts counts;
     running_details running;
@@ -52,6 +53,7 @@ typedef struct {
 
 typedef struct {
     enum presence presence;
+    uint64_t starting;
     receiver_record record;
     receiver_counts counts;
     running_details running;

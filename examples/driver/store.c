@@ -65,7 +65,17 @@ static int write_all(int file, const uint8_t *bytes, size_t length)
     return 0;
 }
 
-static void store(const char *folder, const char *name, const void *bytes, size_t length, int sync)
+/* Returns 0 where the file counts as written then. */
+static int set_time(int file, const struct timespec *written)
+{
+    const struct timespec times[2] = {*written, *written};
+
+    return futimens(file, times);
+}
+
+/* A file that counts as written now has no time of its own: NULL. */
+static void store(const char *folder, const char *name, const void *bytes, size_t length,
+                  const struct timespec *written, int sync)
 {
     char path[PATH_LENGTH], new_path[PATH_LENGTH + 4];
     int file;
@@ -76,7 +86,7 @@ static void store(const char *folder, const char *name, const void *bytes, size_
     if (unlink(new_path) != 0 && errno != ENOENT)
         fail("cannot remove %s: %s", new_path, strerror(errno));
     file = open(new_path, O_WRONLY | O_CREAT | O_EXCL, 0666);
-    if (file < 0 || write_all(file, bytes, length) != 0)
+    if (file < 0 || write_all(file, bytes, length) != 0 || (written != NULL && set_time(file, written) != 0))
         fail("cannot write %s: %s", new_path, strerror(errno));
     if (sync && fsync(file) != 0) /* before the name: else the name could survive without the bytes */
         fail("cannot sync %s: %s", new_path, strerror(errno));
@@ -90,12 +100,18 @@ static void store(const char *folder, const char *name, const void *bytes, size_
 
 void store_durably(const char *folder, const char *name, const void *bytes, size_t length)
 {
-    store(folder, name, bytes, length, 1);
+    store(folder, name, bytes, length, NULL, 1);
+}
+
+void store_as_of(const char *folder, const char *name, const void *bytes, size_t length,
+                 const struct timespec *written)
+{
+    store(folder, name, bytes, length, written, 1);
 }
 
 void store_lightly(const char *folder, const char *name, const void *bytes, size_t length)
 {
-    store(folder, name, bytes, length, 0);
+    store(folder, name, bytes, length, NULL, 0);
 }
 
 ssize_t read_file(const char *path, void *buffer, size_t size)
@@ -192,6 +208,16 @@ int greatest_number(const char *path, uint64_t *greatest)
     return for_each_number(path, take_greater, greatest);
 }
 
+void require_no_numbers(const char *path)
+{
+    uint64_t greatest;
+
+    if (greatest_number(path, &greatest) != 0)
+        fail("cannot read %s: %s", path, strerror(errno));
+    if (greatest != 0)
+        fail("%s has messages, and no state counts them: put the folder aside", path);
+}
+
 int is_missing(const char *path)
 {
     struct stat status;
@@ -242,12 +268,23 @@ int lock_folder(const char *folder)
     if (file < 0 || fstat(file, &locked) != 0)
         fail("cannot open %s: %s", path, strerror(errno));
     if (fcntl(file, F_SETLK, &lock) == 0) {
+        if (futimens(file, NULL) != 0) /* since when it starts */
+            fail("cannot write %s: %s", path, strerror(errno));
         remove_live(folder);
         return 0;
     }
     if (errno != EACCES && errno != EAGAIN)
         fail("cannot lock %s: %s", path, strerror(errno));
     return -1;
+}
+
+time_t lock_time(const char *folder)
+{
+    char path[PATH_LENGTH];
+    struct stat status;
+
+    path_of(path, folder, "lock");
+    return stat(path, &status) == 0 ? status.st_mtime : time(NULL);
 }
 
 /* Reading is enough to ask: the one who asks need not be the driver's user. */

@@ -21,6 +21,10 @@ void sync_file(const char *path);
 /* Returns when the file survives a crash. Ends the program where it cannot be stored. */
 void store_durably(const char *folder, const char *name, const void *bytes, size_t length);
 
+/* The same, and the file counts as written at that time: it is as old as the one that it was copied from. */
+void store_as_of(const char *folder, const char *name, const void *bytes, size_t length,
+                 const struct timespec *written);
+
 /* The same without syncing, for what need not survive. */
 void store_lightly(const char *folder, const char *name, const void *bytes, size_t length);
 
@@ -46,6 +50,9 @@ int for_each_number(const char *path, void (*act)(void *, uint64_t), void *with)
 /* The greatest of these numbers; 0 where there is none. */
 int greatest_number(const char *path, uint64_t *greatest);
 
+/* Ends the program where the folder has such files: an end that is made begins with none. */
+void require_no_numbers(const char *path);
+
 /* Whether there is nothing of that name. */
 int is_missing(const char *path);
 
@@ -59,5 +66,8 @@ void require_same_folder(const char *folder);
 
 /* Whether a process has the lock: 1, 0, or -1 where it cannot be told. */
 int folder_is_locked(const char *folder);
+
+/* When the lock was taken last; the present where that cannot be told. */
+time_t lock_time(const char *folder);
 
 #endif

@@ -310,6 +310,34 @@ static void froze(void)
     CHECK(submit(&h, TEXT(REQUEST("2"))) == GMV_OK && open_circuit(&h) == GMV_OK);
 }
 
+/* ---- what was read is told before the timer */
+
+/* 1 waits, and all its sends are spent. Its answer is read, and the timer runs out. */
+static sending_host sent_to_the_last(void)
+{
+    sending_host h = waits_on_1();
+
+    for (int resends = 0; resends < GMV_RESENDS_DEFAULT; resends++)
+        CHECK(time_out(&h, GMV_RESENDS_DEFAULT) == GMV_OK &&
+              h.report[GMV_ACT_SEND] == GMV_SEND_TRANSACTION);
+    return h;
+}
+
+/* The timer first: the answer that was there in time no longer counts. */
+static void read_in_time(void)
+{
+    sending_host late = sent_to_the_last(), right = sent_to_the_last();
+
+    CHECK(time_out(&late, GMV_RESENDS_DEFAULT) == GMV_OK);
+    CHECK(late.report[GMV_ACT_EVENT] == GMV_EVENT_ABANDONED);
+    CHECK(hear(&late, TEXT(ANSWER("AA", "1", "1"))) == GMV_STATE);
+    CHECK(late.state[GMV_SENDER_DELIVERED] == 0);
+    CHECK(hear(&right, TEXT(ANSWER("AA", "1", "1"))) == GMV_OK);
+    CHECK(right.state[GMV_SENDER_DELIVERED] == 1);
+    CHECK(time_out(&right, GMV_RESENDS_DEFAULT) == GMV_OK);
+    CHECK(right.report[GMV_ACT_EVENT] == GMV_EVENT_NONE);
+}
+
 /* ---- the control block is tried before the first circuit */
 
 /* A bad type is refused at the control block alone; the acts count sends that cannot be made. */
@@ -348,6 +376,8 @@ void test_duties(void)
     given_up();
     begin_test("duties: 11 while frozen is ordinary");
     froze();
+    begin_test("duties: an answer that was read is told before the timer");
+    read_in_time();
     begin_test("duties: a bad type is found by trying the control block");
     bad_type();
 }

@@ -6,7 +6,8 @@ import os
 from ends import state_text
 from readout import said
 
-DIFFER, AGREE = 'books: THEY DIFFER', 'books: they agree: the first %d of the log are stored, each once, in order, byte for byte'
+DIFFER = 'books: THEY DIFFER'
+AGREE = 'books: they agree: the first %d of the log are stored, each once, in order, byte for byte'
 FROM = 'books: they agree from number %d on, byte for byte; what is before it was purged'
 GREATEST = 'books: the greatest number of the log that is stored is %d; missing below it: %s'
 NOTHING = 'books: no message of the log is stored'
@@ -24,11 +25,13 @@ def number_in(data):
 
 
 class Pair:
-    """The books of both ends: the sender's numbers and log, the receiver's numbers and transactions."""
+    """The books of both ends: the sender's numbers and log, the receiver's numbers and transactions. `base` are an earlier
+    tenant's, whose expected number the -1 of this one took away."""
 
     def __init__(self, first, mark, last, expected, stored, base=0):
         self.first, self.mark, self.last, self.resynchronized, self.frozen = first, mark, last, 1, 0
         self.expected, self.count = expected, base + stored
+        self.cleared, self.cleared_after = base + 1 if base else 0, base
         self.log = {number: text(number) for number in range(first, last + 1)}
         self.transactions = {position: text(position, 'of an earlier tenant') for position in range(1, base + 1)}
         self.transactions.update({base + i + 1: text(first + i) for i in range(stored)})
@@ -38,8 +41,8 @@ class Pair:
         for path, title, words in (
                 (sender, 'giamuvich sender 2', {'first': self.first, 'delivered': self.mark, 'last': self.last,
                                                 'resynchronized': self.resynchronized, 'frozen': self.frozen}),
-                (receiver, 'giamuvich receiver 2', {'expected': self.expected, 'stored': self.count, 'cleared': 0,
-                                                    'cleared_after': 0})):
+                (receiver, 'giamuvich receiver 2', {'expected': self.expected, 'stored': self.count,
+                                                    'cleared': self.cleared, 'cleared_after': self.cleared_after})):
             for name in ('log', 'spool', 'refused') if path == sender else ('transactions',):
                 os.makedirs(os.path.join(path, name))
             with open(os.path.join(path, 'state'), 'wb') as file:
@@ -60,6 +63,8 @@ class Pair:
     def numbers_agree(self):
         claimed, covers = self.claimed(), self.mark - self.first + 1
         if claimed == 0 and self.expected != 0 and self.resynchronized:
+            return False
+        if self.cleared and self.resynchronized and claimed != len(self.positions()):
             return False
         return covers <= claimed <= covers + 1 and claimed <= min(self.count, self.last - self.first + 1)
 
@@ -84,9 +89,26 @@ class Pair:
         after = held[held.index(True):] if True in held else held
         return None if False in after else True
 
+    def positions(self):
+        """Those that are this tenancy's by what the last -1 left."""
+        return range(self.cleared_after + 1, self.count + 1)
+
     def purged(self, number):
-        position = self.count - self.claimed() + number - self.first + 1
-        return position <= self.count and position not in self.transactions
+        """The last of these positions has the number before the expected one, the one before it the one before that."""
+        of_numbers = dict(zip(range(self.expected - 1, -1, -1), reversed(self.positions())))
+        return number in of_numbers and of_numbers[number] not in self.transactions
+
+    # ---- what may have happened
+
+    def purge(self):
+        """The application has taken the earlier tenant's transactions."""
+        self.transactions = {position: data for position, data in self.transactions.items() if position > self.cleared_after}
+
+    def lose_first(self, lost=1):
+        """An old answer came for each of the tenancy's first messages, and the receiver began with the next one."""
+        ours = [self.transactions.pop(position) for position in list(self.positions())]
+        self.count -= lost
+        self.transactions.update(zip(self.positions(), ours[lost:]))
 
 
 def pair(*words, **changes):
@@ -107,7 +129,14 @@ def changed(made, **files):
     return made
 
 
-SLOT_7 = changed(pair(1, 13, 13, 14, 12), **{'at_%d' % i: text(i + 1) for i in range(1, 13)})
+def slot_7(base=0, lost=1, purged=()):
+    """13 messages, the first ones lost, at a receiver that had an earlier tenant; and what the application has taken."""
+    made = pair(1, 13, 13, 14, 13, base)
+    made.lose_first(lost)
+    return changed(made, **{'at_%d' % position: None for position in purged})
+
+
+SINCE = 'books: the expected number says that %d are stored, and since the last -1 there are %d'
 STRAY = changed(pair(1, 5, 5, 2, 6), at_6=text(1, 'a stranger'))
 # The pair, the lines on the books after the first of them, what the first line of all ends with.
 CASES = [
@@ -117,10 +146,41 @@ CASES = [
     ('nothing yet, and an old number', pair(1, 0, 1, 6, 0, 5, resynchronized=0), [AGREE % 0], ''),
     ("behind an earlier tenant's", pair(1, 3, 4, 4, 3, 5), [AGREE % 3], ''),
     ('a leftover of a crash', changed(pair(1, 3, 4, 4, 3), at_4=text(4)), [AGREE % 3], ''),
-    ('the night of slot 7', SLOT_7,
+    ('the night of slot 7', slot_7(),
      ['books: 1 marked delivered and not stored', 'books: the expected number says that 13 are stored, and there are 12'] +
      ['books: position %d is not number %d of the log; it is number %d of it' % (i, i, i + 1) for i in range(1, 11)] +
      ['books: and 2 positions more like this', GREATEST % (13, '1'), DIFFER], None),
+    ('the night of slot 7, and its first one was purged', slot_7(purged=(1,)),
+     ['books: 1 marked delivered and not stored', 'books: the expected number says that 13 are stored, and there are 12'] +
+     ['books: position %d is not number %d of the log; it is number %d of it' % (i, i, i + 1) for i in range(2, 12)] +
+     ['books: and 1 position more like this', GREATEST % (13, '1 to 2'), DIFFER], None),
+    ('the night of slot 7 at a receiver that was kept', slot_7(5),
+     ['books: 1 marked delivered and not stored', SINCE % (13, 12),
+      'books: position 5 is not number 1 of the log; it is another message, with number 5', GREATEST % (13, '1'), DIFFER],
+     None),
+    ('the night of slot 7 at a receiver that was kept and purged', slot_7(5, purged=range(1, 6)),
+     ['books: 1 marked delivered and not stored', SINCE % (13, 12), GREATEST % (13, '1'), DIFFER], None),
+    ("the same, and only the old tenant's last one was purged", slot_7(5, purged=(5,)),
+     ['books: 1 marked delivered and not stored', SINCE % (13, 12), GREATEST % (13, '1'), DIFFER], None),
+    ('the same, and the first stored one was purged too', slot_7(5, purged=range(1, 7)),
+     ['books: 1 marked delivered and not stored', SINCE % (13, 12), GREATEST % (13, '1 to 2'), DIFFER], None),
+    ('the same, and more were lost', slot_7(5, 3, range(1, 6)),
+     ['books: 1 to 3 marked delivered and not stored', SINCE % (13, 10), GREATEST % (13, '1 to 3'), DIFFER], None),
+    ('a receiver that was kept and purged', changed(pair(1, 3, 4, 4, 3, 5), **{'at_%d' % i: None for i in range(1, 6)}),
+     [AGREE % 3], ''),
+    ('the same, and its first one was purged too',
+     changed(pair(1, 3, 4, 4, 3, 5), **{'at_%d' % i: None for i in range(1, 7)}), [FROM % 2], ''),
+    ('more since the last -1 than the expected number counts', pair(2, 3, 3, 4, 2, 5, cleared_after=4),
+     [SINCE % (2, 3), GREATEST % (3, 'none'), DIFFER], None),
+    ('a count that the last -1 has not', pair(1, 3, 3, 4, 3, cleared=9, cleared_after=7),
+     [SINCE % (3, 0), GREATEST % (3, 'none'), DIFFER], None),
+    ('behind an earlier tenant of the first form, which kept no count', pair(1, 3, 4, 4, 3, 5, cleared=0, cleared_after=0),
+     [AGREE % 3], ''),
+    ('a receiver that was kept and purged, and -1 did not arrive', changed(
+        pair(1, 0, 0, 2, 0, 1, cleared=0, cleared_after=0), at_1=None),
+     ['books: the expected number says that 1 are stored, and 0 were submitted', NOTHING, DIFFER], None),
+    ('the same, with a greater first number', changed(pair(5, 4, 4, 2, 0, 1, cleared=0, cleared_after=0), at_1=None),
+     ['books: the expected number says that 0 are stored, and the mark covers 0', NOTHING, DIFFER], None),
     ("a receiver that still has the old tenant's 1", changed(pair(1, 1, 1, 2, 1), at_1=text(1, 'old')),
      ['books: 1 marked delivered and not stored',
       'books: position 1 is not number 1 of the log; it is another message, with number 1', NOTHING, DIFFER], None),
@@ -201,15 +261,15 @@ def others(programs, folder):
 
 
 def drawn(random):
-    """A pair that agrees, or one in which one or two things were changed."""
+    """A pair that agrees, or one in which some things were changed."""
     first, count, base = random.choice([1, 2, 40]), random.randrange(6), random.choice([0, 0, 1, 3])
     mark = first + max(0, count - random.randrange(2)) - 1
     last = first + count - 1 + random.randrange(3)
     made = Pair(first, mark, max(last, mark), first + count if count else 0, count, base)
-    for _ in range(random.choice([0, 1, 1, 2])):
+    for _ in range(random.choice([0, 1, 1, 2, 3])):
         position = random.randrange(1, made.count + 3)
         number = random.randrange(first, made.last + 3)
-        change = random.randrange(8)
+        change = random.randrange(12)
         if change == 0:
             made.expected = random.choice([0, first, first + count + 1, max(0, first + count - 1), 99])
         elif change == 1:
@@ -224,6 +284,12 @@ def drawn(random):
             made.log.pop(number, None)
         elif change == 6:
             made.log[number] = text(number, 'other')
+        elif change == 7:
+            made.cleared, made.cleared_after = random.choice([(0, 0), (9, random.randrange(made.count + 2))])
+        elif change == 8 or change == 9:
+            made.purge()
+        elif change == 10 and made.transactions.keys() >= set(made.positions()) and len(made.positions()) > 1:
+            made.lose_first()
         else:
             made.transactions[position] = made.transactions.get(random.randrange(1, made.count + 2), text(number))
     return made

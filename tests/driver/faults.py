@@ -125,14 +125,14 @@ static void store(const char *folder,'''), ('receiving_end.c', '''\
 ''')], (POWER,)),
 
     Fault('a log that is written after the state', [('sending_end.c', '''\
-        log_store(end->folder, end->record.words[GMV_SENDER_LAST], end->message, (size_t)length);
+        log_store(end->folder, end->record.words[GMV_SENDER_LAST], end->message, (size_t)length,
 ''', '''\
         persist(end);
-        log_store(end->folder, end->record.words[GMV_SENDER_LAST], end->message, (size_t)length);
+        log_store(end->folder, end->record.words[GMV_SENDER_LAST], end->message, (size_t)length,
 ''')], (POWER,)),
 
     Fault('a log that is not synced', [('log.c', '''\
-    store_durably(log, name, message, length);
+    store_as_of(log, name, message, length, written);
 ''', '''\
     store_lightly(log, name, message, length);
 ''')], (POWER,)),

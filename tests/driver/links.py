@@ -8,8 +8,10 @@ import subprocess
 import time
 
 from blocks import Rules
+from books import AGREE
 from ends import Books, End, Violation, hold
 from lines import NoLine, TcpLine, TerminalLine
+from readout import said
 
 LAST_NUMBER = 999999999999998
 
@@ -196,8 +198,15 @@ class Link:
         hold(status == 0, 'the sender ends with %s: %s', status, self.sender.error_text())
         self.books.check_all()
         hold(self.books.seen == len(self.books.messages), 'not all is stored')
+        self.compare_books()
         self.counts['deliveries'] += len(self.books.messages)
         self.counts['senders'] += 1
+
+    def compare_books(self):
+        """However often the ends were killed, and whoever had the receiver before, linkstatus finds no difference."""
+        if os.path.exists(os.path.join(self.programs, 'linkstatus')):
+            lines = said(self.programs, self.sender.folder, self.receiver.folder)[0]
+            hold(lines[-1] == AGREE % len(self.books.messages), 'linkstatus says %s', lines)
 
     def run(self, seconds, kills, limit):
         """All senders of the scenario; the receiver stays. Raises Violation."""

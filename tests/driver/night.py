@@ -92,6 +92,10 @@ NUMBER_TAKEN = r'the last -1 took the expected number \d+ away, after \d+ transa
 BLOCKS_REFUSED = r'\d+ blocks refused since [\w ]+, the last by '
 REFUSES = 'refuses (it|our|what|the)'
 
+FIRST_ONE_LOST = (
+    said(PAIR, 'books: 1 marked delivered and not stored', 'slot 7|handover', 'old answer', 'not emptied'),
+    said(PAIR, 'books: THEY DIFFER', 'stop both'))
+
 FAULTS = [
     fault(1, 'answers AA n + 1', wrong.next_number_answered, 'sr', '^critical: sender: frozen',
           NOBODY_CALLS_ANY_MORE,
@@ -157,10 +161,10 @@ FAULTS = [
           said(RECEIVER, BLOCKS_REFUSED + '9: no readable header', 'MSH', 'PEERS', row=by_number)),
     fault(19, 'MSA-2 not echoed', wrong.no_echo, 's', r'sender: .*answers to something else since the last delivery',
           said(SENDER, r'\d+ answers to something else since the last delivery', 'echo', 'PEERS')),
-    fault(20, 'old answers after a handover', wrong.slot_7, '', '^critical: .*THE BOOKS DIFFER',
+    fault(20, 'old answers after a handover', functools.partial(wrong.slot_7, changes_hands=wrong.both_made_anew), '',
+          '^critical: .*THE BOOKS DIFFER',
           said(PAIR, 'books: first number 1, delivered up to 13, submitted up to 13; expected 14, stored 12'),
-          said(PAIR, 'books: 1 marked delivered and not stored', 'slot 7|handover', 'old answer', 'not emptied'),
-          said(PAIR, 'books: THEY DIFFER', 'stop both'), lost=(0,)),
+          *FIRST_ONE_LOST, lost=(0,)),
     fault(21, 'the receiver back from a backup', wrong.receiver_from_backup, 'sr',
           '^critical: sender: frozen.*THE BOOKS DIFFER', NOBODY_CALLS_ANY_MORE,
           said(PAIR, ON_ZERO, 'backup', 'disk', row=MARK_OR_LESS), never_said(PAIR, NUMBER_TAKEN),
@@ -177,12 +181,18 @@ FAULTS = [
           said(SENDER, r'no circuit for \d+ s: the terminal server has made no new link', 'terminal server'),
           said(SENDER_SAID, r'gmv_driver: waited on \d+ and gave up after 4 sends, the circuit ended', 'noise'),
           said(RECEIVER, r'the last refused block was refused by \d \([a-z ]+\)', 'noise|bad line', row=by_number)),
-    # Beyond the 27: a count that is wrong and well formed; and what all others are compared with.
+    # Beyond the 27: a count that is wrong and well formed; fault 20 at a receiver that was handed over as it was; and
+    # what all others are compared with.
     fault(28, "the receiver's state, a forged count", wrong.forged_count, 'sr',
           '^critical: .*receiver: .*a file at position 3, and 1 transaction stored', FAR_DRIVER_DOWN,
           said(RECEIVER, r'a file at position 3, and 1 transaction stored', 'older|wrong', 'backup|hand'),
           said(RECEIVER_SAID, r'gmv_driver: \S+003\.hl7 is there, and the state counts 1: nothing is written over',
                'older|wrong', 'backup', 'hand')),
+    fault(30, 'old answers after a handover, and the old receiver purged',
+          functools.partial(wrong.slot_7, changes_hands=wrong.receiver_kept), 'r', '^critical: .*THE BOOKS DIFFER',
+          said(PAIR, 'books: first number 1, delivered up to 13, submitted up to 13; expected 14, stored 13'),
+          said(PAIR, 'books: the expected number says that 13 are stored, and since the last -1 there are 12', 'slot 7', 'handed over'),
+          *FIRST_ONE_LOST, lost=(0,)),
     fault(29, 'no fault', wrong.nothing, '', None)]
 
 

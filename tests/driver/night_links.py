@@ -142,16 +142,17 @@ class Link:
         line.receiver_port = self.port
         line.start()
 
-    def makes(self):
-        """New folders for both ends, as at the beginning of a tenancy."""
+    def makes(self, ends):
+        """New folders for these ends, as at the beginning of a tenancy."""
         self.spooled = {}
-        made = [subprocess.Popen([self.night.driver] + words, cwd=self.night.folder) for words in (
-            ['receiver-init', self.receiver.folder], ['sender-init', self.sender.folder, str(self.first)])]
+        words = {self.receiver: ['receiver-init', self.receiver.folder],
+                 self.sender: ['sender-init', self.sender.folder, str(self.first)]}
+        made = [subprocess.Popen([self.night.driver] + words[end], cwd=self.night.folder) for end in ends]
         yield lambda: all(one.poll() == 0 for one in made)
 
     def begins(self, sending=(), receiving=()):
         """A tenancy: both ends are made, and started with these options."""
-        yield from self.makes()
+        yield from self.makes([self.receiver, self.sender])
         calls, listens = ['--minimal-connect', '127.0.0.1:%d' % (
             self.line.port if isinstance(self.line, TcpLine) else self.port)], ['--minimal-listen', str(self.port)]
         if isinstance(self.line, TerminalLine):
@@ -245,7 +246,7 @@ def noise(link):
     yield lambda: 'gave up' in link.night.said(link.name + '.s')
 
 
-def slot_7(link):
+def slot_7(link, changes_hands):
     """The slot changes hands and the line is not emptied. It still holds the old tenant's first answers to -1 and
     to 1, and they come out, each for the new tenant's request of that number. The new tenant's 1 gets lost."""
     held = {}
@@ -269,12 +270,26 @@ def slot_7(link):
     yield from link.delivers()
     yield from link.sender.stops()
     yield from link.receiver.stops()
-    for end in 'sr':
-        os.rename(link.path(end), link.path(end + '.aside'))
     link.line.change = lets_out
-    yield from link.begins()
+    yield from changes_hands(link)
     yield from link.delivers()
     yield from link.delivers(AFTER)
+
+
+def both_made_anew(link):
+    for end in 'sr':
+        os.rename(link.path(end), link.path(end + '.aside'))
+    yield from link.begins()
+
+
+def receiver_kept(link):
+    """The receiver is handed over as it is, and the application has taken the old tenant's results out of it."""
+    os.rename(link.path('s'), link.path('s.aside'))
+    for name in os.listdir(link.path('r', 'transactions')):
+        os.unlink(link.path('r', 'transactions', name))
+    yield from link.makes([link.sender])
+    yield from link.receiver.starts()
+    yield from link.sender.starts()
 
 
 # ---- somebody else calls

@@ -96,6 +96,7 @@ FROZEN = words(1, 16, 19, 1, 1)
 FROZEN_DETAILS = froze('17', 'AR', '17', '19')
 ONE_CIRCUIT = ['1 circuit opened since the driver started, gave up 0 times']
 MISSING = object()  # locked, and no live file
+STUCK = object()  # the same, and the lock was taken 37 seconds ago
 LOOP = object()  # no lock that can be opened, not even by root
 MUST = '; an operator must reset it'
 R_FROZEN = 'frozen: do not reset before the books are compared'
@@ -272,6 +273,11 @@ CASES = [
     ("a receiver's driver is starting", receiver(1, 0), MISSING,
      ['warning: the driver is starting', 'receiver: expects 1, 0 transactions stored',
       'the driver is starting, no circuit open'], 1),
+    ('a driver that hangs at its start', state(MIDDLE), STUCK,
+     ['critical: the driver has been starting for 37 s', 'sender: the driver is starting, no circuit open'] + MIDDLE_SAID, 2),
+    ("a receiver's driver that hangs at its start", receiver(1, 0), STUCK,
+     ['critical: the driver has been starting for 37 s', 'receiver: expects 1, 0 transactions stored',
+      'the driver is starting, no circuit open'], 2),
     ('a frozen driver is starting', state(FROZEN, FROZEN_DETAILS), MISSING,
      ['critical: %s; the driver is starting' % R_FROZEN,
       'sender: frozen: waited on 17 and got AR 19 for control ID 17' + MUST] + MIDDLE_SAID, 2),
@@ -299,6 +305,10 @@ CASES = [
     ('a result that is too late', state(MIDDLE), live(MIDDLE, 4, 1),
      ['critical: the oldest of 3 not delivered waits for 372 s', WAITS % '1 time'] +
      [line.replace('for 0 s', 'for 372 s') for line in middle_said()] + ONE_CIRCUIT + shown(), 2, {'log/17.hl7': 372}),
+    ('a later result that is too late', state(MIDDLE), live(MIDDLE, 4, 1),
+     ['critical: the oldest of 3 not delivered waits for 372 s', WAITS % '1 time'] +
+     [line.replace('for 0 s', 'for 372 s') for line in middle_said()] + ONE_CIRCUIT + shown(), 2,
+     {'log/16.hl7': 999, 'log/17.hl7': 0, 'log/19.hl7': 372}),
     ('no refused file', state(MIDDLE), None, [STOPPED, NO_DRIVER] + MIDDLE_SAID, 2, {}),
     ('a leftover of a crash', receiver(3, 2), None,
      [STOPPED, 'receiver: expects 3, 2 transactions stored', 'no driver runs on this folder'], 2,
@@ -362,7 +372,9 @@ def holds(programs, folder, state_text, live_text, wanted, status, files=None):
         return as_wanted()
     with open(os.path.join(folder, 'lock'), 'w', encoding='ascii') as lock:
         fcntl.lockf(lock, fcntl.LOCK_EX)  # as a driver that runs
-        if live_text is not MISSING:
+        if live_text is STUCK:
+            os.utime(lock.fileno(), (time.time() - 37, time.time() - 37))
+        elif live_text is not MISSING:
             with open(os.path.join(folder, 'live'), 'w', encoding='ascii') as file:
                 file.write(at_present(live_text))
         return as_wanted()

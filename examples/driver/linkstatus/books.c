@@ -19,6 +19,7 @@
 #define OUTSIDE "books: number %llu of the log is at position %llu, before those that the expected number counts\n"
 #define MORE "books: and %s more like this\n"
 #define TOO_FEW "books: the expected number says that %llu are stored, and there are %llu\n"
+#define SINCE "books: the expected number says that %llu are stored, and since the last -1 there are %llu\n"
 #define WRONG_EXPECTED "books: the expected number says that %llu are stored, and the mark covers %llu\n"
 #define NOT_SUBMITTED "books: the expected number says that %llu are stored, and %llu were submitted\n"
 #define BEYOND "books: there is a file at position %llu\n"
@@ -224,12 +225,21 @@ static void add_range(char *numbers, uint64_t from, uint64_t to)
              length == 0 ? "" : ", ", (unsigned long long)from, (unsigned long long)to);
 }
 
-/* The place of a number by the expected number counts, and no file is there: both were purged, or the file was. */
+/* How many were stored since the last -1 that took an expected number away: no earlier one is this tenancy's. */
+static uint64_t stored_since(const receiver_record *record)
+{
+    return record->stored < record->cleared_after ? 0 : record->stored - record->cleared_after;
+}
+
+/* The number just before the expected one is at the last position, and so on back to the last -1. Where the
+ * position of a number is among these and has no file, the file was purged. */
 static int is_purged(const comparison *books, uint64_t number)
 {
-    const uint64_t position = books->base + number - first_of(books) + 1;
+    const receiver_record *record = &books->pair->record;
+    const uint64_t back = record->words[GMV_RECEIVER_EXPECTED] - number;
 
-    return position <= books->pair->record.stored && !has_position(books, position);
+    return number < record->words[GMV_RECEIVER_EXPECTED] && back <= stored_since(record) &&
+           !has_position(books, record->stored + 1 - back);
 }
 
 /* The log's numbers within these bounds that no position has, as ranges. */
@@ -344,11 +354,13 @@ static void say_numbers(comparison *books, const char *format, uint64_t other)
 static void compare_numbers(comparison *books)
 {
     const pair *pair = books->pair;
-    const int unknown = books->claimed == 0 && pair->record.words[GMV_RECEIVER_EXPECTED] != 0 &&
-                        pair->before.words[GMV_SENDER_RESYNCHRONIZED] == 1;
+    const int resynchronized = pair->before.words[GMV_SENDER_RESYNCHRONIZED] == 1;
+    const int unknown = books->claimed == 0 && pair->record.words[GMV_RECEIVER_EXPECTED] != 0 && resynchronized;
 
     if (books->claimed > pair->record.stored)
         say_numbers(books, TOO_FEW, pair->record.stored);
+    else if (pair->record.cleared != 0 && resynchronized && books->claimed != stored_since(&pair->record))
+        say_numbers(books, SINCE, stored_since(&pair->record));
     if (books->claimed > submitted(&pair->after))
         say_numbers(books, NOT_SUBMITTED, submitted(&pair->after));
     else if (books->claimed < covered(&pair->before) || books->claimed > covered(&pair->after) + 1 || unknown)

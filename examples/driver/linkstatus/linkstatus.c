@@ -58,10 +58,14 @@ static enum presence presence_of(const char *folder)
 
 /* A driver that has the folder and no live file yet is starting: it removes the last one's first of all.
  * Returns 1 where the live file cannot be used otherwise. */
-static int lacks_live(verdict *verdict, const char *folder, const char *problem, enum presence *presence)
+static int lacks_live(verdict *verdict, const char *folder, const char *problem, enum presence *presence,
+                      uint64_t *starting)
 {
+    const time_t passed = time(NULL) - lock_time(folder);
+
     if (problem != NULL && strcmp(problem, RECORD_MISSING) == 0) {
         *presence = DRIVER_STARTS;
+        *starting = passed < 0 ? 0 : (uint64_t)passed;
         return 0;
     }
     return finds_problem(verdict, folder, "live", problem);
@@ -97,7 +101,7 @@ static int find_undelivered(verdict *verdict, const char *folder, const sender_r
     all->waiting = record->words[GMV_SENDER_LAST] + 1 - waits;
     take_oldest(&oldest, all->spool.files, all->spool.oldest);
     take_oldest(&oldest, all->refused.files, all->refused.oldest);
-    take_oldest(&oldest, all->waiting, log_time(folder, waits));
+    take_oldest(&oldest, all->waiting, log_oldest(folder, waits, record->words[GMV_SENDER_LAST]));
     all->age = (uint64_t)(present - oldest);
     return 0;
 }
@@ -127,7 +131,7 @@ static int look_at_sender(verdict *verdict, const char *folder, sender_status *s
     if (status->presence == DRIVER_RUNS &&
         lacks_live(verdict, folder,
                    read_sender_live(folder, &status->record, status->report, &status->counts, &status->running),
-                   &status->presence))
+                   &status->presence, &status->starting))
         return 1;
     if (find_undelivered(verdict, folder, &status->record, &status->undelivered))
         return 1;
@@ -157,7 +161,7 @@ static int look_at_receiver(verdict *verdict, const char *folder, receiver_statu
     if (status->presence == DRIVER_RUNS &&
         lacks_live(verdict, folder,
                    read_receiver_live(folder, &status->record, &status->counts, &status->running),
-                   &status->presence))
+                   &status->presence, &status->starting))
         return 1;
     if (status->record.stored < stored)
         status->record.stored = stored; /* what is shown may be a moment older than what is stored */
