@@ -2,6 +2,7 @@
 use mathlib.Core.Path.{_≡_, refl, sym, ap, _∙_, subst}
 use mathlib.Core.List.{List, []}
 use mathlib.Core.Bool.{Bool, true, false, cond}
+use mathlib.Core.Logic.{inl, inr}
 use Prim.Native.Nat.{ℕ, _≤_}
 use native.Mathlib.Omega.{arith}
 use lib.ListN.{length}
@@ -57,7 +58,7 @@ module _ (s : Sender) (valid : validSender s ≡ true) (st p : List ℕ) (b : Be
           let n = some-number (actOf a s .refusal) z in
           let same = step-refused (steps s valid a) n in
           let is : actWritten st p (actOf a s) ≡ called (actOf a s .refusal) st [] (over p (actWords (actOf a s))) = rw z in
-          subst (Does s st p (actOf a s)) (sym is) (refused n refl refl (report-length (actOf a s) st p h) (same .0) (same .1))
+          subst (Does s st p (actOf a s)) (sym is) (refused n refl refl (report-length (actOf a s) st p h) (same .0) (same .1) (inr refl))
 
   -- a call that is the act a
   does : (a : Act) (f : Sender → Acted) → f s ≡ actOf a s → Does s st p (actOf a s) (senderCall f st p)
@@ -94,7 +95,7 @@ module _ (s : Sender) (valid : validSender s ≡ true) (st p : List ℕ) (b : Be
     where
       go : (z : Bool) → validLinkLimit limit ≡ z → Does s st p (submitOf limit s d) (cond z (senderCall (λ (k : Sender). submitOf limit k d) st p) (called 1 st [] p))
       go true z = does (submit limit d) (λ (k : Sender). submitOf limit k d) refl
-      go false z = let same = step-refused (steps s valid (submit limit d)) (limit-refused limit d z) in refused (limit-refused limit d z) (sym (limit-setting limit d z)) refl refl (same .0) (same .1)
+      go false z = let same = step-refused (steps s valid (submit limit d)) (limit-refused limit d z) in refused (limit-refused limit d z) (sym (limit-setting limit d z)) refl refl (same .0) (same .1) (inl (limit-setting limit d z))
 
   pub block-does : (r : ℕ) → r ≤ 99 → (v : Verdict) (d : List ℕ) → readerGives v ≡ true → Does s st p (blockReadOf r s v d) (blockCall r (numberOf v) (typeOf v) d st p)
   block-does r l v d given =

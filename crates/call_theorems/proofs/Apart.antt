@@ -147,6 +147,10 @@ module _ (k : Passed) where
         sym (sender-keeps (goneOver q (drivenBy k x rs .receiver)) (drivenBy k (afterDriver k (opens r q) x) ds) a (and-left (ofSender a) (allOf ofSender ds) z))
         ∙ ap (afterDriver k a) (apart-is ds rs (and-right (ofSender a) (allOf ofSender ds) z) y)
 
+    -- where the receiver's went over before, the opening leaves the same
+    pub first-is : (p : ReaderMemory) → afterDriver k (opens r q) (withReceiver (goneOver p (x .receiver)) x) ≡ afterDriver k (opens r q) x
+    first-is p = opens-is (withReceiver (goneOver p (x .receiver)) x) refl ∙ sym (opens-is x refl)
+
 -- acts after acts
 pub driven-join : (k : Passed) (x : Drivers) (ds es : List DriverAct) → drivenBy k (drivenBy k x ds) es ≡ drivenBy k x (es ++ ds)
 unfolding drivenBy

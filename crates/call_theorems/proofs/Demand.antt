@@ -1,9 +1,9 @@
 -- Demand 3 of the C functions: every run of two drivers that call them is a run of the link, and so what they hold and have stored is as the demand says.
 use mathlib.Core.Path.{_≡_, refl, sym, ap, _∙_, subst}
 use mathlib.Core.List.{List, [], _∷_, _++_, map}
-use mathlib.Core.Bool.{Bool, true, false, cond, _&&_}
+use mathlib.Core.Bool.{Bool, true, false, cond, not, _&&_}
 use mathlib.Core.Logic.{_⊎_, inl, inr}
-use Prim.Native.Nat.{ℕ, _+_, _≤_}
+use Prim.Native.Nat.{ℕ, suc, _+_, _≤_, _<_}
 use Prim.Native.Char.{code}
 use native.Mathlib.Omega.{arith}
 use lib.ListN.{length, take, getD}
@@ -18,8 +18,9 @@ use Rattle.refusal.specs.Refusal.{numberOf, typeOf}
 use Rattle.refusal.specs.declared.Verdict.{Verdict}
 use Rattle.refusal.specs.declared.Verdict.the-variants.{Accepted, Refused}
 use Rattle.block.specs.Format.{blockOf}
+use Rattle.writer.specs.Write.{needOf}
 use Rattle.fields.specs.Fields.{bytesOf}
-use Rattle.numbers.specs.Numbers.{textOf}
+use Rattle.numbers.specs.Numbers.{greatestSent, textOf}
 use Rattle.numbers.specs.declared.SequenceNumber.the-variants.{Number}
 use Rattle.header.specs.Header.{answerField}
 use Rattle.stream.specs.Stream.{Judged}
@@ -29,41 +30,71 @@ use Rattle.receiver.specs.declared.Expected.{Expected}
 use Rattle.receiver.specs.declared.Expected.the-variants.{Unknown, Next}
 use Rattle.receiver.specs.ReceiverCalls.{expectedWord, expectedFrom, applicationFrom, receiveCall}
 use Rattle.receiver.specs.declared.ApplicationMade.the-variants.{Known}
-use Rattle.sender.specs.Sender.{validSender, waitsOf, freshSender, senderOf}
+use Rattle.words.specs.Words.{verdictFrom}
+use Rattle.sender.specs.Sender.{validSender, isOpen, waitingMessage, waitsOf, freshSender, senderOf, openOf}
+use Rattle.sender.specs.declared.Waiting.{Waiting}
+use Rattle.sender.specs.declared.Waiting.the-variants.{Closed, Idle, Resynchronizing, Querying, Sending}
 use Rattle.sender.specs.declared.Sender.{Sender}
 use Rattle.sender.specs.declared.NumberedMessage.{NumberedMessage}
 use Rattle.sender.specs.declared.NumberedMessage.the-variants.{Nothing, Numbered}
 use Rattle.sender.specs.declared.Acted.{Acted}
-use Rattle.sender_calls.specs.SenderCalls.{flagWord, waitingOf, senderWords, sendWords, freshCall, openCall, submitCall}
-use Rattle.link.specs.Duties.{every, oneAt}
+use Rattle.sender_calls.specs.SenderCalls.{flagWord, waitingWord, waitingOf, senderWords, sendWords, freshCall, openCall, submitCall}
+use Rattle.link.specs.Duties.{every, oneAt, othersAt}
 use Rattle.link.specs.SenderActs.{actOf, fallsDue}
-use Rattle.link.specs.SenderHistory.{Entry, reported, countedOf}
+use Rattle.link.specs.SenderHistory.{Entry, reported, countedOf, isAbandoned}
 use Rattle.link.specs.Line.{Line, line, damages, disorders}
 use Rattle.link.specs.System.{Link, System, Remains, SystemAct, beginning, link, damagesForward as linkDamagesForward, damagesBack as linkDamagesBack, runOf}
 use Rattle.link.specs.Promise.{Logged, Ready, Covers, OnlyAnswers}
 use Rattle.link.proofs.Queues.{Each, each-none, each-more, Front, front, each-front}
-use Rattle.link.proofs.SenderDue.{due-sends}
-use Rattle.link.proofs.Submitted.{submit-logged}
-use Rattle.link.proofs.Early.{Standing}
+use Rattle.link.proofs.SenderDue.{due-sends, timer-on, block-on, submit-on}
+use Rattle.link.proofs.Submitted.{submit-logged, logged-submits}
+use Rattle.link.proofs.Progress.{limit-valid}
+use Rattle.link.proofs.Early.{Standing, open-is}
 use Rattle.link.proofs.Safety.{run-stands, safety-from}
-use Rattle.link.proofs.Reports.{reports, sends-at-once, nothing-left, abandons-exactly}
+use Rattle.link.proofs.Reports.{reports, sends-at-once, named-waits, nothing-left, abandons-exactly, abandoned-closes}
 use Rattle.link.proofs.Delivery.{answer-moves}
 use Rattle.link.proofs.Facts.{not-both}
 use Rattle.link.proofs.Runs.{run-join}
-use Rattle.call_theorems.specs.Driver.{Passed, madeFrom, Named, ReaderMemory, SenderMemory, ReceiverMemory, Drivers, drivers, enoughToRead, enoughToSend, enoughToReceive, waitsWords, reportOf, DriverAct, afterDriver, drivenBy, DriversLeft, driversStart}
+use Rattle.call_theorems.specs.Driver.{Passed, madeFrom, Named, ReaderMemory, SenderMemory, ReceiverMemory, Drivers, drivers, enoughToRead, enoughToSend, enoughToReceive, waitsWords, reportOf, DriverAct, verdictTaken, afterDriver, drivenBy, DriversLeft, driversStart}
 use Rattle.call_theorems.specs.Driver.{opens, ends, resets, timer, submits, stores, restores, receiverStores, receiverRestores, replies, sends, forgets, reads, takes, drops, receiverReads, receiverDrops}
 use Rattle.call_theorems.specs.Driver.{receives, replaces, receiverReplaces, tries, crashes, receiverCrashes, damagesForward, damagesBack}
 use Rattle.call_theorems.specs.Verdicts.{readerGives}
 use Rattle.call_theorems.specs.Reading.{Shown, shown}
 use Rattle.call_theorems.specs.DriversRun.{actsOf, linkRun}
-use Rattle.call_theorems.specs.DriversPromise.{Agrees, allGiven, DriversSafe, deliveredWord, lastWord, waitsWord, SenderCall, opening, submitting, calledBy, actBy, Offered, abandonedWord, sendWordsOf, applies, messageNamed, sendsShown, Reported}
-use Rattle.call_theorems.specs.Apart.{ofSender, ofReceiver, allOf, withReceiver, opensApart}
+use Rattle.call_theorems.specs.DriversPromise.{In, here, there, Agrees, allGiven, DriversSafe, deliveredWord, lastWord, frozenWord, waitsWord, SenderCall, opening, ending, resetting, timing, submitting, taking, calledBy, verdictBy, onCircuit, actBy, Offered, abandonedWord, sendWordsOf, applies, messageNamed, sendsShown, Reported}
+use Rattle.call_theorems.specs.Apart.{ofSender, ofReceiver, allOf, withReceiver, goneOver, opensApart}
 use Rattle.call_theorems.proofs.Apart.{apart-is, driven-join}
 use Rattle.call_theorems.proofs.Shows.{SameVerdict, Behind, Shows, waits-is, over-behind}
 use Rattle.call_theorems.proofs.Driving.{Goes, by-act, fresh-enough, opens-goes, ends-goes, resets-goes, timer-goes, submits-goes, stores-goes, restores-goes}
 use Rattle.call_theorems.proofs.Reporting.{Words, sends-shown, call-words, call-showed, call-number, waiting-back, call-taken, due-resends}
 use Rattle.call_theorems.proofs.SenderDriving.{each-one, named-goes-out, sends-goes, forgets-goes, reads-goes, takes-goes, drops-goes, replaces-goes, crashes-goes}
 use Rattle.call_theorems.proofs.ReceiverDriving.{receiver-reads-goes, block-taken, receives-goes, tries-goes, receiver-replaces-goes, receiver-drops-goes, receiver-stores-goes, receiver-restores-goes, receiver-crashes-goes, replies-goes}
+
+-- where one of a list stands
+record At {A : Type 0} (x : A) (xs : List A) : Type 0 where
+  index : ℕ
+  is : oneAt index xs ≡ x ∷ []
+
+at-index : {A : Type 0} {x : A} {xs : List A} → In x xs → At x xs
+unfolding oneAt
+at-index here = record { index = 0; is = refl }
+at-index (there i) = let a = at-index i in record { index = suc (a .index); is = a .is }
+
+-- no circuit is open exactly where GMV_SENDER_WAITING is 0
+word-closed : (w : Waiting) → eqb (waitingWord w) 0 ≡ not (isOpen w)
+word-closed Closed = refl
+word-closed Idle = refl
+word-closed Resynchronizing = refl
+word-closed Querying = refl
+word-closed Sending = refl
+
+open-of : (b : Bool) → not b ≡ false → b ≡ true
+open-of true e = refl
+open-of false e = not-both e
+
+flag-off : (b : Bool) → flagWord b ≡ 0 → b ≡ false
+flag-off true e = absurd (omega (arith, e))
+flag-off false e = refl
 
 -- a verdict with the number 0 and the type D is that of an accepted data block
 record AcceptedData (v : Verdict) : Type 0 where
@@ -309,17 +340,51 @@ module _ (k : Passed) (ag : Agrees k) (rd : Ready (k .link)) where
       pub calls-taken : (q : SenderCall) → Offered (x .sender .arrived) q → applies q st ≡ true → calledBy k (x .sender .memory) q .number ≡ 0
       calls-taken = call-taken k rd (drivenBy k begun ds) (linkEnd ds) sender-valid (calls-run ds) (standing ds .core .senders .unfrozen)
 
-      -- what is submitted under the link's limit and taken is a message of its log, under the next number
-      pub calls-submit : (d : List ℕ) → submitCall (g .«data_limit») d st (x .sender .memory .report) .number ≡ 0 → Logged g (lastWord st + 1) d
+      -- what is submitted under the link's limit and taken is a message of a log, under the next number, and counts as submitted
+      last-is : lastWord st ≡ s .persisted .last
+      last-is = ap (λ (ws : List ℕ). getD ws 2 0) (calls-run ds .sender .state .is)
+
+      pub calls-submit : (d : List ℕ) → submitCall (g .«data_limit») d st (x .sender .memory .report) .number ≡ 0
+          → Logged g (lastWord st + 1) d × (lastWord (submitCall (g .«data_limit») d st (x .sender .memory .report) .state) ≡ lastWord st + 1)
       calls-submit d z =
-          let last = ap (λ (ws : List ℕ). getD ws 2 0) (calls-run ds .sender .state .is) in
-          subst (λ (n : ℕ). Logged g (n + 1) d) (sym last)
-          (submit-logged g s d (sym (call-number k rd (drivenBy k begun ds) (linkEnd ds) sender-valid (calls-run ds) (submitting (g .«data_limit») d) refl) ∙ z))
+          let call = submitting (g .«data_limit») d in
+          let y = linkEnd ds in
+          let taken = submit-logged g s d (sym (call-number k rd (drivenBy k begun ds) y sender-valid (calls-run ds) call refl) ∙ z) in
+          let written = ap (λ (n : ℕ). eqb n 1) z in
+          let words = call-words k rd (drivenBy k begun ds) y sender-valid (calls-run ds) call refl written in (
+            subst (λ (n : ℕ). Logged g (n + 1) d) (sym last-is) (taken .logged),
+            ap (λ (ws : List ℕ). getD ws 2 0) (words .state .is) ∙ taken .last ∙ ap (λ (n : ℕ). n + 1) (sym last-is),
+          )
+
+      -- and the next message of the log is taken, as long as there are numbers
+      pub calls-submits : lastWord st < greatestSent → submitCall (g .«data_limit») (l .log (lastWord st + 1)) st (x .sender .memory .report) .number ≡ 0
+      calls-submits more =
+          let call = submitting (g .«data_limit») (l .log (lastWord st + 1)) in
+          let n = standing ds .core .numbers in
+          let e = last-is in
+          call-number k rd (drivenBy k begun ds) (linkEnd ds) sender-valid (calls-run ds) call refl
+          ∙ logged-submits g s (l .log (lastWord st + 1)) (limit-valid l rd) sender-valid (standing ds .core .senders .unfrozen)
+          (subst (λ (i : ℕ). Logged g (i + 1) (l .log (lastWord st + 1))) last-is (rd .logged (lastWord st + 1) (omega arith) (omega arith)))
+
+      -- a circuit opens with -1, or with 0 where the line is resynchronised (GMV_SENDER_RESYNCHRONIZED)
+      pub calls-open : waitsWord st ≡ 0 → waitsWords (openCall st (x .sender .memory .report) .state) ≡ cond (eqb (getD st 3 0) 1) 2 1 ∷ 0 ∷ []
+      calls-open closed =
+          let done = calls-taken opening refl (eq-eqb (waitsWord st) 0 closed) in
+          let words = call-words k rd (drivenBy k begun ds) (linkEnd ds) sender-valid (calls-run ds) opening refl (ap (λ (n : ℕ). eqb n 1) done) in
+          let none = sym (waiting-back k rd (drivenBy k begun ds) (linkEnd ds) sender-valid (calls-run ds)) ∙ ap waitingOf closed in
+          waits-is (openOf s .sender) (openCall st (x .sender .memory .report) .state) (words .state)
+          ∙ ap (λ (a : Acted). sendWords (waitsOf (a .sender))) (open-is s none sender-valid (standing ds .core .senders .unfrozen))
+          ∙ go (s .persisted .resynchronized)
+          ∙ ap (λ (n : ℕ). cond (eqb n 1) 2 1 ∷ 0 ∷ []) (sym (ap (λ (ws : List ℕ). getD ws 3 0) (calls-run ds .sender .state .is)))
+        where
+          go : (b : Bool) → sendWords (waitingMessage (s .persisted) (cond b Querying Resynchronizing)) ≡ cond (eqb (flagWord b) 1) 2 1 ∷ 0 ∷ []
+          go true = refl
+          go false = refl
 
       before-is : sendsShown (waitsWords st) (x .sender .reports) ≡ countedOf (waitsOf s) h
       before-is = ap (λ (ws : List ℕ). sendsShown ws (x .sender .reports)) (waits-is s st (calls-run ds .sender .state)) ∙ sends-shown (waitsOf s) (calls-run ds .sender .reports)
 
-      module _ (q : SenderCall) (o : Offered (x .sender .arrived) q) (done : eqb (calledBy k (x .sender .memory) q .number) 0 ≡ true) where
+      module _ (q : SenderCall) (o : Offered (x .sender .arrived) q) (written : eqb (calledBy k (x .sender .memory) q .number) 1 ≡ false) where
         abbrev c : Called
         c = calledBy k (x .sender .memory) q
 
@@ -327,23 +392,62 @@ module _ (k : Passed) (ag : Agrees k) (rd : Ready (k .link)) where
         a = actOf (actBy k q) s
 
         words : Words a c
-        words = call-words k rd (drivenBy k begun ds) (linkEnd ds) sender-valid (calls-run ds) q o done
+        words = call-words k rd (drivenBy k begun ds) (linkEnd ds) sender-valid (calls-run ds) q o written
+
+        then-waits : waitsWords (c .state) ≡ sendWords (waitsOf (a .sender))
+        then-waits = waits-is (a .sender) (c .state) (words .state)
+
+        before-waits : waitsWords st ≡ sendWords (waitsOf s)
+        before-waits = waits-is s st (calls-run ds .sender .state)
 
         after-is : sendsShown (waitsWords (c .state)) (reportOf c ∷ x .sender .reports) ≡ countedOf (waitsOf (a .sender)) (reported a ∷ h)
         after-is =
-            ap (λ (ws : List ℕ). sendsShown ws (reportOf c ∷ x .sender .reports)) (words .waits)
+            ap (λ (ws : List ℕ). sendsShown ws (reportOf c ∷ x .sender .reports)) then-waits
             ∙ sends-shown (waitsOf (a .sender)) (each-more {y = reported a} (call-showed k rd (drivenBy k begun ds) (linkEnd ds) sender-valid (calls-run ds) q o) (calls-run ds .sender .reports))
 
         named : (m : NumberedMessage) → waitsOf (a .sender) ≡ m → (waitsWords (c .state) ≡ sendWordsOf c) ⊎ ((waitsWords (c .state) ≡ 0 ∷ 0 ∷ []) ⊎ (waitsWords (c .state) ≡ waitsWords st))
-        named Nothing z = inr (inl (words .waits ∙ ap sendWords z))
+        named Nothing z = inr (inl (then-waits ∙ ap sendWords z))
         named (Numbered m) z = go (sends-at-once l rd remains only e state run (actBy k q) m z)
           where
             go : (a .send ≡ Numbered m) ⊎ (waitsOf s ≡ Numbered m) → (waitsWords (c .state) ≡ sendWordsOf c) ⊎ ((waitsWords (c .state) ≡ 0 ∷ 0 ∷ []) ⊎ (waitsWords (c .state) ≡ waitsWords st))
-            go (inl y) = inl (words .waits ∙ ap sendWords (z ∙ sym y) ∙ sym (words .send))
-            go (inr y) = inr (inr (words .waits ∙ ap sendWords (z ∙ sym y) ∙ sym (waits-is s st (calls-run ds .sender .state))))
+            go (inl y) = inl (then-waits ∙ ap sendWords (z ∙ sym y) ∙ sym (words .send))
+            go (inr y) = inr (inr (then-waits ∙ ap sendWords (z ∙ sym y) ∙ sym before-waits))
 
-        pub calls-report : Reported k (x .sender) q c
-        calls-report =
+        names-waiting : (m : NumberedMessage) → a .send ≡ m → (sendWordsOf c ≡ 0 ∷ 0 ∷ []) ⊎ (sendWordsOf c ≡ waitsWords (c .state))
+        names-waiting Nothing z = inl (words .send ∙ ap sendWords z)
+        names-waiting (Numbered m) z = inr (words .send ∙ ap sendWords (z ∙ sym (named-waits l rd remains only e state run (actBy k q) m z)) ∙ sym then-waits)
+
+        sent-again : eqb (c .number) 0 ≡ true → fallsDue (actBy k q) ≡ true → abandonedWord c ≡ false → (sendWordsOf c ≡ waitsWords st) × (waitsWords (c .state) ≡ waitsWords st)
+        sent-again done d u =
+            let taken = sym (call-number k rd (drivenBy k begun ds) (linkEnd ds) sender-valid (calls-run ds) q o) ∙ eqb-true (c .number) 0 done in
+            let t = due-sends s (actBy k q) d taken (sym (words .abandons) ∙ u) in
+            (words .send ∙ ap sendWords (t .send) ∙ sym before-waits, then-waits ∙ ap sendWords (t .waits) ∙ sym before-waits)
+
+        -- ---- the circuit goes on
+        closed-word : eqb (waitsWord (c .state)) 0 ≡ not (isOpen (a .sender .waiting))
+        closed-word = ap (λ (ws : List ℕ). eqb (getD ws 5 0) 0) (words .state .is) ∙ word-closed (a .sender .waiting)
+
+        open-before : eqb (waitsWord st) 0 ≡ false → isOpen (s .waiting) ≡ true
+        open-before z = open-of (isOpen (s .waiting)) (sym (ap (λ (ws : List ℕ). eqb (getD ws 5 0) 0) (calls-run ds .sender .state .is) ∙ word-closed (s .waiting)) ∙ z)
+
+        unfrozen-then : frozenWord (c .state) ≡ 0 → a .sender .persisted .frozen ≡ false
+        unfrozen-then z = flag-off (a .sender .persisted .frozen) (sym (ap (λ (ws : List ℕ). getD ws 4 0) (words .state .is)) ∙ z)
+
+        not-abandoned : isOpen (a .sender .waiting) ≡ true → (b : Bool) → isAbandoned (a .event) ≡ b → b ≡ false
+        not-abandoned z true y = not-both (sym z ∙ abandoned-closes s sender-valid (actBy k q) y)
+        not-abandoned z false y = refl
+
+        by-event : frozenWord (c .state) ≡ 0 → (isOpen (a .sender .waiting) ≡ true) ⊎ ((isAbandoned (a .event) ≡ true) ⊎ (a .sender .persisted .frozen ≡ true))
+            → eqb (waitsWord (c .state)) 0 ≡ abandonedWord c
+        by-event u (inl z) = closed-word ∙ ap not z ∙ sym (words .abandons ∙ not-abandoned z (isAbandoned (a .event)) refl)
+        by-event u (inr (inl z)) = closed-word ∙ ap not (abandoned-closes s sender-valid (actBy k q) z) ∙ sym (words .abandons ∙ z)
+        by-event u (inr (inr z)) = not-both (sym z ∙ unfrozen-then u)
+
+        abbrev GoesOn : Type 0
+        GoesOn = onCircuit q ≡ true → eqb (waitsWord st) 0 ≡ false → eqb (waitsWord (c .state)) 0 ≡ abandonedWord c
+
+        report-is : GoesOn → Reported k (x .sender) q c
+        report-is goes =
             let t = words in
             record {
               sends =
@@ -356,9 +460,28 @@ module _ (k : Passed) (ag : Agrees k) (rd : Ready (k .link)) where
                   t .abandons
                   ∙ abandons-exactly l rd remains only e state run (actBy k q) (due-resends k q)
                   ∙ ap (λ (i : ℕ). fallsDue (actBy k q) && eqb i (l .resends + 1)) (sym before-is);
-              resends = λ d u. t .send ∙ ap sendWords (due-sends s (actBy k q) d (t .refusal) (sym (t .abandons) ∙ u)) ∙ sym (waits-is s st (calls-run ds .sender .state));
+              names = names-waiting (a .send) refl;
+              resends = sent-again;
+              goes-on = goes;
               at-once = named (waitsOf (a .sender)) refl;
             }
+
+      -- ---- every call of the sender's driver
+      pub calls-report : (q : SenderCall) → Offered (x .sender .arrived) q → eqb (calledBy k (x .sender .memory) q .number) 1 ≡ false → Reported k (x .sender) q (calledBy k (x .sender .memory) q)
+      unfolding drivenBy
+      calls-report opening o w = report-is opening o w (λ p z. not-both (sym p))
+      calls-report ending o w = report-is ending o w (λ p z. not-both (sym p))
+      calls-report resetting o w = report-is resetting o w (λ p z. not-both (sym p))
+      calls-report timing o w =
+          report-is timing o w (λ p z. by-event timing o w (calls-safe (timer ∷ ds) .unfrozen) (timer-on s sender-valid (open-before timing o w z) (l .resends)))
+      calls-report (submitting limit d) o w =
+          report-is (submitting limit d) o w
+          (λ p z. by-event (submitting limit d) o w (calls-safe (submits limit d ∷ ds) .unfrozen) (submit-on s sender-valid (open-before (submitting limit d) o w z) limit d))
+      calls-report (taking v) o w =
+          let i = at-index o in
+          let taken = ap (λ (vs : List Shown). frozenWord (verdictTaken k x vs (othersAt (i .index) (x .sender .arrived)) .sender .memory .state)) (sym (i .is)) ∙ calls-safe (takes (i .index) ∷ ds) .unfrozen in
+          report-is (taking v) o w
+          (λ p z. by-event (taking v) o w taken (block-on s sender-valid (open-before (taking v) o w z) (l .resends) (verdictBy (verdictFrom (v .number) (v .type))) (v .content)))
 
       -- where nothing waits on an open circuit, all that was submitted is delivered
       pub calls-idle : waitsWord st ≡ 1 → deliveredWord st ≡ lastWord st
@@ -370,7 +493,7 @@ module _ (k : Passed) (ag : Agrees k) (rd : Ready (k .link)) where
 
       -- what a report named goes out, once the words are stored
       pub calls-send : (start : ℕ) (v : Named) (vs : List Named) → x .sender .named ≡ v ∷ vs → same (take 5 st) (x .sender .stored) ≡ true
-          → start + replySpace g ≤ length (x .sender .memory .block) → 2 ≤ length (x .sender .memory .written)
+          → start + needOf g (messageNamed k v) ≤ length (x .sender .memory .block) → 2 ≤ length (x .sender .memory .written)
           → drivenBy k begun (sends start ∷ ds) .forward .bytes ≡ x .forward .bytes ++ blockOf g (code "D") (messageNamed k v)
       unfolding drivenBy
       calls-send = named-goes-out k ag rd (drivenBy k begun ds) (linkEnd ds) (standing ds) (calls-run ds)
@@ -409,6 +532,24 @@ module _ (k : Passed) (ag : Agrees k) (rd : Ready (k .link)) where
               unfrozen = f .unfrozen;
               stored-unfrozen = f .stored-unfrozen;
             }
+
+      -- and where the receiver's goes over first: before the sender's opens, and then
+      pub calls-first : (p : ReaderMemory) → DriversSafe l (withReceiver (goneOver p (x .receiver)) x)
+      calls-first p =
+          let f = calls-safe ds in
+          record {
+            held = f .held;
+            stored = f .stored;
+            has = f .has;
+            stored-has = f .stored-has;
+            covers = f .covers;
+            covers-stored = f .covers-stored;
+            stored-covers = f .stored-covers;
+            stored-covers-stored = f .stored-covers-stored;
+            submitted = f .submitted;
+            unfrozen = f .unfrozen;
+            stored-unfrozen = f .stored-unfrozen;
+          }
 
       -- "An intact answer to the waiting transaction, read before that, moves the mark.": the driver acts on an accepted data block whose MSA-2 is the number of the transaction that waits
       module _ (i : ℕ) (v : Shown) (vs : List Shown) (shows : oneAt i (x .sender .arrived) ≡ v ∷ vs) (accepted : v .number ≡ 0) (kind : v .type ≡ code "D") (waits : waitsWord st ≡ 4)

@@ -166,13 +166,13 @@ module _ (k : Passed) (ag : Agrees k) (rd : Ready (k .link)) where
           (subst (λ (n : ℕ). Shows l (openedBy x r q (called 0 (over st (senderWords (openOf (y .sending .sender) .sender))) [] (over p (actWords (openOf (y .sending .sender))))))
           (cond (eqb n 0) (newCircuit every y (openOf (y .sending .sender))) (senderActed y (y .sending .arrived) (openOf (y .sending .sender))))) (sym o)
           (new-circuit r q readable read a (subst (λ (t : Called). SameReport (reportOf t) (reported (openOf (y .sending .sender)))) z showed)))
-      opened-by readable read c (refused n o z t same none) =
+      opened-by readable read c (refused n o z t same none report) =
           let a = openOf (y .sending .sender) in
           let no : eqb (openOf (y .sending .sender) .refusal) 0 ≡ false = ne-eqb (openOf (y .sending .sender) .refusal) 0 (λ w. let m = leb-true 1 (openOf (y .sending .sender) .refusal) n in omega arith) in
           let number : eqb (c .number) 0 ≡ false = ap (λ (m : ℕ). eqb m 0) o ∙ no in
           subst (λ (b : Bool). Shows l (cond b (openedBy x r q c) (bySender x (x .sender .arrived) c)) (circuitOpened every y (openOf (y .sending .sender)))) (sym number)
           (subst (λ (b : Bool). Shows l (bySender x (x .sender .arrived) c) (cond b (newCircuit every y (openOf (y .sending .sender))) (senderActed y (y .sending .arrived) (openOf (y .sending .sender))))) (sym no)
-          (by-call a c (x .sender .arrived) (y .sending .arrived) (refused n o z t same none) (h .sender .arrived)))
+          (by-call a c (x .sender .arrived) (y .sending .arrived) (refused n o z t same none report) (h .sender .arrived)))
 
       pub opens-goes : Goes l (actsOf k (opensDriver r q) x) (afterDriver k (opensDriver r q) x) y
       opens-goes = go (enoughToRead g r && enoughToRead g q) refl

@@ -2,12 +2,13 @@
 use mathlib.Core.Path.{_≡_, refl, sym, ap, _∙_, subst}
 use mathlib.Core.List.{List, [], _∷_, _++_}
 use mathlib.Core.Bool.{Bool, true, false, cond, not, _&&_}
+use mathlib.Core.Logic.{inl, inr}
 use Prim.Native.Nat.{ℕ, _+_, _≤_}
 use native.Mathlib.Omega.{arith}
 use lib.ListN.{length, drop, getD}
 use lib.Dec.{eqb}
-use borrow.Author.Tests.{ne-eqb, eqb-true, leb-true}
-use Rattle.lists.specs.Bytes.{same}
+use borrow.Author.Tests.{eq-eqb, eqb-true}
+use Rattle.lists.specs.Bytes.{same, over}
 use Rattle.lists.specs.Outcome.{Called}
 use Rattle.lists.proofs.Calls.{over-is}
 use Rattle.lists.proofs.Same.{same-self}
@@ -40,16 +41,15 @@ use Rattle.call_theorems.specs.Reading.{Shown, shown}
 use Rattle.call_theorems.specs.Driver.{Passed, CallReport, Drivers, waitsWords, reportOf}
 use Rattle.call_theorems.specs.DriversPromise.{In, here, there, SenderCall, opening, ending, resetting, timing, submitting, taking, calledBy, verdictBy, actBy, Offered, sendsWord, abandonedWord, sendWordsOf, applies, countedWords, sendsShown}
 use Rattle.call_theorems.proofs.Verdicts.{made-again, sends-the-same}
-use Rattle.call_theorems.proofs.Shows.{SameVerdict, SameReport, Behind, Shows, Does, done, refused, eight, send-is, same-report}
+use Rattle.call_theorems.proofs.Shows.{SameVerdict, SameReport, Behind, Shows, over-behind, behind-length, Does, done, refused, eight, send-is, same-report}
 use Rattle.call_theorems.proofs.Acting.{open-does, ended-does, reset-does, timer-does, submit-does, block-does}
 
--- ---- the words of a report
+-- ---- the words of a report, and of the state
 pub record Words (a : Acted) (c : Called) : Type 0 where
-  pub refusal : a .refusal ≡ 0
   pub sends : sendsWord c ≡ a .sends
   pub abandons : abandonedWord c ≡ isAbandoned (a .event)
   pub send : sendWordsOf c ≡ sendWords (a .send)
-  pub waits : waitsWords (c .state) ≡ sendWords (waitsOf (a .sender))
+  pub state : Behind (senderWords (a .sender)) (c .state)
 
 -- the words behind what is sent
 listed : (m : NumberedMessage) (n : ℕ) (e : Event) (x y : ℕ) (rest : List ℕ) → (getD ((sendWords m ++ n ∷ eventWords e ++ x ∷ y ∷ []) ++ rest) 2 0 ≡ n)
@@ -70,20 +70,25 @@ listed m n e x y rest = go m
     go (Numbered MinusOne) = (refl, event e)
     go (Numbered (Number k)) = (refl, event e)
 
--- a call that was done
-done-words : (s : Sender) (st p : List ℕ) (a : Acted) (c : Called) → Behind (senderWords s) st → 8 ≤ length p → Does s st p a c → eqb (c .number) 0 ≡ true → Words a c
-done-words s st p a c b h (refused n o z t same none) q =
-    not-both (sym q ∙ ap (λ (k : ℕ). eqb k 0) o ∙ ne-eqb (a .refusal) 0 (λ w. let k = leb-true 1 (a .refusal) n in omega arith))
-done-words s st p a c b h (done o z) q =
-    let report : c .report ≡ actWords a ++ drop (length (actWords a)) p = ap (λ (k : Called). k .report) z ∙ over-is p (actWords a) (let e = eight a in omega arith) in
+-- a call whose report was written: all but those that are refused by 1
+report-words : (st p : List ℕ) (a : Acted) (c : Called) → 8 ≤ length p → c .report ≡ over p (actWords a) → Behind (senderWords (a .sender)) (c .state) → Words a c
+report-words st p a c h e behind =
+    let report : c .report ≡ actWords a ++ drop (length (actWords a)) p = e ∙ over-is p (actWords a) (let n = eight a in omega arith) in
     let words = listed (a .send) (a .sends) (a .event) (a .block) (a .offset) (drop (length (actWords a)) p) in
     record {
-      refusal = o;
       sends = ap (λ (r : List ℕ). getD r 2 0) report ∙ words .0;
       abandons = ap (λ (r : List ℕ). eqb (getD r 3 0) 2) report ∙ words .1;
-      send = ap (λ (k : Called). getD (k .report) 0 0 ∷ getD (k .report) 1 0 ∷ []) z ∙ send-is a st p h;
-      waits = same-report s st p a c b h (done o z) .1;
+      send = ap (λ (r : List ℕ). getD r 0 0 ∷ getD r 1 0 ∷ []) e ∙ send-is a st p h;
+      state = behind;
     }
+
+call-report : (s : Sender) (st p : List ℕ) (a : Acted) (c : Called) → Behind (senderWords s) st → 8 ≤ length p → Does s st p a c → eqb (c .number) 1 ≡ false → Words a c
+call-report s st p a c b h (refused n o z t same none (inl e)) q = not-both (sym (eq-eqb (c .number) 1 (o ∙ e)) ∙ q)
+call-report s st p a c b h (refused n o z t same none (inr e)) q =
+    report-words st p a c h e (subst (Behind (senderWords (a .sender))) (sym z) (subst (λ (k : Sender). Behind (senderWords k) st) (sym same) b))
+call-report s st p a c b h (done o z) q =
+    report-words st p a c h (ap (λ (k : Called). k .report) z)
+    (subst (λ (k : Called). Behind (senderWords (a .sender)) (k .state)) (sym z) (over-behind (senderWords (a .sender)) st (behind-length b)))
 
 -- ---- the sends that the calls showed are those of the history
 is-same : (m : SequenceNumber) (n : NumberedMessage) → same (sendWords (Numbered m)) (sendWords n) ≡ is m n
@@ -176,8 +181,8 @@ module _ (k : Passed) (rd : Ready (k .link)) (x : Drivers) (y : System) (valid :
   call-does (submitting limit d) o = submit-does s valid st p (h .sender .state) (h .sender .report) limit d
   call-does (taking w) o = taken-does w (given-in (k .link .settings) w o (h .sender .arrived))
 
-  pub call-words : (q : SenderCall) → Offered (x .sender .arrived) q → eqb (calledBy k (x .sender .memory) q .number) 0 ≡ true → Words (actOf (actBy k q) s) (calledBy k (x .sender .memory) q)
-  call-words q o = done-words s st p (actOf (actBy k q) s) (calledBy k (x .sender .memory) q) (h .sender .state) (h .sender .report) (call-does q o)
+  pub call-words : (q : SenderCall) → Offered (x .sender .arrived) q → eqb (calledBy k (x .sender .memory) q .number) 1 ≡ false → Words (actOf (actBy k q) s) (calledBy k (x .sender .memory) q)
+  call-words q o = call-report s st p (actOf (actBy k q) s) (calledBy k (x .sender .memory) q) (h .sender .state) (h .sender .report) (call-does q o)
 
   -- what it shows is what the history has of it
   pub call-showed : (q : SenderCall) → Offered (x .sender .arrived) q → SameReport (reportOf (calledBy k (x .sender .memory) q)) (reported (actOf (actBy k q) s))
@@ -188,7 +193,7 @@ module _ (k : Passed) (rd : Ready (k .link)) (x : Drivers) (y : System) (valid :
     where
       go : (c : Called) → Does s st p (actOf (actBy k q) s) c → c .number ≡ actOf (actBy k q) s .refusal
       go c (done o z) = ap (λ (k : Called). k .number) z ∙ sym o
-      go c (refused n o z t same none) = o
+      go c (refused n o z t same none report) = o
 
   word-is : getD st 5 0 ≡ waitingWord (s .waiting)
   word-is = ap (λ (ws : List ℕ). getD ws 5 0) (h .sender .state .is)

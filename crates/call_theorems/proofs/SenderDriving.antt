@@ -17,7 +17,7 @@ use Rattle.settings.specs.declared.Settings.{Settings}
 use Rattle.block.specs.Format.{blockOf}
 use Rattle.numbers.specs.declared.SequenceNumber.{SequenceNumber}
 use Rattle.stream.specs.Stream.{Judged, run}
-use Rattle.receiver.specs.Receiver.{replySpace}
+use Rattle.writer.specs.Write.{needOf}
 use Rattle.sender.specs.Sender.{blockReadOf}
 use Rattle.sender.specs.declared.Persisted.{Persisted}
 use Rattle.sender_calls.specs.SenderCalls.{flagWord, persistedWords, blockCall}
@@ -163,7 +163,7 @@ module _ (k : Passed) (ag : Agrees k) (rd : Ready (k .link)) (x : Drivers) (y : 
         by-act l sent y (senderWrites 0) (subst (Shows l sent) (sym (written-is kept)) (sent-shows done))
 
     -- what is named and stored goes out, where the memory is long enough
-    goes-out : same (take 5 (x .sender .memory .state)) (x .sender .stored) ≡ true → start + replySpace g ≤ length (x .sender .memory .block) → 2 ≤ length (x .sender .memory .written)
+    goes-out : same (take 5 (x .sender .memory .state)) (x .sender .stored) ≡ true → start + needOf g (messageNamed k n) ≤ length (x .sender .memory .block) → 2 ≤ length (x .sender .memory .written)
         → oldestSent k start x (n ∷ ns) .forward .bytes ≡ x .forward .bytes ++ blockOf g (code "D") (messageNamed k n)
     goes-out e f p =
         let w = request-writable l rd v nameable in
@@ -172,7 +172,7 @@ module _ (k : Passed) (ag : Agrees k) (rd : Ready (k .link)) (x : Drivers) (y : 
         ∙ ap (λ (bs : List ℕ). x .forward .bytes ++ bs) (named-written k ag rd start (x .sender .memory) n v is w done ∙ ap (blockOf g (code "D")) (sym (message-is k ag rd start (x .sender .memory) n v is)))
 
   pub named-goes-out : (start : ℕ) (n : Named) (ns : List Named) → x .sender .named ≡ n ∷ ns → same (take 5 (x .sender .memory .state)) (x .sender .stored) ≡ true
-      → start + replySpace g ≤ length (x .sender .memory .block) → 2 ≤ length (x .sender .memory .written)
+      → start + needOf g (messageNamed k n) ≤ length (x .sender .memory .block) → 2 ≤ length (x .sender .memory .written)
       → afterDriver k (sends start) x .forward .bytes ≡ x .forward .bytes ++ blockOf g (code "D") (messageNamed k n)
   named-goes-out start n ns q e f p =
       ap (λ (ms : List Named). oldestSent k start x ms .forward .bytes) q ∙ go (each-front (subst (λ (ms : List Named). Each SameSend ms (y .sending .named)) q (h .sender .named)))

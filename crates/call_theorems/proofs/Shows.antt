@@ -2,6 +2,7 @@
 use mathlib.Core.Path.{_≡_, refl, sym, ap, _∙_, subst}
 use mathlib.Core.List.{List, [], _∷_, _++_}
 use mathlib.Core.Bool.{Bool, true, false, cond, not, _&&_}
+use mathlib.Core.Logic.{_⊎_}
 use Prim.Native.Nat.{ℕ, _+_, _≤_}
 use native.Mathlib.Omega.{arith}
 use lib.ListN.{length, length-append, drop, getD}
@@ -115,10 +116,11 @@ waits-is s st b = ap waitsWords (b .is) ∙ go (s .waiting)
     go Querying = refl
     go Sending = let n = s .persisted .delivered + 1 in ap (λ (z : Bool). cond z 2 3 ∷ n ∷ []) (sym (ne-eqb n 0 (λ q. omega arith)))
 
--- ---- a call of an act of the sender: it was done, or it was refused and left the state
+-- ---- a call of an act of the sender: it was done, or it was refused and left the state. 1 writes no report
 pub data Does (s : Sender) (st p : List ℕ) (a : Acted) (c : Called) : Type 0 where
   done : a .refusal ≡ 0 → c ≡ called 0 (over st (senderWords (a .sender))) [] (over p (actWords a)) → Does s st p a c
-  refused : leb 1 (a .refusal) ≡ true → c .number ≡ a .refusal → c .state ≡ st → length (c .report) ≡ length p → a .sender ≡ s → a .send ≡ Nothing → Does s st p a c
+  refused : leb 1 (a .refusal) ≡ true → c .number ≡ a .refusal → c .state ≡ st → length (c .report) ≡ length p → a .sender ≡ s → a .send ≡ Nothing
+      → (a .refusal ≡ 1) ⊎ (c .report ≡ over p (actWords a)) → Does s st p a c
 
 -- what the report names
 pub eight : (a : Acted) → length (actWords a) ≡ 8
@@ -190,7 +192,7 @@ pub same-report : (s : Sender) (st p : List ℕ) (a : Acted) (c : Called) → Be
 same-report s st p a c b h (done o z) =
     let behind = over-behind (senderWords (a .sender)) st (behind-length b) in
     subst (λ (k : Called). SameReport (reportOf k) (reported a)) (sym z) (send-is a st p h, waits-is (a .sender) (over st (senderWords (a .sender))) behind)
-same-report s st p a c b h (refused n o z l same none) =
+same-report s st p a c b h (refused n o z l same none report) =
     let number : eqb (c .number) 0 ≡ false = ne-eqb (c .number) 0 (λ q. let k = leb-true 1 (a .refusal) n in omega arith) in (
       ap (λ (t : Bool). cond t (getD (c .report) 0 0 ∷ getD (c .report) 1 0 ∷ []) (0 ∷ 0 ∷ [])) number ∙ ap sendWords (sym none),
       ap waitsWords z ∙ waits-is s st b ∙ ap (λ (t : Sender). sendWords (waitsOf t)) (sym same),
@@ -222,7 +224,7 @@ module _ (g : Settings) (e : SenderEnd) (y : SendingEnd) (x : Line) (i : SenderS
                 reports = each-more (subst (λ (k : Called). SameReport (reportOf k) (reported a)) z showed) (i .reports);
                 reader = i .reader;
               }
-      go (refused n o z l same none) =
+      go (refused n o z l same none report) =
           let number : eqb (c .number) 0 ≡ false = ne-eqb (c .number) 0 (λ q. let k = leb-true 1 (a .refusal) n in omega arith) in
           record {
             state = subst (λ (t : List ℕ). Behind (senderWords (a .sender)) t) (sym z) (subst (λ (k : Sender). Behind (senderWords k) (e .memory .state)) (sym same) (i .state));

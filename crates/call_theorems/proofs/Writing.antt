@@ -30,7 +30,6 @@ use Rattle.messages.specs.declared.TypeMade.{TypeMade}
 use Rattle.messages.specs.declared.TypeMade.the-variants.{Known as KnownType}
 use Rattle.control_block.specs.ControlBlock.{controlBlockOf}
 use Rattle.control_block.proofs.Framed.{control-framed}
-use Rattle.receiver.specs.Receiver.{replySpace}
 use Rattle.words.specs.Words.{writeFinished, withReport}
 use Rattle.block_calls.specs.WriteCalls.{writeCall}
 use Rattle.message_calls.specs.MessageCalls.{minusOne, controlFrom}
@@ -137,12 +136,6 @@ module _ (k : Passed) (ag : Agrees k) (rd : Ready (k .link)) (start : ℕ) (m : 
       subst (λ (c : Called). eqb (c .number) 0 ≡ true → take (getD (c .report) 0 0) (drop start (c .buffer)) ≡ blockOf g (code "D") (requestOf l v)) (sym is)
       (writes g (requestOf l v) w start (m .block) (m .written)) done
 
-  pub named-done : (n : Named) (v : SequenceNumber) → SameSend n v → Writable g (code "D") (requestOf l v) → start + replySpace g ≤ length (m .block) → 2 ≤ length (m .written)
-      → blockOfNamed k start m n .number ≡ 0
-  named-done n v e w f p =
-      let fits = w .fits in
-      ap (λ (c : Called). c .number) (call-is v (n .kind ∷ n .number ∷ []) e) ∙ frame-done g (requestOf l v) w start (m .block) (m .written) (omega arith) p
-
   -- the message that the words name
   pub message-is : (n : Named) (v : SequenceNumber) → SameSend n v → messageNamed k n ≡ requestOf l v
   message-is n v e = ap (λ (z : List ℕ). messageNamed k (record { kind = getD z 0 0; number = getD z 1 0 })) e ∙ go v
@@ -154,3 +147,9 @@ module _ (k : Passed) (ag : Agrees k) (rd : Ready (k .link)) (start : ℕ) (m : 
       go : (v : SequenceNumber) → messageNamed k (record { kind = getD (sendWords (Numbered v)) 0 0; number = getD (sendWords (Numbered v)) 1 0 }) ≡ requestOf l v
       go MinusOne = refl
       go (Number i) = number i (eqb i 0)
+
+  pub named-done : (n : Named) (v : SequenceNumber) → SameSend n v → Writable g (code "D") (requestOf l v) → start + needOf g (messageNamed k n) ≤ length (m .block) → 2 ≤ length (m .written)
+      → blockOfNamed k start m n .number ≡ 0
+  named-done n v e w f p =
+      ap (λ (c : Called). c .number) (call-is v (n .kind ∷ n .number ∷ []) e)
+      ∙ frame-done g (requestOf l v) w start (m .block) (m .written) (subst (λ (d : List ℕ). start + needOf g d ≤ length (m .block)) (message-is n v e) f) p

@@ -137,10 +137,23 @@ countedWords m (r ∷ rs) = cond (same m (r .waits)) (cond (same m (r .send)) 1 
 abbrev pub sendsShown : List ℕ → List CallReport → ℕ
 sendsShown m rs = cond (eqb (getD m 0 0) 0) 0 (countedWords m rs)
 
--- what a call shows that was done, in words: the sends of what waits then, or of what was just given up; that it gave up, exactly when; what is sent again;
+-- the calls that neither open nor end a circuit
+abbrev pub onCircuit : SenderCall → Bool
+onCircuit timing = true
+onCircuit (submitting limit d) = true
+onCircuit (taking w) = true
+onCircuit opening = false
+onCircuit ending = false
+onCircuit resetting = false
+
+-- what a call shows, in words, done or refused: the sends of what waits then, or of what was just given up; that it gave up, exactly when;
+-- that it names what waits then, or nothing; what is sent again, and goes on waiting; that the circuit goes on unless it was given up;
 -- and that what waits after it is named by it, or waited before
 pub record Reported (k : Passed) (e : SenderEnd) (q : SenderCall) (c : Called) : Type 0 where
   pub sends : sendsWord c ≡ cond (abandonedWord c) (sendsShown (waitsWords (e .memory .state)) (e .reports)) (sendsShown (waitsWords (c .state)) (reportOf c ∷ e .reports))
   pub abandons : abandonedWord c ≡ (fallsDue (actBy k q) && eqb (sendsShown (waitsWords (e .memory .state)) (e .reports)) (k .link .resends + 1))
-  pub resends : fallsDue (actBy k q) ≡ true → abandonedWord c ≡ false → sendWordsOf c ≡ waitsWords (e .memory .state)
+  pub names : (sendWordsOf c ≡ 0 ∷ 0 ∷ []) ⊎ (sendWordsOf c ≡ waitsWords (c .state))
+  pub resends : eqb (c .number) 0 ≡ true → fallsDue (actBy k q) ≡ true → abandonedWord c ≡ false
+      → (sendWordsOf c ≡ waitsWords (e .memory .state)) × (waitsWords (c .state) ≡ waitsWords (e .memory .state))
+  pub goes-on : onCircuit q ≡ true → eqb (waitsWord (e .memory .state)) 0 ≡ false → eqb (waitsWord (c .state)) 0 ≡ abandonedWord c
   pub at-once : (waitsWords (c .state) ≡ sendWordsOf c) ⊎ ((waitsWords (c .state) ≡ 0 ∷ 0 ∷ []) ⊎ (waitsWords (c .state) ≡ waitsWords (e .memory .state)))

@@ -91,7 +91,7 @@ module _ (s : Sender) (c : s .waiting ≡ Closed) where
       (λ z. cond-ind IsClosed (allAllowed message) _ _ (λ x. header-closed message (headerOf message)) (λ x. c))
       (λ z. c)) (λ y. c)) (λ v. c)) (λ a. c)
 
-  open-is : validSender s ≡ true → s .persisted .frozen ≡ false
+  pub open-is : validSender s ≡ true → s .persisted .frozen ≡ false
       → openOf s ≡ beginsToWait (s .persisted) (cond (s .persisted .resynchronized) Querying Resynchronizing) NoEvent
   unfolding openOf
   open-is v u =

@@ -59,7 +59,7 @@ module _ (l : Link) (rd : Ready l) where
   answer-known p Errs = rw (eq-eqb (p .delivered + 1) (p .delivered + 1) refl)
 
   -- ---- a transaction is submitted without a circuit
-  limit-valid : validLinkLimit (l .settings .«data_limit») ≡ true
+  pub limit-valid : validLinkLimit (l .settings .«data_limit») ≡ true
   limit-valid =
       rw (
         le-leb 1 (l .settings .«data_limit») (let m = link-limit (l .settings) (rd .settings) in omega arith),

@@ -14,7 +14,7 @@ use Rattle.stream.specs.Stream.{Judged}
 use Rattle.receiver.specs.Receiver.{validExpected, receiveOf}
 use Rattle.receiver.specs.declared.Application.{Application}
 use Rattle.receiver.specs.declared.Expected.{Expected}
-use Rattle.sender.specs.Sender.{validSender, waitingMessage, waitsOf, openOf}
+use Rattle.sender.specs.Sender.{isOpen, validSender, waitingMessage, waitsOf, openOf}
 use Rattle.sender.specs.declared.Persisted.{Persisted}
 use Rattle.sender.specs.declared.Waiting.{Waiting}
 use Rattle.sender.specs.declared.Waiting.the-variants.{Closed, Idle, Resynchronizing, Querying, Sending}
@@ -38,6 +38,18 @@ use Rattle.link.specs.System.{receiverReads, receiverActs, receiverDisca
 use Rattle.link.specs.System.{persistsNumber, persistsTransactions, revertsTo, senderRevertsTo, bringsLate, bringsLateRequest, afterAct, runOf}
 use Rattle.link.specs.Promise.{Ready, OnlyAnswers}
 use Rattle.link.proofs.Safety.{run-stands}
+
+-- an act that gives up ends the circuit
+pub abandoned-closes : (s : Sender) → validSender s ≡ true → (a : Act) → isAbandoned (actOf a s .event) ≡ true → isOpen (actOf a s .sender .waiting) ≡ false
+abandoned-closes s v a = go (steps s v a)
+  where
+    go : {r n k : ℕ} {s t : Sender} {c : NumberedMessage} {x : Event} → Step r s n t c k x → isAbandoned x ≡ true → isOpen (t .waiting) ≡ false
+    go (refuses q) u = not-both (sym u)
+    go (keeps q g j y) u = not-both (sym u ∙ g)
+    go (starts g j f) u = not-both (sym u ∙ g)
+    go (resends q j) u = not-both (sym u)
+    go (abandons j q w) u = refl
+    go (shuts g j) u = not-both (sym u ∙ g)
 
 -- ---- what an act of the link does at the sender's end: an act of the sender, persisting, a crash, or nothing
 module _ (l : Link) (P : Sender → Persisted → List Entry → Type 0)

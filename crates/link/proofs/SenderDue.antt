@@ -2,6 +2,7 @@
 use mathlib.Core.Path.{_≡_, refl, sym, ap, _∙_}
 use mathlib.Core.Bool.{Bool, true, false, cond, not, _&&_}
 use mathlib.Core.List.{List}
+use mathlib.Core.Logic.{_⊎_, inl, inr}
 use Prim.Native.Nat.{ℕ, _+_, _-_, _≤_, _<_}
 use Prim.Native.Char.{code}
 use native.Mathlib.Omega.{arith}
@@ -31,7 +32,7 @@ use Rattle.header.specs.declared.Code.{Code}
 use Rattle.header.specs.declared.Code.the-variants.{AA, AE, AR}
 use Rattle.header.specs.declared.CodeField.{CodeField}
 use Rattle.header.specs.declared.CodeField.the-variants.{Other, Known}
-use Rattle.sender.specs.Sender.{validSender, waitingMessage, waitsOf, acted, abandons, isOpen, onCircuit, openOf, endedOf, resetOf, resendOf, timerOf, withBlock}
+use Rattle.sender.specs.Sender.{validSender, waitingMessage, waitsOf, acted, abandons, isOpen, onCircuit, proceeds, freezes, resynchronizedOf, deliveredOf, openOf, endedOf, resetOf, resendOf, timerOf, withBlock}
 use Rattle.sender.specs.Sender.{dataBlock, blockIn, blockReadOf, validResends, whenOpen, answerResynchronizing, answerQuery, answerTransaction}
 use Rattle.sender.specs.Sender.{answered, answerOf, answeredBy, isNumber, takenIn, submittedHeader, submitOf}
 use Rattle.sender.specs.declared.Persisted.{Persisted}
@@ -40,7 +41,8 @@ use Rattle.sender.specs.declared.Waiting.the-variants.{Closed, Idle, Resynchron
 use Rattle.sender.specs.declared.Sender.{Sender}
 use Rattle.sender.specs.declared.NumberedMessage.{NumberedMessage}
 use Rattle.sender.specs.declared.NumberedMessage.the-variants.{Nothing, Numbered}
-use Rattle.sender.specs.declared.Event.the-variants.{NoEvent}
+use Rattle.sender.specs.declared.Event.{Event}
+use Rattle.sender.specs.declared.Event.the-variants.{NoEvent, Delivered, DeliveredUnknown, Dropped}
 use Rattle.sender.specs.declared.Acted.{Acted}
 use Rattle.link.specs.SenderActs.{Act, opened, ended, reset, timer, block, submit, actOf, unreadable, dueBlock, fallsDue, resendsOf}
 use Rattle.link.specs.SenderHistory.{isAbandoned}
@@ -107,11 +109,11 @@ module _ (r : ℕ) (s : Sender) (l : r ≤ 99) (v : validSender s ≡ true) (m :
 abbrev Quiet : Acted → Type 0
 Quiet a = isAbandoned (a .event) ≡ false
 
--- nor is it refused
-abbrev Answered : Acted → Type 0
-Answered a = (a .refusal ≡ 0) × Quiet a
-
 module _ (s : Sender) where
+  -- nor is it refused, and an open circuit goes on, unless the sender freezes
+  abbrev Answered : Acted → Type 0
+  Answered a = (a .refusal ≡ 0) × Quiet a × ((isOpen (s .waiting) ≡ true → isOpen (a .sender .waiting) ≡ true) ⊎ (a .sender .persisted .frozen ≡ true))
+
   open-quiet : Quiet (openOf s)
   unfolding openOf
   open-quiet =
@@ -152,44 +154,64 @@ module _ (s : Sender) where
       (λ a. refl)
 
   -- an answer that can be read, whatever it says
+  froze : (p : Persisted) → Answered (freezes p)
+  froze p = (refl, refl, inr refl)
+
+  went-on : (p : Persisted) (e : Event) → isAbandoned e ≡ false → Answered (proceeds p e)
+  went-on p e q = (refl, q, inl (λ o. go (ltb (p .delivered) (p .last))))
+    where
+      go : (b : Bool) → isOpen (cond b Sending Idle) ≡ true
+      go true = refl
+      go false = refl
+
+  as-it-was : (e : Event) → isAbandoned e ≡ false → Answered (acted s Nothing e)
+  as-it-was e q = (refl, q, inl (λ o. o))
+
+  taken-or-froze : (e : Event) → isAbandoned e ≡ false → (b : Bool) → Answered (cond b (proceeds (deliveredOf (s .persisted)) e) (freezes (s .persisted)))
+  taken-or-froze e q true = went-on (deliveredOf (s .persisted)) e q
+  taken-or-froze e q false = froze (s .persisted)
+
   resynchronizing-answers : (c : Code) (v : SequenceNumber) → Answered (answerResynchronizing (s .persisted) c v)
-  resynchronizing-answers AA MinusOne = (refl, refl)
-  resynchronizing-answers AA (Number e) = (refl, refl)
-  resynchronizing-answers AE v = (refl, refl)
-  resynchronizing-answers AR v = (refl, refl)
+  resynchronizing-answers AA MinusOne = went-on (resynchronizedOf (s .persisted)) NoEvent refl
+  resynchronizing-answers AA (Number e) = froze (s .persisted)
+  resynchronizing-answers AE v = froze (s .persisted)
+  resynchronizing-answers AR v = froze (s .persisted)
 
   querying-answers : (c : Code) (v : SequenceNumber) → Answered (answerQuery (s .persisted) c v)
-  querying-answers AA MinusOne = cond-ind Answered (eqb (s .persisted .delivered) (s .persisted .first - 1)) _ _ (λ z. (refl, refl)) (λ z. (refl, refl))
+  querying-answers AA MinusOne =
+      cond-ind Answered (eqb (s .persisted .delivered) (s .persisted .first - 1)) _ _ (λ z. went-on (s .persisted) NoEvent refl) (λ z. froze (s .persisted))
   querying-answers AA (Number e) =
-      cond-ind Answered (eqb e (s .persisted .delivered + 1)) _ _ (λ z. (refl, refl))
-      (λ z. cond-ind Answered (eqb e (s .persisted .delivered + 1 + 1) && ltb (s .persisted .delivered) (s .persisted .last)) _ _ (λ y. (refl, refl)) (λ y. (refl, refl)))
-  querying-answers AE v = (refl, refl)
-  querying-answers AR v = (refl, refl)
+      let p = s .persisted in
+      cond-ind Answered (eqb e (s .persisted .delivered + 1)) _ _ (λ z. went-on p NoEvent refl)
+      (λ z. cond-ind Answered (eqb e (s .persisted .delivered + 1 + 1) && ltb (s .persisted .delivered) (s .persisted .last)) _ _
+      (λ y. went-on (deliveredOf p) (DeliveredUnknown (p .delivered + 1)) refl) (λ y. froze p))
+  querying-answers AE v = froze (s .persisted)
+  querying-answers AR v = froze (s .persisted)
 
   sending-answers : (c : Code) (v : SequenceNumber) → Answered (answerTransaction (s .persisted) c v)
-  sending-answers AA (Number e) = cond-ind Answered (eqb e (s .persisted .delivered + 1)) _ _ (λ z. (refl, refl)) (λ z. (refl, refl))
-  sending-answers AE (Number e) = cond-ind Answered (eqb e (s .persisted .delivered + 1)) _ _ (λ z. (refl, refl)) (λ z. (refl, refl))
-  sending-answers AR (Number e) = cond-ind Answered (eqb e (s .persisted .delivered + 1 + 1)) _ _ (λ z. (refl, refl)) (λ z. (refl, refl))
-  sending-answers AA MinusOne = (refl, refl)
-  sending-answers AE MinusOne = (refl, refl)
-  sending-answers AR MinusOne = (refl, refl)
+  sending-answers AA (Number e) = taken-or-froze (Delivered (s .persisted .delivered + 1) AA) refl (eqb e (s .persisted .delivered + 1))
+  sending-answers AE (Number e) = taken-or-froze (Delivered (s .persisted .delivered + 1) AE) refl (eqb e (s .persisted .delivered + 1))
+  sending-answers AR (Number e) = taken-or-froze (DeliveredUnknown (s .persisted .delivered + 1)) refl (eqb e (s .persisted .delivered + 1 + 1))
+  sending-answers AA MinusOne = froze (s .persisted)
+  sending-answers AE MinusOne = froze (s .persisted)
+  sending-answers AR MinusOne = froze (s .persisted)
 
   with-answers : (w : Waiting) (c : Code) (v : SequenceNumber) → Answered (answered s w c v)
-  with-answers Closed c v = (refl, refl)
-  with-answers Idle c v = (refl, refl)
+  with-answers Closed c v = as-it-was NoEvent refl
+  with-answers Idle c v = as-it-was NoEvent refl
   with-answers Resynchronizing c v = resynchronizing-answers c v
   with-answers Querying c v = querying-answers c v
   with-answers Sending c v = sending-answers c v
 
   code-answers : (c : CodeField) (n : NumberField) → Answered (answerOf s c n)
   code-answers (Known c) (Present v) = with-answers (s .waiting) c v
-  code-answers (Known c) Missing = (refl, refl)
-  code-answers (Known c) NotNumber = (refl, refl)
-  code-answers Other n = (refl, refl)
+  code-answers (Known c) Missing = froze (s .persisted)
+  code-answers (Known c) NotNumber = froze (s .persisted)
+  code-answers Other n = froze (s .persisted)
 
   field-answers : (id : List ℕ) (c : CodeField) (n : NumberField) (m : NumberedMessage) → Answered (answeredBy s id c n m)
-  field-answers id c n Nothing = (refl, refl)
-  field-answers id c n (Numbered v) = cond-ind Answered (same id (textOf v)) _ _ (λ z. code-answers c n) (λ z. (refl, refl))
+  field-answers id c n Nothing = as-it-was NoEvent refl
+  field-answers id c n (Numbered v) = cond-ind Answered (same id (textOf v)) _ _ (λ z. code-answers c n) (λ z. as-it-was Dropped refl)
 
   readable-quiet : (r t n : ℕ) (d : List ℕ) (c i e : Field) → eqb t (code "N") ≡ false → acknowledgmentOf d ≡ AnAnswer c i e → Quiet (blockReadOf r s (Accepted t n) d)
   unfolding blockReadOf
@@ -240,38 +262,48 @@ module _ (r : ℕ) (s : Sender) (l : r ≤ 99) (v : validSender s ≡ true) (m :
   due-as-timer (block k x d) h e = ap (λ (j : ℕ). blockReadOf j s x d .event) e ∙ block-due x d h
   due-as-timer (submit limit d) h e = not-both (sym h)
 
--- a resend that falls due and is not given up sends what waits again; where nothing waits, nothing is sent
+-- a resend that falls due and is not given up sends what waits again, and it goes on waiting; where nothing waits, nothing is sent
 module _ (s : Sender) where
-  abbrev SendsAgain : Acted → Type 0
-  SendsAgain a = a .refusal ≡ 0 → isAbandoned (a .event) ≡ false → a .send ≡ waitsOf s
+  pub record SendsAgain (a : Acted) : Type 0 where
+    pub send : a .send ≡ waitsOf s
+    pub waits : waitsOf (a .sender) ≡ waitsOf s
 
-  resend-again : (r : ℕ) (m : NumberedMessage) → isAbandoned (resendOf r s m .event) ≡ false → resendOf r s m .send ≡ m
-  resend-again r Nothing e = refl
-  resend-again r (Numbered v) e =
-      cond-ind (λ (a : Acted). isAbandoned (a .event) ≡ false → a .send ≡ Numbered v) (ltb (s .sends) (r + 1)) _ _ (λ z n. refl) (λ z n. not-both n) e
+  abbrev Again : Acted → Type 0
+  Again a = a .refusal ≡ 0 → isAbandoned (a .event) ≡ false → SendsAgain a
 
-  open-again : (r : ℕ) (a : Acted) → SendsAgain a → SendsAgain (whenOpen r s a)
+  resend-again : (r n : ℕ) → Again (withBlock n (resendOf r s (waitsOf s)))
+  resend-again r n q e = go (waitsOf s) refl e
+    where
+      go : (m : NumberedMessage) → waitsOf s ≡ m → isAbandoned (resendOf r s m .event) ≡ false → SendsAgain (withBlock n (resendOf r s m))
+      go Nothing w u = record { send = sym w; waits = refl }
+      go (Numbered v) w u =
+          cond-ind (λ (a : Acted). isAbandoned (a .event) ≡ false → SendsAgain (withBlock n a)) (ltb (s .sends) (r + 1)) _ _ (λ z t. record { send = sym w; waits = refl }) (λ z t. not-both t) u
+
+  open-again : (r : ℕ) (a : Acted) → Again a → Again (whenOpen r s a)
   open-again r a h =
-      cond-ind SendsAgain (validResends r) _ _ (λ z. cond-ind SendsAgain (onCircuit s) _ _ (λ y. h) (λ y q e. absurd (omega (arith, q)))) (λ z q e. absurd (omega (arith, q)))
+      cond-ind Again (validResends r) _ _ (λ z. cond-ind Again (onCircuit s) _ _ (λ y. h) (λ y q e. absurd (omega (arith, q)))) (λ z q e. absurd (omega (arith, q)))
 
-  data-again : (r : ℕ) (d : List ℕ) (k : Acknowledgment) → unreadable k ≡ true → SendsAgain (dataBlock r s d k)
-  data-again r d NoAnswer u = λ q e. resend-again r (waitsOf s) e
+  timer-again : (r : ℕ) → Again (resendOf r s (waitsOf s))
+  timer-again r q e = let t = resend-again r 0 q e in record { send = t .send; waits = t .waits }
+
+  data-again : (r : ℕ) (d : List ℕ) (k : Acknowledgment) → unreadable k ≡ true → Again (dataBlock r s d k)
+  data-again r d NoAnswer u = resend-again r 9
   data-again r d (AnAnswer c i n) u = not-both (sym u)
 
-  block-again : (r : ℕ) (v : Verdict) (d : List ℕ) → dueBlock v d ≡ true → SendsAgain (blockIn r s v d)
-  block-again r (Refused k i) d h = λ q e. resend-again r (waitsOf s) e
+  block-again : (r : ℕ) (v : Verdict) (d : List ℕ) → dueBlock v d ≡ true → Again (blockIn r s v d)
+  block-again r (Refused k i) d h = resend-again r k
   block-again r (Accepted t n) d h = go (eqb t (code "N")) h
     where
-      go : (b : Bool) → cond b true (unreadable (acknowledgmentOf d)) ≡ true → SendsAgain (cond b (resendOf r s (waitsOf s)) (dataBlock r s d (acknowledgmentOf d)))
-      go true h = λ q e. resend-again r (waitsOf s) e
+      go : (b : Bool) → cond b true (unreadable (acknowledgmentOf d)) ≡ true → Again (cond b (resendOf r s (waitsOf s)) (dataBlock r s d (acknowledgmentOf d)))
+      go true h = timer-again r
       go false h = data-again r d (acknowledgmentOf d) h
 
-  pub due-sends : (a : Act) → fallsDue a ≡ true → SendsAgain (actOf a s)
+  pub due-sends : (a : Act) → fallsDue a ≡ true → Again (actOf a s)
   unfolding timerOf blockReadOf
   due-sends opened h = not-both (sym h)
   due-sends ended h = not-both (sym h)
   due-sends reset h = not-both (sym h)
-  due-sends (timer r) h = open-again r (resendOf r s (waitsOf s)) (λ q e. resend-again r (waitsOf s) e)
+  due-sends (timer r) h = open-again r (resendOf r s (waitsOf s)) (timer-again r)
   due-sends (block r v d) h = open-again r (blockIn r s v d) (block-again r v d h)
   due-sends (submit limit d) h = not-both (sym h)
 
@@ -306,3 +338,59 @@ module _ (s : Sender) (v : validSender s ≡ true) where
     pub block-taken : (r : ℕ) → r ≤ 99 → (x : Verdict) (d : List ℕ) → blockReadOf r s x d .refusal ≡ 0
     unfolding blockReadOf
     block-taken r l x d = ap (λ (a : Acted). a .refusal) (when-open-is r s (blockIn r s x d) l v o) ∙ in-taken r x d
+
+    -- ---- and the circuit goes on, unless it was given up or the sender froze
+    abbrev pub GoesOn : Acted → Type 0
+    GoesOn a = (isOpen (a .sender .waiting) ≡ true) ⊎ ((isAbandoned (a .event) ≡ true) ⊎ (a .sender .persisted .frozen ≡ true))
+
+    resend-on : (r n : ℕ) (m : NumberedMessage) → GoesOn (withBlock n (resendOf r s m))
+    resend-on r n Nothing = inl o
+    resend-on r n (Numbered x) = cond-ind (λ (a : Acted). GoesOn (withBlock n a)) (ltb (s .sends) (r + 1)) _ _ (λ z. inl o) (λ z. inr (inl refl))
+
+    open-on : (r : ℕ) (a : Acted) → GoesOn a → GoesOn (whenOpen r s a)
+    open-on r a h = cond-ind GoesOn (validResends r) _ _ (λ z. cond-ind GoesOn (onCircuit s) _ _ (λ y. h) (λ y. inl o)) (λ z. inl o)
+
+    pub timer-on : (r : ℕ) → GoesOn (timerOf r s)
+    unfolding timerOf
+    timer-on r = open-on r (resendOf r s (waitsOf s)) (resend-on r 0 (waitsOf s))
+
+    data-on : (r : ℕ) (d : List ℕ) (k : Acknowledgment) → GoesOn (dataBlock r s d k)
+    data-on r d NoAnswer = resend-on r 9 (waitsOf s)
+    data-on r d (AnAnswer c i e) = go (field-answers s (bytesOf i d) (codeField (bytesOf c d)) (numberField greatestExpected (bytesOf e d)) (waitsOf s) .2)
+      where
+        go : (isOpen (s .waiting) ≡ true → isOpen (dataBlock r s d (AnAnswer c i e) .sender .waiting) ≡ true) ⊎ (dataBlock r s d (AnAnswer c i e) .sender .persisted .frozen ≡ true)
+            → GoesOn (dataBlock r s d (AnAnswer c i e))
+        go (inl f) = inl (f o)
+        go (inr f) = inr (inr f)
+
+    in-on : (r : ℕ) (x : Verdict) (d : List ℕ) → GoesOn (blockIn r s x d)
+    in-on r (Refused k i) d = resend-on r k (waitsOf s)
+    in-on r (Accepted t n) d = cond-ind GoesOn (eqb t (code "N")) _ _ (λ z. resend-on r 0 (waitsOf s)) (λ z. data-on r d (acknowledgmentOf d))
+
+    pub block-on : (r : ℕ) (x : Verdict) (d : List ℕ) → GoesOn (blockReadOf r s x d)
+    unfolding blockReadOf
+    block-on r x d = open-on r (blockIn r s x d) (in-on r x d)
+
+    taken-on : (w : Waiting) → GoesOn (takenIn s w)
+    taken-on Closed = inl o
+    taken-on Idle = inl refl
+    taken-on Resynchronizing = inl o
+    taken-on Querying = inl o
+    taken-on Sending = inl o
+
+    header-on : (d : List ℕ) (h : Header) → GoesOn (submittedHeader s d h)
+    header-on d Unreadable = inl o
+    header-on d (Readable id n) =
+        let next = s .persisted .last + 1 in
+        cond-ind GoesOn (isNumber next (numberField greatestSent (bytesOf n d)) && same (bytesOf id d) (textOf (Number next))) _ _ (λ z. taken-on (s .waiting)) (λ z. inl o)
+
+    pub submit-on : (limit : ℕ) (d : List ℕ) → GoesOn (submitOf limit s d)
+    unfolding submitOf
+    submit-on limit d =
+        cond-ind GoesOn (validLinkLimit limit) _ _
+        (λ a. cond-ind GoesOn (validSender s) _ _
+        (λ b. cond-ind GoesOn (not (s .persisted .frozen)) _ _
+        (λ c. cond-ind GoesOn (leb (length d) limit) _ _ (λ e. cond-ind GoesOn (allAllowed d) _ _ (λ f. header-on d (headerOf d)) (λ f. inl o)) (λ e. inl o))
+        (λ c. inl o))
+        (λ b. inl o))
+        (λ a. inl o)
