@@ -8,7 +8,7 @@ pub use bytes::first_forbidden;
 pub use digits::digit_of;
 ghost use mathlib.Core.Path.{_≡_};
 ghost use mathlib.Core.Bool.{_&&_};
-ghost use Rattle.settings.specs.Settings.{allowed, validLinkLimit, valid, validLink, dataOffsetOf, hybridOf, minimalOf, linkOf, hybridLink, minimalLink};
+ghost use Rattle.settings.specs.Settings.{allowed, validLinkLimit, valid, validLink, dataOffsetOf, hybridOf, minimalOf};
 
 // The two lower layer protocols (000, C.2 and C.4).
 pub enum Kind {
@@ -35,18 +35,6 @@ pub(crate) fn is_allowed(x: u8) -> bool
     ensures { λ r. ⌜ r ≡ allowed x ⌝ }
 {
     ((0x20 <= x) & (x <= 0x7e)) | (x == b'\r')
-}
-
-fn link_of(made: Made) -> Made
-    ensures { λ r. ⌜ r ≡ linkOf made ⌝ }
-{
-    let Made::Valid(settings) = made else {
-        return Made::Refused;
-    };
-    if settings.data_limit < Settings::SMALLEST_LINK_LIMIT {
-        return Made::Refused;
-    }
-    Made::Valid(settings)
 }
 
 impl Settings {
@@ -96,20 +84,6 @@ impl Settings {
         } else {
             Made::Refused
         }
-    }
-
-    // The settings of a hybrid link's sender or receiver, or a refusal (1).
-    pub fn hybrid_link(start_block: u64, end_block: u64, data_limit: u64) -> Made
-        ensures { λ r. ⌜ r ≡ hybridLink «start_block» «end_block» «data_limit» ⌝ }
-    {
-        link_of(Settings::hybrid(start_block, end_block, data_limit))
-    }
-
-    // The settings of a minimal link's sender or receiver, or a refusal (1).
-    pub fn minimal_link(data_limit: u64) -> Made
-        ensures { λ r. ⌜ r ≡ minimalLink «data_limit» ⌝ }
-    {
-        link_of(Settings::minimal(data_limit))
     }
 
     // Whether every setting is within its range.

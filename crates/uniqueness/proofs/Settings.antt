@@ -13,10 +13,6 @@ use Rattle.settings.proofs.Settings.hybrid as Settings-hybrid-contract
 use Rattle.settings.proofs.Settings.hybrid.Reads as Settings-hybrid-reads
 use Rattle.settings.proofs.Settings.minimal as Settings-minimal-contract
 use Rattle.settings.proofs.Settings.minimal.Reads as Settings-minimal-reads
-use Rattle.settings.proofs.Settings.hybrid_link as Settings-hybrid-link-contract
-use Rattle.settings.proofs.Settings.hybrid_link.Reads as Settings-hybrid-link-reads
-use Rattle.settings.proofs.Settings.minimal_link as Settings-minimal-link-contract
-use Rattle.settings.proofs.Settings.minimal_link.Reads as Settings-minimal-link-reads
 use Rattle.settings.proofs.Settings.is_valid as Settings-is-valid-contract
 use Rattle.settings.proofs.Settings.is_valid.Reads as Settings-is-valid-reads
 use Rattle.settings.proofs.Settings.is_link as Settings-is-link-contract
@@ -64,20 +60,6 @@ Settings-hybrid = record {
 pub Settings-minimal : Unique Settings-minimal-contract.ended (λ M. Settings-minimal-contract.clauses {M = M})
 Settings-minimal = record {
   holds = Settings-minimal-reads.Learnt;
-  says = λ M 𝓤 H A mem run. refl;
-  one = λ κs a z z′ ws ws′ h h′. (h ∙ sym h′, refl);
-}
-
-pub Settings-hybrid-link : Unique Settings-hybrid-link-contract.ended (λ M. Settings-hybrid-link-contract.clauses {M = M})
-Settings-hybrid-link = record {
-  holds = Settings-hybrid-link-reads.Learnt;
-  says = λ M 𝓤 H A mem run. refl;
-  one = λ κs a z z′ ws ws′ h h′. (h ∙ sym h′, refl);
-}
-
-pub Settings-minimal-link : Unique Settings-minimal-link-contract.ended (λ M. Settings-minimal-link-contract.clauses {M = M})
-Settings-minimal-link = record {
-  holds = Settings-minimal-link-reads.Learnt;
   says = λ M 𝓤 H A mem run. refl;
   one = λ κs a z z′ ws ws′ h h′. (h ∙ sym h′, refl);
 }
