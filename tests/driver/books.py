@@ -28,8 +28,8 @@ class Pair:
     """The books of both ends: the sender's numbers and log, the receiver's numbers and transactions. `base` are an earlier
     tenant's, whose expected number the -1 of this one took away."""
 
-    def __init__(self, first, mark, last, expected, stored, base=0):
-        self.first, self.mark, self.last, self.resynchronized, self.frozen = first, mark, last, 1, 0
+    def __init__(self, first, delivered, last, expected, stored, base=0):
+        self.first, self.delivered, self.last, self.resynchronized, self.frozen = first, delivered, last, 1, 0
         self.expected, self.count = expected, base + stored
         self.cleared, self.cleared_after = base + 1 if base else 0, base
         self.log = {number: text(number) for number in range(first, last + 1)}
@@ -39,7 +39,7 @@ class Pair:
     def write(self, folder):
         sender, receiver = os.path.join(folder, 's'), os.path.join(folder, 'r')
         for path, title, words in (
-                (sender, 'giamuvich sender 2', {'first': self.first, 'delivered': self.mark, 'last': self.last,
+                (sender, 'giamuvich sender 2', {'first': self.first, 'delivered': self.delivered, 'last': self.last,
                                                 'resynchronized': self.resynchronized, 'frozen': self.frozen}),
                 (receiver, 'giamuvich receiver 2', {'expected': self.expected, 'stored': self.count,
                                                     'cleared': self.cleared, 'cleared_after': self.cleared_after})):
@@ -61,7 +61,7 @@ class Pair:
         return self.expected - self.first if self.resynchronized and self.expected > self.first else 0
 
     def numbers_agree(self):
-        claimed, covers = self.claimed(), self.mark - self.first + 1
+        claimed, covers = self.claimed(), self.delivered - self.first + 1
         if claimed == 0 and self.expected != 0 and self.resynchronized:
             return False
         if self.cleared and self.resynchronized and claimed != len(self.positions()):
@@ -81,7 +81,7 @@ class Pair:
                 any(pair[0] is not None and number_in(pair[0]) != self.first + i for i, pair in enumerate(pairs)) or
                 any(self.transactions.get(position) in ours for position in range(1, base + 1))):
             return False
-        gone = [number for number in range(self.first, self.mark + 1)
+        gone = [number for number in range(self.first, self.delivered + 1)
                 if number in self.log and self.log[number] not in found]
         if [number for number in gone if not self.purged(number)]:
             return False
@@ -263,9 +263,9 @@ def others(programs, folder):
 def drawn(random):
     """A pair that agrees, or one in which some things were changed."""
     first, count, base = random.choice([1, 2, 40]), random.randrange(6), random.choice([0, 0, 1, 3])
-    mark = first + max(0, count - random.randrange(2)) - 1
+    delivered = first + max(0, count - random.randrange(2)) - 1
     last = first + count - 1 + random.randrange(3)
-    made = Pair(first, mark, max(last, mark), first + count if count else 0, count, base)
+    made = Pair(first, delivered, max(last, delivered), first + count if count else 0, count, base)
     for _ in range(random.choice([0, 1, 1, 2, 3])):
         position = random.randrange(1, made.count + 3)
         number = random.randrange(first, made.last + 3)
@@ -275,7 +275,7 @@ def drawn(random):
         elif change == 1:
             made.count = max(0, made.count + random.choice([-1, 1, 2]))
         elif change == 2:
-            made.mark = random.randrange(first - 1, made.last + 1)
+            made.delivered = random.randrange(first - 1, made.last + 1)
         elif change == 3:
             made.transactions[position] = text(number, random.choice(['K', 'other']))
         elif change == 4:

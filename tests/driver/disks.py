@@ -150,7 +150,7 @@ class Disk:
                 self.numbers[number] = File(file.read())
         return self.numbers[number]
 
-    def place(self, path):
+    def located(self, path):
         """The folder that a path is in, and the name there."""
         *parts, name = os.path.relpath(path, self.path).split('/')
         folder = self.root
@@ -159,12 +159,12 @@ class Disk:
         return folder, name
 
     def name(self, path, value):
-        folder, name = self.place(path)
+        folder, name = self.located(path)
         folder.put(name, value)
 
     def rename(self, path, to, value):
         """Two names of one file are left as they are: so says POSIX."""
-        folder, name = self.place(to)
+        folder, name = self.located(to)
         if folder.entries.get(name) is not value:
             folder.put(name, value)
             self.name(path, None)
@@ -194,7 +194,7 @@ class Disk:
 
     def spooled(self, path):
         """A host has stored this file, while no driver runs."""
-        folder, name = self.place(path)
+        folder, name = self.located(path)
         self.numbers.pop(os.stat(path).st_ino, None)
         folder.put_synced(name, self.load_file(path))
 

@@ -417,11 +417,11 @@ def said_to_another(programs, folder):
 
 def rights(bench):
     """Who may read `lock` is told that a driver runs. Who may not is told that it is not known."""
-    place, mask = tempfile.mkdtemp(), os.umask(0o022)
-    folder = os.path.join(place, 's')
+    home, mask = tempfile.mkdtemp(), os.umask(0o022)
+    folder = os.path.join(home, 's')
     try:
-        os.chmod(place, 0o755)  # the bench's own folder is closed to other users
-        shutil.copy(os.path.join(bench.programs, 'linkstatus'), place)
+        os.chmod(home, 0o755)  # the bench's own folder is closed to other users
+        shutil.copy(os.path.join(bench.programs, 'linkstatus'), home)
         bench.driver('sender-init', folder, '1')
         end = End(bench.programs, 'send', folder, ['--minimal-connect', '127.0.0.1:1'], [])
         end.start()
@@ -429,12 +429,12 @@ def rights(bench):
         for mode, wanted in ((0o444, (['sender: no circuit open'], 0)),
                              (0, (['sender: it cannot be told whether a driver runs on this folder'], 3))):
             os.chmod(os.path.join(folder, 'lock'), mode)
-            if not wait_for(lambda wanted=wanted: said_to_another(place, folder) == wanted):
-                return 'lock of mode %o: %s' % (mode, said_to_another(place, folder))
+            if not wait_for(lambda wanted=wanted: said_to_another(home, folder) == wanted):
+                return 'lock of mode %o: %s' % (mode, said_to_another(home, folder))
         return None if end.finish() == 0 else 'ends badly'
     finally:
         os.umask(mask)
-        shutil.rmtree(place)
+        shutil.rmtree(home)
 
 
 def used_time(end):

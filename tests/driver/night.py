@@ -121,7 +121,7 @@ FAULTS = [
           said(PAIR, ON_ZERO, 'another sender', row=MARK_OR_LESS),
           said(PAIR, r'books: position 4 is not number 1 of the log; it is another message, with number 1',
                'another sender'), strange=1),
-    fault(7, "the receiver's state cut short", functools.partial(wrong.changed_state, change=wrong.cut), 'sr',
+    fault(7, "the receiver's state cut short", functools.partial(wrong.changed_state, change=wrong.shortened), 'sr',
           '^critical: .*receiver: lab07.r/state is damaged', FAR_DRIVER_DOWN, *DAMAGED),
     fault(8, "the receiver's state, a digit of the expected number",
           functools.partial(wrong.changed_state, change=wrong.expected_less), 'sr',
@@ -312,8 +312,8 @@ def stored_by(link):
 def harm_of(first, spooled, stored):
     """What is lost of that which the sender takes for delivered, what is there twice, how many are not ours; and
     what is to be said of the books."""
-    present, mark = collections.Counter(stored.transactions.values()), stored.sender['delivered']
-    lost = tuple(number - first for number in range(first, mark + 1) if not present[spooled[number]])
+    present, delivered = collections.Counter(stored.transactions.values()), stored.sender['delivered']
+    lost = tuple(number - first for number in range(first, delivered + 1) if not present[spooled[number]])
     twice = tuple(number - first for number, data in spooled.items() if present[data] > 1)
     strange = sum(data not in spooled.values() for data in stored.transactions.values())
     if stored.receiver is None:
@@ -324,9 +324,9 @@ def harm_of(first, spooled, stored):
 def agree(first, spooled, stored):
     """The receiver has the first k that were spooled, at the positions 1 to k, and says so; the sender's mark covers
     k or one less; and the log has all up to its last number."""
-    k, mark = stored.receiver['stored'], stored.sender['delivered'] - first + 1
+    k, covered = stored.receiver['stored'], stored.sender['delivered'] - first + 1
     return (stored.transactions == {index + 1: spooled.get(first + index) for index in range(k)} and
-            mark <= k <= mark + 1 and (stored.receiver['expected'] == first + k or k == 0) and
+            covered <= k <= covered + 1 and (stored.receiver['expected'] == first + k or k == 0) and
             stored.log == {number: spooled.get(number) for number in range(first, stored.sender['last'] + 1)})
 
 

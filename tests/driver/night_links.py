@@ -405,7 +405,7 @@ def changed_state(link, change):
     yield link.receiver.has_ended
 
 
-def cut(data):
+def shortened(data):
     return data[:len(data) // 2]
 
 

@@ -175,7 +175,7 @@ class Chain(Link):
         for index in dead:
             self.note('kills in chains', index)
             if self.draws.random() < 0.4:
-                self.cut_power(index)
+                self.lose_power(index)
         if 0 in dead:
             self.feed()
         self.start_again()
@@ -184,7 +184,7 @@ class Chain(Link):
         self.counts[what] += 1
         self.story.append('%s of the %s' % (what[:-len('s in chains')], NAMES[index]))
 
-    def cut_power(self, index):
+    def lose_power(self, index):
         self.note('power cuts in chains', index)
         history, folder = self.histories[index], self.folders[index]
         image = self.draws.choice(history.images)
@@ -247,8 +247,8 @@ class PowerLoss:
 
     def prepare(self):
         """Two messages and a file that is refused; and an expected number that an earlier sender left."""
-        place = self.new_folder()
-        folders = [os.path.join(place, name) for name in NAMES]
+        home = self.new_folder()
+        folders = [os.path.join(home, name) for name in NAMES]
         for folder, (command, *more) in zip(folders, INITS):
             hold(self.driver(command, folder, *more) == 0, '%s does not make an end', command)
         change_state(os.path.join(folders[1], 'state'), expected=2)
@@ -382,8 +382,8 @@ class PowerLoss:
 
     def command(self, image, *words):
         """Runs a command on a disk: what may be left at each moment of it, and at last what is left."""
-        place, images = self.new_folder(), {}
-        path, machine = os.path.join(place, 'trace'), os.path.join(place, 'machine')
+        home, images = self.new_folder(), {}
+        path, machine = os.path.join(home, 'trace'), os.path.join(home, 'machine')
         image.lay_out(machine)
         disk = Disk(machine)
         with open(path, 'ab') as trace:
