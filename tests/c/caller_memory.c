@@ -624,7 +624,7 @@ static void stream_reads(settings link)
     end_stream(&b);
 }
 
-void test_lent(void)
+void test_caller_memory(void)
 {
     TEST_ROWS("lent memory and reports: blocks", block_rows);
     TEST_ROWS("lent memory and reports: messages", message_rows);

@@ -33,10 +33,10 @@ static receiving_host new_receiving_host(void)
 }
 
 static uint64_t receive(receiving_host *h, uint64_t *state, uint64_t application,
-                        const uint8_t *data, size_t length, size_t room)
+                        const uint8_t *data, size_t length, size_t space)
 {
     return gmv_minimal_receive(LIMIT, application, state, GMV_RECEIVER_WORDS, GMV_OK,
-                               GMV_DATA_BLOCK, data, length, h->reply, room, 0, h->report,
+                               GMV_DATA_BLOCK, data, length, h->reply, space, 0, h->report,
                                GMV_RECEIVED_WORDS);
 }
 

@@ -19,7 +19,7 @@ static void run_all(enum memory_kind kind)
     test_sweeps();
     test_message_trips();
     test_link();
-    test_lent();
+    test_caller_memory();
     test_duties();
 }
 
@@ -40,7 +40,7 @@ int main(int count, char **arguments)
     if (count > 1)
         return run_files(count - 1, arguments + 1);
 #ifdef NEVER_WRITTEN
-    test_lent(); /* under valgrind: docs/TRUSTED.md */
+    test_caller_memory(); /* under valgrind: docs/TRUSTED.md */
     return finish_tests();
 #endif
     run_all(FENCED_PAGES);
