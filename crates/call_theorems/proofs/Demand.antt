@@ -55,7 +55,7 @@ use Rattle.link.proofs.Reports.{reports, sends-at-once, named-waits, nothing-le
 use Rattle.link.proofs.Delivery.{answer-moves}
 use Rattle.link.proofs.Facts.{not-both}
 use Rattle.link.proofs.Runs.{run-join}
-use Rattle.call_theorems.specs.Driver.{Passed, madeFrom, Named, ReaderMemory, SenderMemory, ReceiverMemory, Drivers, drivers, enoughToRead, enoughToSend, enoughToReceive, waitsWords, reportOf, DriverAct, verdictTaken, afterDriver, drivenBy, DriversLeft, driversStart}
+use Rattle.call_theorems.specs.Driver.{Passed, madeFrom, Named, ReaderMemory, SenderMemory, ReceiverMemory, ReceiverEnd, Drivers, drivers, enoughToRead, enoughToSend, enoughToReceive, waitsWords, reportOf, DriverAct, verdictTaken, afterDriver, drivenBy, DriversLeft, driversStart}
 use Rattle.call_theorems.specs.Driver.{opens, ends, resets, timer, submits, stores, restores, receiverStores, receiverRestores, replies, sends, forgets, reads, takes, drops, receiverReads, receiverDrops}
 use Rattle.call_theorems.specs.Driver.{receives, replaces, receiverReplaces, tries, crashes, receiverCrashes, damagesForward, damagesBack}
 use Rattle.call_theorems.specs.Verdicts.{readerGives}
@@ -202,6 +202,23 @@ module _ (k : Passed) (ag : Agrees k) (rd : Ready (k .link)) where
   act-goes (receiverCrashes m) x y i h = receiver-crashes-goes k ag rd x y i h m
   act-goes (damagesForward xs) x y i h = forward-goes x y h xs (damages g (x .forward) xs) refl
   act-goes (damagesBack xs) x y i h = back-goes x y h xs (disorders g (x .back) xs) refl
+
+  -- what is asked of a receiver's end is what it has and has stored
+  safe-with : (e : ReceiverEnd) (x : Drivers) → e .has ≡ x .receiver .has → e .«stored_has» ≡ x .receiver .«stored_has» → DriversSafe l x → DriversSafe l (withReceiver e x)
+  safe-with e x a b f =
+      record {
+        held = f .held;
+        stored = f .stored;
+        has = a ∙ f .has;
+        stored-has = b ∙ f .stored-has;
+        covers = f .covers;
+        covers-stored = f .covers-stored;
+        stored-covers = f .stored-covers;
+        stored-covers-stored = f .stored-covers-stored;
+        submitted = f .submitted;
+        unfrozen = f .unfrozen;
+        stored-unfrozen = f .stored-unfrozen;
+      }
 
   -- ---- the beginning
   -- the verdicts that are left are shown as the reader gave them
@@ -517,39 +534,11 @@ module _ (k : Passed) (ag : Agrees k) (rd : Ready (k .link)) where
 
         -- and before it has
         pub calls-meanwhile : DriversSafe l (withReceiver (drivenBy k x rs .receiver) (drivenBy k (afterDriver k (opens r q) x) ss))
-        calls-meanwhile =
-            let f = calls-apart in
-            record {
-              held = f .held;
-              stored = f .stored;
-              has = f .has;
-              stored-has = f .stored-has;
-              covers = f .covers;
-              covers-stored = f .covers-stored;
-              stored-covers = f .stored-covers;
-              stored-covers-stored = f .stored-covers-stored;
-              submitted = f .submitted;
-              unfrozen = f .unfrozen;
-              stored-unfrozen = f .stored-unfrozen;
-            }
+        calls-meanwhile = safe-with (drivenBy k x rs .receiver) (opensApart k r q x ss rs) refl refl calls-apart
 
       -- and where the receiver's goes over first: before the sender's opens, and then
       pub calls-first : (p : ReaderMemory) → DriversSafe l (withReceiver (goneOver p (x .receiver)) x)
-      calls-first p =
-          let f = calls-safe ds in
-          record {
-            held = f .held;
-            stored = f .stored;
-            has = f .has;
-            stored-has = f .stored-has;
-            covers = f .covers;
-            covers-stored = f .covers-stored;
-            stored-covers = f .stored-covers;
-            stored-covers-stored = f .stored-covers-stored;
-            submitted = f .submitted;
-            unfrozen = f .unfrozen;
-            stored-unfrozen = f .stored-unfrozen;
-          }
+      calls-first p = safe-with (goneOver p (x .receiver)) (drivenBy k begun ds) refl refl (calls-safe ds)
 
       -- "An intact answer to the waiting transaction, read before that, moves the mark.": the driver acts on an accepted data block whose MSA-2 is the number of the transaction that waits
       module _ (i : ℕ) (v : Shown) (vs : List Shown) (shows : oneAt i (x .sender .arrived) ≡ v ∷ vs) (accepted : v .number ≡ 0) (kind : v .type ≡ code "D") (waits : waitsWord st ≡ 4)

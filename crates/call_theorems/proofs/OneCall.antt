@@ -189,7 +189,7 @@ goes-on s c xs z = go (foundBlock (callOn s c xs)) refl
     go true f = call-uses s c xs .some f
     go false f = let k = call-uses s c xs .all e f in let l = goes-less s c xs z in absurd (omega arith)
 
--- so the loop over a part ends: with more calls allowed than bytes, it is not the allowed number that stops it
+-- so the loop over a part ends: each call that is followed by another has used a byte, and with more calls allowed than bytes one more changes nothing
 pub part-ends : (s : Made) (n : ℕ) (c : Called) (xs : List ℕ) → length xs < n → partCalls s (suc n) c xs ≡ partCalls s n c xs
 unfolding partCalls
 part-ends s zero c xs h = absurd (omega arith)
