@@ -61,7 +61,7 @@ use Rattle.call_theorems.specs.Driver.{receives, replaces, receiverRepla
 use Rattle.call_theorems.specs.Verdicts.{readerGives}
 use Rattle.call_theorems.specs.Reading.{Shown, shown}
 use Rattle.call_theorems.specs.DriversRun.{actsOf, linkRun}
-use Rattle.call_theorems.specs.DriversPromise.{In, here, there, Agrees, allGiven, DriversSafe, deliveredWord, lastWord, frozenWord, waitsWord, SenderCall, opening, ending, resetting, timing, submitting, taking, calledBy, verdictBy, onCircuit, actBy, Offered, abandonedWord, sendWordsOf, applies, messageNamed, sendsShown, Reported}
+use Rattle.call_theorems.specs.DriversPromise.{In, here, there, Agrees, allGiven, DriversSafe, deliveredWord, lastWord, frozenWord, waitsWord, SenderCall, opening, ending, resetting, timing, submitting, taking, calledBy, verdictBy, keepsCircuit, actBy, Offered, abandonedWord, sendWordsOf, applies, messageNamed, sendsShown, Reported}
 use Rattle.call_theorems.specs.Apart.{ofSender, ofReceiver, allOf, withReceiver, goneOver, opensApart}
 use Rattle.call_theorems.proofs.Apart.{apart-is, driven-join}
 use Rattle.call_theorems.proofs.Shows.{SameVerdict, Behind, Shows, waits-is, over-behind}
@@ -461,7 +461,7 @@ module _ (k : Passed) (ag : Agrees k) (rd : Ready (k .link)) where
         by-event u (inr (inr z)) = not-both (sym z ∙ unfrozen-then u)
 
         abbrev GoesOn : Type 0
-        GoesOn = onCircuit q ≡ true → eqb (waitsWord st) 0 ≡ false → eqb (waitsWord (c .state)) 0 ≡ abandonedWord c
+        GoesOn = keepsCircuit q ≡ true → eqb (waitsWord st) 0 ≡ false → eqb (waitsWord (c .state)) 0 ≡ abandonedWord c
 
         report-is : GoesOn → Reported k (x .sender) q c
         report-is goes =

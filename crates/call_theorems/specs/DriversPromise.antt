@@ -138,13 +138,13 @@ abbrev pub sendsShown : List ℕ → List CallReport → ℕ
 sendsShown m rs = cond (eqb (getD m 0 0) 0) 0 (countedWords m rs)
 
 -- the calls that neither open nor end a circuit
-abbrev pub onCircuit : SenderCall → Bool
-onCircuit timing = true
-onCircuit (submitting limit d) = true
-onCircuit (taking w) = true
-onCircuit opening = false
-onCircuit ending = false
-onCircuit resetting = false
+abbrev pub keepsCircuit : SenderCall → Bool
+keepsCircuit timing = true
+keepsCircuit (submitting limit d) = true
+keepsCircuit (taking w) = true
+keepsCircuit opening = false
+keepsCircuit ending = false
+keepsCircuit resetting = false
 
 -- what a call shows, in words, done or refused: the sends of what waits then, or of what was just given up; that it gave up, exactly when;
 -- that it names what waits then, or nothing; what is sent again, and goes on waiting; that the circuit goes on unless it was given up;
@@ -155,5 +155,5 @@ pub record Reported (k : Passed) (e : SenderEnd) (q : SenderCall) (c : Called) :
   pub names : (sendWordsOf c ≡ 0 ∷ 0 ∷ []) ⊎ (sendWordsOf c ≡ waitsWords (c .state))
   pub resends : eqb (c .number) 0 ≡ true → fallsDue (actBy k q) ≡ true → abandonedWord c ≡ false
       → (sendWordsOf c ≡ waitsWords (e .memory .state)) × (waitsWords (c .state) ≡ waitsWords (e .memory .state))
-  pub goes-on : onCircuit q ≡ true → eqb (waitsWord (e .memory .state)) 0 ≡ false → eqb (waitsWord (c .state)) 0 ≡ abandonedWord c
+  pub goes-on : keepsCircuit q ≡ true → eqb (waitsWord (e .memory .state)) 0 ≡ false → eqb (waitsWord (c .state)) 0 ≡ abandonedWord c
   pub at-once : (waitsWords (c .state) ≡ sendWordsOf c) ⊎ ((waitsWords (c .state) ≡ 0 ∷ 0 ∷ []) ⊎ (waitsWords (c .state) ≡ waitsWords (e .memory .state)))
