@@ -65,6 +65,7 @@ class Link:
     def __init__(self, programs, folder, scenario, seed, timer=40):
         self.programs, self.folder, self.scenario = programs, folder, scenario
         self.timer, self.random, self.counts = timer, random.Random(seed), collections.Counter()
+        self.earlier = set()  # what the senders before this one sent
         self.terminal = scenario.line == TERMINAL
         self.rules = Rules(self.terminal, scenario.limit, scenario.start, scenario.end)
         self.options = ['--data-limit', str(scenario.limit), '--timer', str(timer), '--resends', str(scenario.resends)]
@@ -150,7 +151,14 @@ class Link:
         for _ in range(self.random.choice([1, 1, 2, 3])):
             number = self.books.first + len(self.books.messages)
             if len(self.books.messages) < self.scenario.most and number <= LAST_NUMBER:
-                self.books.spool(message(number, self.scenario.limit, self.random))
+                self.books.spool(self.new_message(number))
+
+    def new_message(self, number):
+        """None that an earlier sender sent: by its bytes linkstatus would find it among that one's."""
+        while True:
+            made = message(number, self.scenario.limit, self.random)
+            if made not in self.earlier:
+                return made
 
     def random_moment(self):
         """Waits for some blocks to come to the line, and then from microseconds to tens of milliseconds."""
@@ -186,7 +194,7 @@ class Link:
         """On a good line all that was spooled is delivered."""
         number = self.books.first + len(self.books.messages)
         if not self.books.messages and number <= LAST_NUMBER:
-            self.books.spool(message(number, self.scenario.limit, self.random))
+            self.books.spool(self.new_message(number))
         self.line.become_good()
         limit = time.monotonic() + 60
         while not self.books.all_delivered() and time.monotonic() < limit:
@@ -199,6 +207,7 @@ class Link:
         self.books.check_all()
         hold(self.books.seen == len(self.books.messages), 'not all is stored')
         self.compare_books()
+        self.earlier.update(self.books.messages)
         self.counts['deliveries'] += len(self.books.messages)
         self.counts['senders'] += 1
 
