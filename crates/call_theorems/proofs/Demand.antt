@@ -66,7 +66,7 @@ use Rattle.call_theorems.specs.Apart.{ofSender, ofReceiver, allOf, withR
 use Rattle.call_theorems.proofs.Apart.{apart-is, driven-join}
 use Rattle.call_theorems.proofs.Shows.{SameVerdict, Behind, Shows, waits-is, over-behind}
 use Rattle.call_theorems.proofs.Driving.{Goes, by-act, fresh-enough, opens-goes, ends-goes, resets-goes, timer-goes, submits-goes, stores-goes, restores-goes}
-use Rattle.call_theorems.proofs.Reporting.{Words, sends-shown, call-words, call-showed, call-number, waiting-back, call-taken, due-resends}
+use Rattle.call_theorems.proofs.Reporting.{Words, sends-shown, call-words, call-showed, call-number, word-closed, twice, waiting-is, call-taken, due-resends}
 use Rattle.call_theorems.proofs.SenderDriving.{each-one, named-goes-out, sends-goes, forgets-goes, reads-goes, takes-goes, drops-goes, replaces-goes, crashes-goes}
 use Rattle.call_theorems.proofs.ReceiverDriving.{receiver-reads-goes, block-taken, receives-goes, tries-goes, receiver-replaces-goes, receiver-drops-goes, receiver-stores-goes, receiver-restores-goes, receiver-crashes-goes, replies-goes}
 
@@ -79,18 +79,6 @@ at-index : {A : Type 0} {x : A} {xs : List A} → In x xs → At x xs
 unfolding oneAt
 at-index here = record { index = 0; is = refl }
 at-index (there i) = let a = at-index i in record { index = suc (a .index); is = a .is }
-
--- no circuit is open exactly where GMV_SENDER_WAITING is 0
-word-closed : (w : Waiting) → eqb (waitingWord w) 0 ≡ not (isOpen w)
-word-closed Closed = refl
-word-closed Idle = refl
-word-closed Resynchronizing = refl
-word-closed Querying = refl
-word-closed Sending = refl
-
-open-of : (b : Bool) → not b ≡ false → b ≡ true
-open-of true e = refl
-open-of false e = not-both e
 
 flag-off : (b : Bool) → flagWord b ≡ 0 → b ≡ false
 flag-off true e = absurd (omega (arith, e))
@@ -388,7 +376,7 @@ module _ (k : Passed) (ag : Agrees k) (rd : Ready (k .link)) where
       calls-open closed =
           let done = calls-taken opening refl (eq-eqb (waitsWord st) 0 closed) in
           let words = call-words k rd (drivenBy k begun ds) (linkEnd ds) sender-valid (calls-run ds) opening refl (ap (λ (n : ℕ). eqb n 1) done) in
-          let none = sym (waiting-back k rd (drivenBy k begun ds) (linkEnd ds) sender-valid (calls-run ds)) ∙ ap waitingOf closed in
+          let none = sym (waiting-is k rd (drivenBy k begun ds) (linkEnd ds) sender-valid (calls-run ds)) ∙ ap waitingOf closed in
           waits-is (openOf s .sender) (openCall st (x .sender .memory .report) .state) (words .state)
           ∙ ap (λ (a : Acted). sendWords (waitsOf (a .sender))) (open-is s none sender-valid (standing ds .core .senders .unfrozen))
           ∙ go (s .persisted .resynchronized)
@@ -445,7 +433,8 @@ module _ (k : Passed) (ag : Agrees k) (rd : Ready (k .link)) where
         closed-word = ap (λ (ws : List ℕ). eqb (getD ws 5 0) 0) (words .state .is) ∙ word-closed (a .sender .waiting)
 
         open-before : eqb (waitsWord st) 0 ≡ false → isOpen (s .waiting) ≡ true
-        open-before z = open-of (isOpen (s .waiting)) (sym (ap (λ (ws : List ℕ). eqb (getD ws 5 0) 0) (calls-run ds .sender .state .is) ∙ word-closed (s .waiting)) ∙ z)
+        open-before z =
+            sym (twice (isOpen (s .waiting))) ∙ ap not (sym (ap (λ (ws : List ℕ). eqb (getD ws 5 0) 0) (calls-run ds .sender .state .is) ∙ word-closed (s .waiting)) ∙ z)
 
         unfrozen-then : frozenWord (c .state) ≡ 0 → a .sender .persisted .frozen ≡ false
         unfrozen-then z = flag-off (a .sender .persisted .frozen) (sym (ap (λ (ws : List ℕ). getD ws 4 0) (words .state .is)) ∙ z)
@@ -505,7 +494,7 @@ module _ (k : Passed) (ag : Agrees k) (rd : Ready (k .link)) where
       calls-idle z =
           let is = calls-run ds .sender .state .is in
           ap (λ (ws : List ℕ). getD ws 1 0) is
-          ∙ nothing-left l rd remains only e state run (sym (waiting-back k rd (drivenBy k begun ds) (linkEnd ds) sender-valid (calls-run ds)) ∙ ap waitingOf z)
+          ∙ nothing-left l rd remains only e state run (sym (waiting-is k rd (drivenBy k begun ds) (linkEnd ds) sender-valid (calls-run ds)) ∙ ap waitingOf z)
           ∙ sym (ap (λ (ws : List ℕ). getD ws 2 0) is)
 
       -- what a report named goes out, once the words are stored
@@ -551,7 +540,7 @@ module _ (k : Passed) (ag : Agrees k) (rd : Ready (k .link)) where
             let content = ap (λ (z : Shown). z .content) (is .is) in
             ap (λ (ws : List ℕ). getD ws 1 0) (calls-run (takes i ∷ ds) .sender .state .is)
             ∙ answer-moves l rd remains only e state run i j js q (verdict .size) (verdict .is)
-            (sym (waiting-back k rd (drivenBy k begun ds) (linkEnd ds) sender-valid (calls-run ds)) ∙ ap waitingOf waits)
+            (sym (waiting-is k rd (drivenBy k begun ds) (linkEnd ds) sender-valid (calls-run ds)) ∙ ap waitingOf waits)
             (ap (λ (d : List ℕ). bytesOf (answerField 2 d) d) (sym content) ∙ own ∙ ap (λ (d : ℕ). textOf (Number (d + 1))) held)
             ∙ ap (λ (d : ℕ). d + 1) (sym held)
 

@@ -28,6 +28,7 @@ use Rattle.sender.specs.declared.NumberedMessage.the-variants.{Nothing, Numbere
 use Rattle.sender.specs.declared.Event.{Event}
 use Rattle.sender.specs.declared.Event.the-variants.{NoEvent, Delivered, DeliveredUnknown, Abandoned, Froze, Dropped}
 use Rattle.sender.specs.declared.Acted.{Acted}
+use Rattle.sender_calls.proofs.ReadBack.{waiting-back}
 use Rattle.sender_calls.specs.SenderCalls.{waitingWord, waitingOf, senderWords, sendWords, eventWords, actWords}
 use Rattle.link.specs.SenderActs.{Act, actOf, fallsDue, resendsOf}
 use Rattle.link.specs.SenderHistory.{Entry, reported, crashed, is, counted, countedOf, isAbandoned}
@@ -41,7 +42,7 @@ use Rattle.call_theorems.specs.Reading.{Shown, shown}
 use Rattle.call_theorems.specs.Driver.{Passed, CallReport, Drivers, waitsWords, reportOf}
 use Rattle.call_theorems.specs.DriversPromise.{In, here, there, SenderCall, opening, ending, resetting, timing, submitting, taking, calledBy, verdictBy, actBy, Offered, sendsWord, abandonedWord, sendWordsOf, applies, countedWords, sendsShown}
 use Rattle.call_theorems.proofs.Verdicts.{made-again, sends-the-same}
-use Rattle.call_theorems.proofs.Shows.{SameVerdict, SameReport, Behind, Shows, over-behind, behind-length, Does, done, refused, eight, send-is, same-report}
+use Rattle.call_theorems.proofs.Shows.{SameVerdict, SameReport, Behind, Shows, over-behind, behind-length, Does, done, refused, eight, kind-some, send-is, same-report}
 use Rattle.call_theorems.proofs.Acting.{open-does, ended-does, reset-does, timer-does, submit-does, block-does}
 
 -- ---- the words of a report, and of the state
@@ -136,11 +137,19 @@ counted-is m (each-more {x = r} {y = reported a} p ps) =
 pub sends-shown : (w : NumberedMessage) {rs : List CallReport} {h : List Entry} → Each SameReport rs h → sendsShown (sendWords w) rs ≡ countedOf w h
 sends-shown Nothing e = refl
 sends-shown (Numbered MinusOne) e = counted-is MinusOne e
-sends-shown (Numbered (Number n)) {rs} e = ap (λ (b : Bool). cond b 0 (countedWords (sendWords (Numbered (Number n))) rs)) (some (eqb n 0)) ∙ counted-is (Number n) e
-  where
-    some : (b : Bool) → eqb (cond b 2 3) 0 ≡ false
-    some true = refl
-    some false = refl
+sends-shown (Numbered (Number n)) {rs} e = ap (λ (b : Bool). cond b 0 (countedWords (sendWords (Numbered (Number n))) rs)) (kind-some (eqb n 0)) ∙ counted-is (Number n) e
+
+-- no circuit is open exactly where GMV_SENDER_WAITING is 0
+pub word-closed : (w : Waiting) → eqb (waitingWord w) 0 ≡ not (isOpen w)
+word-closed Closed = refl
+word-closed Idle = refl
+word-closed Resynchronizing = refl
+word-closed Querying = refl
+word-closed Sending = refl
+
+pub twice : (b : Bool) → not (not b) ≡ b
+twice true = refl
+twice false = refl
 
 -- ---- each call is its act
 -- the verdict that was shown
@@ -198,28 +207,14 @@ module _ (k : Passed) (rd : Ready (k .link)) (x : Drivers) (y : System) (valid :
   word-is : getD st 5 0 ≡ waitingWord (s .waiting)
   word-is = ap (λ (ws : List ℕ). getD ws 5 0) (h .sender .state .is)
 
-  pub waiting-back : waitingOf (getD st 5 0) ≡ s .waiting
-  waiting-back = ap waitingOf word-is ∙ go (s .waiting)
-    where
-      go : (w : Waiting) → waitingOf (waitingWord w) ≡ w
-      go Closed = refl
-      go Idle = refl
-      go Resynchronizing = refl
-      go Querying = refl
-      go Sending = refl
+  pub waiting-is : waitingOf (getD st 5 0) ≡ s .waiting
+  waiting-is = ap waitingOf word-is ∙ waiting-back (s .waiting)
 
   closed-is : eqb (getD st 5 0) 0 ≡ true → s .waiting ≡ Closed
-  closed-is e = sym waiting-back ∙ ap waitingOf (eqb-true (getD st 5 0) 0 e)
+  closed-is e = sym waiting-is ∙ ap waitingOf (eqb-true (getD st 5 0) 0 e)
 
   open-is : not (eqb (getD st 5 0) 0) ≡ true → isOpen (s .waiting) ≡ true
-  open-is e = go (s .waiting) (ap (λ (n : ℕ). not (eqb n 0)) (sym word-is) ∙ e)
-    where
-      go : (w : Waiting) → not (eqb (waitingWord w) 0) ≡ true → isOpen w ≡ true
-      go Closed z = not-both (sym z)
-      go Idle z = refl
-      go Resynchronizing z = refl
-      go Querying z = refl
-      go Sending z = refl
+  open-is e = sym (ap not (ap (λ (n : ℕ). eqb n 0) word-is ∙ word-closed (s .waiting)) ∙ twice (isOpen (s .waiting))) ∙ e
 
   -- a call that applies is done
   pub call-taken : s .persisted .frozen ≡ false → (q : SenderCall) → Offered (x .sender .arrived) q → applies q st ≡ true → calledBy k (x .sender .memory) q .number ≡ 0

@@ -139,6 +139,11 @@ eight a = go (a .send) (a .event)
     go (Numbered MinusOne) e = let z = events e (a .block) (a .offset) in omega (arith, z)
     go (Numbered (Number n)) e = let z = events e (a .block) (a .offset) in omega (arith, z)
 
+-- GMV_ACT_SEND of a message by its number is not 0
+pub kind-some : (b : Bool) → eqb (cond b 2 3) 0 ≡ false
+kind-some true = refl
+kind-some false = refl
+
 -- one message
 one-named : (k n : ℕ) (v : SequenceNumber) (st rest : List ℕ) → eqb k 0 ≡ false → k ∷ n ∷ [] ≡ sendWords (Numbered v) → Each SameSend (namedBy (called 0 st [] (k ∷ n ∷ rest))) (v ∷ [])
 one-named k n v st rest e q =
@@ -152,15 +157,11 @@ module _ (a : Acted) (st p : List ℕ) (h : 8 ≤ length p) where
   pub named-is : Each SameSend (namedBy (called 0 st [] (over p (actWords a)))) (sendsOf (a .send))
   named-is = subst (λ (r : List ℕ). Each SameSend (namedBy (called 0 st [] r)) (sendsOf (a .send))) (sym report-is) (go (a .send))
     where
-      some : (b : Bool) → eqb (cond b 2 3) 0 ≡ false
-      some true = refl
-      some false = refl
-
       go : (m : NumberedMessage) → Each SameSend (namedBy (called 0 st [] ((sendWords m ++ a .sends ∷ eventWords (a .event) ++ a .block ∷ a .offset ∷ []) ++ drop (length (actWords a)) p))) (sendsOf m)
       go Nothing = each-none
       go (Numbered MinusOne) = each-more refl each-none
       go (Numbered (Number n)) =
-          one-named (cond (eqb n 0) 2 3) n (Number n) st ((a .sends ∷ eventWords (a .event) ++ a .block ∷ a .offset ∷ []) ++ drop (length (actWords a)) p) (some (eqb n 0)) refl
+          one-named (cond (eqb n 0) 2 3) n (Number n) st ((a .sends ∷ eventWords (a .event) ++ a .block ∷ a .offset ∷ []) ++ drop (length (actWords a)) p) (kind-some (eqb n 0)) refl
 
   pub send-is : getD (over p (actWords a)) 0 0 ∷ getD (over p (actWords a)) 1 0 ∷ [] ≡ sendWords (a .send)
   send-is = ap (λ (r : List ℕ). getD r 0 0 ∷ getD r 1 0 ∷ []) report-is ∙ go (a .send)

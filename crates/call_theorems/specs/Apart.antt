@@ -1,4 +1,4 @@
--- The two drivers of Driver.antt change circuit at different moments: the sender's opens the next one, and the receiver's still acts on the old one until it hears of it.
+-- The two drivers of Driver.antt change circuit at different moments: the sender's opens the next one, and the receiver's still acts on the old one until it notices.
 use mathlib.Core.List.{List, [], _∷_}
 use mathlib.Core.Bool.{Bool, true, false, _&&_}
 use Rattle.call_theorems.specs.Driver.{Passed, ReaderMemory, ReceiverEnd, Drivers, drivers, receiverMemory, receiverEnd, freshReader, afterDriver, drivenBy}

@@ -25,7 +25,7 @@ flag-back : (b : Bool) → eqb (flagWord b) 1 ≡ b
 flag-back true = refl
 flag-back false = refl
 
-waiting-back : (w : Waiting) → waitingOf (waitingWord w) ≡ w
+pub waiting-back : (w : Waiting) → waitingOf (waitingWord w) ≡ w
 waiting-back Closed = refl
 waiting-back Idle = refl
 waiting-back Resynchronizing = refl
