@@ -652,8 +652,9 @@ uint64_t gmv_minimal_control_block(uint64_t data_limit,
  * The driver's duties besides memory:
  *   HOST-45  it frames the units that come from the line, checks each block, and reports each unit
  *            once, in order (one that Timer B cuts off not at all),
- *   HOST-47  it opens the station when it has become slave (the ACK0 of that is its own affair), and
- *            may open it again at any time,
+ *   HOST-47  it opens the station when it has become slave (the ACK0 of that is its own affair),
+ *   HOST-51  it opens it when, and only when, the other side opens its master: a station opened at
+ *            another time, or not opened then, may acknowledge and drop a new block,
  *   HOST-48, HOST-49  when Timer D runs out, and when it sends an EOT of its own, it calls
  *            gmv_station_end. Timer D runs while the station is open, anew from each reply,
  *   HOST-46  it lends the same message buffer, unaltered, in every call of gmv_station_block, and takes
@@ -703,7 +704,7 @@ enum {
  * with nothing changed. Words from GMV_STATION_WORDS on are not changed. */
 uint64_t gmv_station_fresh(uint64_t *state, size_t state_words);
 
-/* The driver opens the station, at any time and whatever the words are: block 1 is expected, and no
+/* The driver opens the station (HOST-51). Whatever the words are, block 1 is expected then, and no
  * text is held. No reply. */
 uint64_t gmv_station_open(uint64_t *state, size_t state_words,
                           uint64_t *report, size_t report_words);
@@ -711,15 +712,15 @@ uint64_t gmv_station_open(uint64_t *state, size_t state_words,
 /* A good block was received: its number, the character that ended it and its text. For an open
  * station, where E is the expected number, by the first line that applies:
  *     number over 7                    NAK; dropped
- *     number lower than E              ACK number; dropped as a duplicate, also one ended by ETX
- *     number higher than E             NAK; dropped
  *     E, and the text does not fit     EOT; the station closes and forgets the text held
  *     E, ended by ETB                  ACK E; the text is appended
  *     E, ended by ETX                  ACK E; the text is appended, and the message is complete
- * Lower and higher compare plain digits: where 0 is expected, 7 is higher. After a block that was
- * appended, the next number is expected. A text fits if it and the text held have at most
- * buffer_length bytes together: one that just fills the buffer fits, and an empty one wherever the
- * text held does. In a buffer that is shorter than the text held (HOST-46 forbids one) none fits.
+ *     number just before E (7 for 0)   ACK number; dropped as a duplicate, also one ended by ETX
+ *     any other number                 NAK; dropped
+ * After a block that was appended, the next number is expected. A text fits if it and the text held
+ * have at most buffer_length bytes together: one that just fills the buffer fits, and an empty one
+ * wherever the text held does. In a buffer that is shorter than the text held (HOST-46 forbids one)
+ * none fits.
  *
  * The text goes into the buffer behind the text held before the call, and these text_length bytes
  * are all that changes of the buffer. A block that is dropped or does not fit changes no byte of

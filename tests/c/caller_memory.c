@@ -437,6 +437,7 @@ static const row station_rows[] = {
     {STATION_OPEN, 2, KEPT, REPORT, NULL, "", 0, 0, 0},
     {STATION_BLOCK, 0, REWRITTEN, NONE, station, TEXT("text"), 3, GMV_ETX},
     {STATION_BLOCK, 0, REWRITTEN, NONE, station, TEXT("text"), 3, GMV_ETB},
+    {STATION_BLOCK, 0, REWRITTEN, NONE, station, TEXT("text"), 2, GMV_ETX},
     {STATION_BLOCK, 0, REWRITTEN, NONE, station, TEXT("text"), 4, GMV_ETX},
     {STATION_BLOCK, 0, REWRITTEN, NONE, station, TEXT("too long"), 3, GMV_ETX},
     {STATION_BLOCK, 1, KEPT, NONE, station, TEXT("text"), 3, 0},

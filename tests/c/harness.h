@@ -91,6 +91,7 @@ void test_random(void);
 void test_sweeps(void);
 void test_message_trips(void);
 void test_link(void);
+void test_dialogue(void);
 void test_caller_memory(void);
 void test_duties(void);
 void test_stack(void);

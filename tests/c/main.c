@@ -19,6 +19,7 @@ static void run_all(enum memory_kind kind)
     test_sweeps();
     test_message_trips();
     test_link();
+    test_dialogue();
     test_caller_memory();
     test_duties();
 }

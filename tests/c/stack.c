@@ -463,8 +463,8 @@ static void station_takes_little_stack(void)
     takes_little_stack(station_end);
 }
 
-/* Closed, open, full, and words that encode no state; each block lower, expected, higher and over
- * 7, with a text that fits or does not. */
+/* Closed, open, full, and words that encode no state; each block expected, just before that, another
+ * and over 7, with a text that fits or does not. */
 static void every_kind_of_station(void)
 {
     const uint64_t states[][GMV_STATION_WORDS] = {

@@ -259,7 +259,8 @@ static void write_rows(FILE *file, const char *const *row_names, size_t rows,
 void write_counts(void)
 {
     static const char *const kinds[] = {"read_block",   "field_delimiter", "received_block",
-                                        "sender_event", "sender_send",     "station_reply"};
+                                        "sender_event", "sender_send",     "station_reply",
+                                        "station_duplicate"};
     const char *path = getenv("FUZZ_COUNTS");
     FILE *file = path ? fopen(path, "w") : NULL;
 

@@ -59,6 +59,29 @@ static void break_station(call *c, uint64_t number)
         set_word(&c->state, GMV_STATION_EXPECTED, 1);
 }
 
+/* The station's rule before request 2, where it did not go round: a retransmission of block 7 is no
+ * duplicate where 0 is expected. */
+static void break_eighth(call *c, uint64_t expected, uint64_t number)
+{
+    if (number != GMV_OK || c->number != 7 || expected != 0)
+        return;
+    if (get_word(&c->state, GMV_STATION_OPEN) == 0)
+        return;
+    set_word(&c->result, GMV_STATION_REPLY, GMV_REPLY_NAK);
+    set_word(&c->result, GMV_STATION_REPLY_NUMBER, 0);
+}
+
+/* That rule where it went too far: a number two or more below the expected one is a duplicate. */
+static void break_older(call *c, uint64_t expected, uint64_t number)
+{
+    if (number != GMV_OK || c->number > 7 || c->number + 2 > expected)
+        return;
+    if (get_word(&c->state, GMV_STATION_OPEN) == 0)
+        return;
+    set_word(&c->result, GMV_STATION_REPLY, GMV_REPLY_ACK);
+    set_word(&c->result, GMV_STATION_REPLY_NUMBER, c->number);
+}
+
 /* The library is told of one byte more than there is: its own loads must be seen by the sanitizer. */
 static uint64_t read_one_byte_more(const call *c)
 {
@@ -66,9 +89,14 @@ static uint64_t read_one_byte_more(const call *c)
                            count_words(&c->result));
 }
 
+static uint64_t word_of_state(const call *c, size_t index)
+{
+    return count_words(&c->state) > index ? get_word(&c->state, index) : 0;
+}
+
 static uint64_t invoke_library(call *c)
 {
-    uint64_t phase = count_words(&c->state) > 0 ? get_word(&c->state, 0) : 0, number;
+    uint64_t phase = word_of_state(c, 0), expected = word_of_state(c, GMV_STATION_EXPECTED), number;
 
     if (c->function == call_header_read && c->content.length > 4 && is_planted("overread"))
         return read_one_byte_more(c);
@@ -85,6 +113,10 @@ static uint64_t invoke_library(call *c)
         break_timer(c, number);
     if (c->function == call_station_block && is_planted("station"))
         break_station(c, number);
+    if (c->function == call_station_block && is_planted("eighth"))
+        break_eighth(c, expected, number);
+    if (c->function == call_station_block && is_planted("older"))
+        break_older(c, expected, number);
     return number;
 }
 

@@ -155,6 +155,7 @@ enum outcome {
     SENDER_EVENT,
     SENDER_SEND,
     STATION_REPLY,
+    STATION_DUPLICATE,
     OUTCOME_COUNT
 };
 void count_outcome(enum outcome kind, uint64_t number);

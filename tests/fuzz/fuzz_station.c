@@ -44,6 +44,26 @@ static void compare_text(history *h, const call *c)
         end_memory(&h->text);
 }
 
+/* A block that is not the expected one, judged by what was appended and not by the words of the state:
+ * the newest one again (0 right after an opening, where there is none), or any other. */
+static void compare_dropped(const history *h, const call *c, const history *before)
+{
+    uint64_t newest = h->appended % 8, reply = get_word(&c->result, GMV_STATION_REPLY);
+    uint64_t reply_number = get_word(&c->result, GMV_STATION_REPLY_NUMBER);
+
+    if (c->number == newest) {
+        if (h->appended > 0)
+            count_outcome(STATION_DUPLICATE, newest);
+        oracle(reply == GMV_REPLY_ACK && reply_number == newest,
+               "the newest block again is answered ACK");
+    } else {
+        oracle(reply == GMV_REPLY_NAK, "a block neither expected nor the newest is answered NAK");
+    }
+    oracle(get_word(&c->result, GMV_STATION_COMPLETE) == 0, "a dropped block completes nothing");
+    oracle(same_memory(&before->state, &h->state) && same_memory(&before->buffer, &h->buffer),
+           "a dropped block changes nothing");
+}
+
 static void compare_state(history *h, const call *c)
 {
     int closed = word_of(h, GMV_STATION_OPEN) == 0;
@@ -57,22 +77,46 @@ static void compare_state(history *h, const call *c)
         compare_text(h, c);
 }
 
+/* A block that an open station has to drop. */
+static int is_dropped(const history *h, const call *c)
+{
+    return c->function == call_station_block && h->is_reached && word_of(h, GMV_STATION_OPEN) == 1 &&
+           c->number != (h->appended + 1) % 8;
+}
+
 static void act(history *h, call *c, input *in)
 {
-    memory before = new_copy(h->state.bytes, h->state.length);
+    history before = {.state = new_copy(h->state.bytes, h->state.length),
+                      .buffer = new_copy(h->buffer.bytes, h->buffer.length)};
+    int dropped = is_dropped(h, c);
 
     c->result = take_words(in, GMV_STATION_REPORT_WORDS);
     c->state = h->state;
     c->buffer = h->buffer;
     if (perform(c) == GMV_OK) {
         count_outcome(STATION_REPLY, get_word(&c->result, GMV_STATION_REPLY));
+        if (dropped)
+            compare_dropped(h, c, &before);
         compare_state(h, c);
     } else {
-        oracle(same_memory(&before, &h->state), "a refused act leaves the state equal");
+        oracle(same_memory(&before.state, &h->state), "a refused act leaves the state equal");
     }
-    end_memory(&before);
+    end_memory(&before.state);
+    end_memory(&before.buffer);
     end_memory(&c->content);
     end_memory(&c->result);
+}
+
+/* The expected number, the one just before it, any of 0 to 7, or any at all. */
+static uint64_t take_number(const history *h, uint8_t choice, input *in)
+{
+    uint64_t expected = word_of(h, GMV_STATION_EXPECTED);
+
+    if (choice < 128)
+        return expected;
+    if (choice < 160)
+        return (expected + 7) % 8;
+    return choice < 224 ? choice % 8 : take_word(in);
 }
 
 static void act_block(history *h, input *in)
@@ -81,9 +125,7 @@ static void act_block(history *h, input *in)
     input text = take_part(in, take_byte(in) % 20);
     call c = {.function = call_station_block, .code = choice & 1 ? GMV_ETX : GMV_ETB};
 
-    c.number = word_of(h, GMV_STATION_EXPECTED);
-    if (choice >= 160)
-        c.number = choice < 224 ? choice % 8 : take_word(in);
+    c.number = take_number(h, choice, in);
     if (choice % 32 == 30)
         c.code = take_word(in);
     c.content = text.length == 0 ? new_empty(in) : new_copy(text.bytes, text.length);

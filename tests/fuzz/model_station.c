@@ -45,10 +45,16 @@ static void append_text_held(call *c, station *s, report *r)
     s->expected = (s->expected + 1) % 8;
 }
 
+/* The number just before the expected one: 7 where that is 0. */
+static uint64_t number_before(const station *s)
+{
+    return s->expected == 0 ? 7 : s->expected - 1;
+}
+
 static void model_unit(call *c, station *s, report *r)
 {
     r->reply = GMV_REPLY_NAK;
-    if (c->number > s->expected)
+    if (c->number != s->expected && c->number != number_before(s))
         return;
     if (c->number == s->expected && !fits(c, s)) {
         r->reply = GMV_REPLY_EOT;

@@ -1,4 +1,4 @@
--- Document 01, 'Cases by hand (P: proved)': "The P cases are proved of the definitions as one list under one claim". A later case is one equation more in the list.
+-- Document 01, 'Cases by hand (P: proved)', and 02, §2: "The P cases are proved of the definitions as one list under one claim". A later case is one equation more in the list.
 use mathlib.Core.Path.{_≡_}
 use mathlib.Core.List.{List, [], _∷_, _++_}
 use Prim.Native.Nat.{ℕ}
@@ -147,6 +147,9 @@ cases =
     -- "P12 station expects 3, gets 2: ACK 2; gets 4: NAK.": dropped, no byte of the buffer changes
     ∷ (goodBlockOf (Open 3 0) 2 Etb (bytes "A") (bytes "U") ≡ outcome (dropped (Open 3 0) (Ack 2)) (bytes "U"))
     ∷ (goodBlockOf (Open 3 0) 4 Etb (bytes "A") (bytes "U") ≡ outcome (dropped (Open 3 0) Nak) (bytes "U"))
+    -- 02, §2: "expects 0, gets 7: ACK 7, and expects 3, gets 1: NAK."
+    ∷ (goodBlockOf (Open 0 0) 7 Etb (bytes "A") (bytes "U") ≡ outcome (dropped (Open 0 0) (Ack 7)) (bytes "U"))
+    ∷ (goodBlockOf (Open 3 0) 1 Etb (bytes "A") (bytes "U") ≡ outcome (dropped (Open 3 0) Nak) (bytes "U"))
     -- 'Header fields': the answer for request 17 and the control messages for 0 and -1, byte for byte
     ∷ AnswerFor17
     ∷ ControlFor0

@@ -1,3 +1,4 @@
 pub mod Station
 pub mod History
+pub mod Retransmission
 pub mod StationCalls

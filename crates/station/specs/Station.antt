@@ -1,9 +1,9 @@
--- Document 01, 'X3.28 receiving station' (000, C.3.1.5 and C.3.3.2): what it replies, appends and hands over.
+-- Document 01, 'X3.28 receiving station' (000, C.3.1.5 and C.3.3.2), as changed by 02, §2: what it replies, appends and hands over.
 use mathlib.Core.List.{List}
 use mathlib.Core.Bool.{Bool, true, cond}
 use Prim.Native.Nat.{ℕ, _+_}
 use lib.ListN.{length}
-use lib.Dec.{leb, ltb, eqb}
+use lib.Dec.{leb, eqb}
 use Rattle.lists.specs.Bytes.{put}
 use Rattle.lists.specs.Outcome.{need, Outcome, outcome}
 use Rattle.refusal.specs.Refusal.{STATE}
@@ -25,9 +25,13 @@ openedStation = Open 1 0
 unfoldable pub nextNumber : ℕ → ℕ
 nextNumber n = cond (eqb n 7) 0 (n + 1)
 
--- "A number lower than expected is a duplicate"; "Lower and higher compare plain digits, as 000 words it."
+-- 02, §2: "the number just before .., counting round from 0 back to 7": the number after n is m
+unfoldable pub precedes : ℕ → ℕ → Bool
+precedes n m = eqb (nextNumber n) m
+
+-- 02, §2: "A duplicate is the number just before the expected one"
 abbrev pub isDuplicate : ℕ → ℕ → Bool
-isDuplicate expected n = ltb n expected
+isDuplicate expected n = precedes n expected
 
 -- what is a station: the expected number is 0 to 7, whatever the length of the text held
 abbrev pub validStation : Station → Bool
@@ -58,8 +62,8 @@ expectedBlock e h x text b =
     need (leb (h + length text) (length b)) (outcome (stationActed Closed Eot Incomplete) b)
     (outcome (appended e x (h + length text)) (put b h text))
 
--- "A bad block, one numbered over 7, or one ended by ENQ: dropped, NAK."; the expected number; "a duplicate: dropped, ACK with its own number.
--- Higher: dropped, NAK."
+-- "A bad block, one numbered over 7, or one ended by ENQ: dropped, NAK."; the expected number; "a duplicate: dropped, ACK with its own number";
+-- 02, §2: "Any other unexpected number is dropped with NAK."
 abbrev pub openBlock : ℕ → ℕ → ℕ → Ending → List ℕ → List ℕ → Outcome Acted
 openBlock e h n x text b =
     need (leb n 7) (outcome (dropped (Open e h) Nak) b)

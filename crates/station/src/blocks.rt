@@ -23,9 +23,10 @@ fn next_number(n: u64) -> u64
 }
 
 fn is_duplicate(expected: u64, n: u64) -> bool
+    requires { ⌜ n ≤ 7 ⌝ }
     ensures { λ r. ⌜ r ≡ isDuplicate expected n ⌝ }
 {
-    n < expected
+    next_number(n) == expected
 }
 
 // The answer to an appended block, after which the text has n bytes.

@@ -11,6 +11,7 @@ use host::station_model::{
 
 /// A station's words and its message buffer, which stay the same from act to act, beside what the
 /// buffer must be.
+#[derive(Clone)]
 pub struct StationMemory {
     pub state: Vec<u64>,
     buffer: Guarded<u8>,
@@ -162,7 +163,10 @@ impl Compare {
 pub struct StationCounts {
     pub acts: u64,
     pub messages: u64,
-    pub duplicates: u64,
+    /// By the expected number.
+    pub duplicates: [u64; 8],
+    /// Answered NAK, and two or more before the expected number without counting round.
+    pub older: u64,
     pub just_fit: u64,
     pub one_byte_over: u64,
     pub refused: u64,
@@ -179,10 +183,13 @@ impl StationCounts {
             return;
         }
         let [reply, _, complete, _] = answer.report;
-        let needed = before[2].saturating_add(text.len() as u64);
+        let (expected, held) = (before[1], before[2]);
+        let taken = reply == 1 && number == expected;
+        let needed = held.saturating_add(text.len() as u64);
         self.messages += complete;
-        self.duplicates += u64::from(reply == 1 && number != before[1]);
-        self.just_fit += u64::from(reply == 1 && needed == call.buffer_length as u64);
+        self.duplicates[expected as usize] += u64::from(reply == 1 && !taken);
+        self.older += u64::from(reply == 2 && number < expected.saturating_sub(1));
+        self.just_fit += u64::from(taken && needed == call.buffer_length as u64);
         self.one_byte_over += u64::from(reply == 3 && needed == call.buffer_length as u64 + 1);
     }
 }

@@ -4,6 +4,7 @@ use std::fmt::Debug;
 
 const GUARD: usize = 8;
 
+#[derive(Clone)]
 pub struct Guarded<T> {
     cells: Vec<T>,
     guard: T,

@@ -30,12 +30,13 @@ mod make_station;
 mod real;
 
 use compare::Compare;
+use compare_station::StationCounts;
 use std::process::ExitCode;
 use std::time::Instant;
 
 const SEED: u64 = 20_261_115;
 
-const COUNTS: usize = 29;
+const COUNTS: usize = 38;
 
 /// How many inputs a whole run compares at least: calls of the functions for blocks; messages read
 /// or written; of the messages read, those whose header can be read, and those that are answers;
@@ -61,7 +62,16 @@ const LEAST: [(&str, u64); COUNTS] = [
     ("acts on the last 100 numbers", 200_000),
     ("acts of stations", 1_000_000),
     ("messages completed by stations", 100_000),
-    ("duplicate blocks", 50_000),
+    ("duplicate blocks", 100_000),
+    ("duplicate blocks, 0 expected", 10_000),
+    ("duplicate blocks, 1 expected", 10_000),
+    ("duplicate blocks, 2 expected", 10_000),
+    ("duplicate blocks, 3 expected", 10_000),
+    ("duplicate blocks, 4 expected", 10_000),
+    ("duplicate blocks, 5 expected", 10_000),
+    ("duplicate blocks, 6 expected", 10_000),
+    ("duplicate blocks, 7 expected", 10_000),
+    ("older blocks answered NAK", 15_000),
     ("texts that just fit", 50_000),
     ("texts one byte too long", 20_000),
     ("refused acts of stations", 50_000),
@@ -77,9 +87,9 @@ const LEAST: [(&str, u64); COUNTS] = [
 
 /// What a group compared, in the order of `LEAST`.
 fn counts(compare: &Compare) -> [u64; COUNTS] {
-    let (kinds, station, fields) = (&compare.kinds, &compare.station, &compare.fields);
+    let (kinds, fields) = (&compare.kinds, &compare.fields);
     let [none, one, three, most] = kinds.resends;
-    [
+    let before_stations = [
         compare.inputs,
         compare.messages,
         compare.headers,
@@ -95,12 +105,8 @@ fn counts(compare: &Compare) -> [u64; COUNTS] {
         most,
         kinds.small,
         kinds.large,
-        station.acts,
-        station.messages,
-        station.duplicates,
-        station.just_fit,
-        station.one_byte_over,
-        station.refused,
+    ];
+    let after_stations = [
         fields.calls,
         fields.empty,
         fields.segment_ends,
@@ -109,6 +115,31 @@ fn counts(compare: &Compare) -> [u64; COUNTS] {
         fields.headers,
         fields.answers,
         compare.cases,
+    ];
+    let stations = station_counts(&compare.station);
+    let all = [&before_stations[..], &stations, &after_stations].concat();
+    all.try_into().expect("a count for each row of LEAST")
+}
+
+/// The acts of stations, and what happened in them.
+fn station_counts(station: &StationCounts) -> [u64; 15] {
+    let [at_0, at_1, at_2, at_3, at_4, at_5, at_6, at_7] = station.duplicates;
+    [
+        station.acts,
+        station.messages,
+        station.duplicates.iter().sum(),
+        at_0,
+        at_1,
+        at_2,
+        at_3,
+        at_4,
+        at_5,
+        at_6,
+        at_7,
+        station.older,
+        station.just_fit,
+        station.one_byte_over,
+        station.refused,
     ]
 }
 

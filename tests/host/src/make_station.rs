@@ -60,14 +60,21 @@ pub fn large_numbers(number: u64) -> [u64; 8] {
     ]
 }
 
-/// A block number near the expected one, any of a byte's, or a large one.
+/// The number so many before a number of 0 to 7, counting round from 0 back to 7.
+pub fn number_before(number: u64, count: u64) -> u64 {
+    (number + 8 - count) % 8
+}
+
+/// A block number near the expected one, most often the one just before it, any of a byte's, or a
+/// large one.
 pub fn any_number(random: &mut Random, expected: u64) -> u64 {
-    match random.below(8) {
-        0 | 1 => expected.saturating_sub(1 + random.below(3) as u64),
-        2 => expected + 1 + random.below(3) as u64,
-        3 | 4 => random.below(8) as u64,
-        5 => u64::from(random.byte()),
-        6 => random.pick(&large_numbers(expected)),
+    match random.below(10) {
+        0..=2 => number_before(expected, 1),
+        3 => number_before(expected, random.between(2, 7) as u64),
+        4 => expected + 1 + random.below(3) as u64,
+        5 | 6 => random.below(8) as u64,
+        7 => u64::from(random.byte()),
+        8 => random.pick(&large_numbers(expected)),
         _ => random.draw(),
     }
 }

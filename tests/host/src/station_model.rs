@@ -1,6 +1,7 @@
-//! The rules of document 01 about the X3.28 receiving station and the decided open points (X), twice:
-//! `act_on_words` says what one call does to the words and the buffer of the C interface, from any
-//! words; `answers` goes through all that the driver reported, and keeps the texts themselves.
+//! The rules of document 01 about the X3.28 receiving station, with the duplicates of document 02, §2,
+//! and the decided open points (X, E), twice: `act_on_words` says what one call does to the words and the
+//! buffer of the C interface, from any words; `answers` goes through all that the driver reported, and
+//! keeps the blocks themselves.
 
 pub const STATION_WORDS: usize = 3;
 pub const STATION_REPORT_WORDS: usize = 4;
@@ -121,9 +122,12 @@ fn done(station: Station, reply: Reply) -> Acted {
     Acted::Done(station.words(), [reply, number, 0, 0], None)
 }
 
-/// The reply to a good block whose number is not the expected one; plain digits are compared.
+/// The reply to a good block whose number is not the expected one: "A duplicate is the number just
+/// before the expected one, counting round from 0 back to 7. Any other unexpected number is dropped
+/// with NAK."
 fn out_of_order(number: u64, expected: u64) -> Reply {
-    if number < expected {
+    let just_before = [7, 0, 1, 2, 3, 4, 5, 6][expected as usize];
+    if number == just_before {
         Reply::Ack(number)
     } else {
         Reply::Nak
@@ -179,29 +183,32 @@ fn says(reply: Reply) -> Answer {
     }
 }
 
-/// The blocks taken since the opening: what ended each, and its text.
-type Taken<'a> = Vec<(u64, &'a [u8])>;
+/// A block taken since the opening.
+struct Taken<'a> {
+    number: u64,
+    ending: u64,
+    text: &'a [u8],
+}
 
 /// What the station says to each of the units, from before the first opening, with so much space for
-/// a message. Here the expected number is counted from the blocks taken since the opening, and the
-/// text held is the texts of those since the last ETX.
+/// a message. Here the expected number is counted from the blocks taken since the opening, a duplicate
+/// repeats the newest of them, and the text held is the texts of those since the last ETX.
 pub fn answers(units: &[Unit], space: usize) -> Vec<Answer> {
-    let mut opening: Option<Taken> = None;
+    let mut opening: Option<Vec<Taken>> = None;
     let said = units.iter();
     said.map(|unit| unit_answer(&mut opening, unit, space))
         .collect()
 }
 
-fn unit_answer<'a>(opening: &mut Option<Taken<'a>>, unit: &Unit<'a>, space: usize) -> Answer {
-    match (unit, opening.as_mut()) {
+fn unit_answer<'a>(opening: &mut Option<Vec<Taken<'a>>>, unit: &Unit<'a>, space: usize) -> Answer {
+    match (*unit, opening.as_mut()) {
         (Unit::Opened, _) => *opening = Some(Vec::new()),
         (Unit::End, _) => *opening = None,
         (_, None) => {}
         (Unit::Bad | Unit::Enquiry, Some(_)) => return says(Reply::Nak),
-        (Unit::Block { number, .. }, Some(taken)) if *number != due(taken) => {
-            let duplicate = (0..due(taken)).contains(number);
-            return says(if duplicate {
-                Reply::Ack(*number)
+        (Unit::Block { number, .. }, Some(taken)) if number != due(taken) => {
+            return says(if number == newest(taken) {
+                Reply::Ack(number)
             } else {
                 Reply::Nak
             });
@@ -219,10 +226,14 @@ fn unit_answer<'a>(opening: &mut Option<Taken<'a>>, unit: &Unit<'a>, space: usiz
                 *opening = None;
                 return says(Reply::Eot);
             }
-            taken.push((*ending, text));
+            taken.push(Taken {
+                number,
+                ending,
+                text,
+            });
             return Answer {
-                reply: Reply::Ack(*number),
-                message: (*ending == ETX).then_some(whole),
+                reply: Reply::Ack(number),
+                message: (ending == ETX).then_some(whole),
             };
         }
     }
@@ -230,15 +241,21 @@ fn unit_answer<'a>(opening: &mut Option<Taken<'a>>, unit: &Unit<'a>, space: usiz
 }
 
 /// The first block of an opening has number 1, and the one after 7 has 0.
-fn due(taken: &[(u64, &[u8])]) -> u64 {
+fn due(taken: &[Taken]) -> u64 {
     (1 + taken.len() as u64) % 8
 }
 
+/// The number "just before the expected one" is that of the block taken last. Before the first block,
+/// which has number 1, it is 0.
+fn newest(taken: &[Taken]) -> u64 {
+    taken.last().map_or(0, |block| block.number)
+}
+
 /// The texts since the last ETX, and one more.
-fn last_texts(taken: &[(u64, &[u8])], text: &[u8]) -> Vec<u8> {
-    let ended = taken.iter().rposition(|(ending, _)| *ending == ETX);
+fn last_texts(taken: &[Taken], text: &[u8]) -> Vec<u8> {
+    let ended = taken.iter().rposition(|block| block.ending == ETX);
     let current = &taken[ended.map_or(0, |index| index + 1)..];
-    let mut texts: Vec<&[u8]> = current.iter().map(|(_, text)| *text).collect();
+    let mut texts: Vec<&[u8]> = current.iter().map(|block| block.text).collect();
     texts.push(text);
     texts.concat()
 }

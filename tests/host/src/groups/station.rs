@@ -9,6 +9,7 @@ use host::prng::Random;
 use host::station_model::{self, Answer, Reply, Station, Unit, ETB, STATION_REPORT_WORDS};
 
 /// A station in the middle of its history, and what it said so far.
+#[derive(Clone)]
 struct History {
     memory: StationMemory,
     units: Vec<Planned>,
@@ -23,6 +24,7 @@ struct Seen {
     in_several_blocks: u64,
     most_in_one_opening: u64,
     most_blocks_in_one_opening: u64,
+    most_blocks_in_one_message: u64,
 }
 
 impl History {
@@ -50,6 +52,11 @@ impl History {
         Ok(())
     }
 
+    fn messages(&self) -> Vec<&[u8]> {
+        let messages = self.said.iter().map(|answer| answer.message.as_deref());
+        messages.flatten().collect()
+    }
+
     /// The whole history gives what was said, unit by unit.
     fn end(&self) -> Outcome {
         let units: Vec<Unit> = self.units.iter().map(Planned::unit).collect();
@@ -75,7 +82,7 @@ fn said(answer: &StationAnswer, memory: &StationMemory) -> Answer {
 
 impl Seen {
     fn count(&mut self, history: &History) {
-        let (mut messages, mut blocks, mut held) = (0, 0, 0);
+        let (mut messages, mut blocks, mut held, mut newest) = (0, 0, 0, 0);
         for (planned, answer) in history.units.iter().zip(&history.said) {
             let reply = match answer.reply {
                 Reply::Nothing => 0,
@@ -85,14 +92,17 @@ impl Seen {
             };
             self.replies[reply] += 1;
             if matches!(planned, Planned::Opened) {
-                (messages, blocks, held) = (0, 0, 0);
+                (messages, blocks, held, newest) = (0, 0, 0, 0);
             }
-            blocks += u64::from(reply == 1);
-            held += u64::from(reply == 1);
+            if let Reply::Ack(number) = answer.reply {
+                let taken = u64::from(number != newest);
+                (blocks, held, newest) = (blocks + taken, held + taken, number);
+            }
             if answer.message.is_some() {
                 messages += 1;
                 self.messages += 1;
                 self.in_several_blocks += u64::from(held > 1);
+                self.most_blocks_in_one_message = self.most_blocks_in_one_message.max(held);
                 held = 0;
             }
             self.most_in_one_opening = self.most_in_one_opening.max(messages);
@@ -147,7 +157,8 @@ pub fn station_histories(compare: &mut Compare) -> Outcome {
     seen.enough(5_000)
 }
 
-/// A unit of a line that works well: short blocks, and now and then one sent twice or damaged.
+/// A unit of a line that works well: short blocks, and now and then one sent twice, damaged or out of
+/// order.
 fn good_unit(random: &mut Random, station: &Station, space: usize) -> Planned {
     let (expected, left) = make_station::expected_and_left(station, space);
     if *station == Station::Closed {
@@ -156,8 +167,8 @@ fn good_unit(random: &mut Random, station: &Station, space: usize) -> Planned {
     let number = match random.below(40) {
         0 => return Planned::Bad,
         1 => return Planned::Enquiry,
-        2 | 3 => (expected + 7) % 8,
-        4 => (expected + 1) % 8,
+        2 | 3 => make_station::number_before(expected, 1),
+        4 => make_station::number_before(expected, random.between(2, 7) as u64),
         _ => expected,
     };
     let length = random.below(left.min(24) + 1);
@@ -191,6 +202,73 @@ pub fn station_progress(compare: &mut Compare) -> Outcome {
         let (most, several) = (seen.most_in_one_opening, seen.in_several_blocks);
         return Err(format!(
             "only {most} messages in one opening, and {several} messages in several blocks"
+        ));
+    }
+    Ok(())
+}
+
+/// A block that fits the space left; one in so many is the last of its message.
+fn fitting_block(random: &mut Random, number: u64, left: usize, last: usize) -> Planned {
+    let length = random.below(left.min(24) + 1);
+    let ending = if random.one_in(last) {
+        station_model::ETX
+    } else {
+        ETB
+    };
+    Planned::Block {
+        number,
+        ending,
+        text: random.bytes(length),
+    }
+}
+
+/// A block reported once to one station and so many times in a row to another: each time the reply is
+/// ACK with its number, and the words and buffers of the two are the same then.
+fn report_to_both(
+    compare: &mut Compare,
+    [once, repeated]: [&mut History; 2],
+    number: u64,
+    last: usize,
+) -> Outcome {
+    let (_, left) = make_station::expected_and_left(&once.memory.station()?, once.space());
+    let planned = fitting_block(&mut compare.random, number, left, last);
+    once.act(compare, planned.clone())?;
+    for _ in 0..compare.random.between(1, 5) {
+        repeated.act(compare, planned.clone())?;
+        let reply = repeated.said.last().map(|answer| answer.reply);
+        same("reply", &[reply], &[Some(Reply::Ack(number))])?;
+        same("word", &repeated.memory.state, &once.memory.state)?;
+        same("buffer", repeated.memory.buffer(), once.memory.buffer())?;
+    }
+    Ok(())
+}
+
+/// Blocks in order, over many turns of the numbers, each reported once to five times in a row: all is
+/// as at a station to which each was reported once.
+pub fn station_repeats(compare: &mut Compare) -> Outcome {
+    let mut seen = Seen::default();
+    for _ in 0..600 {
+        let space = compare.random.between(0, 300);
+        let last = compare.random.pick(&[1, 2, 6, 40]);
+        let mut once = History::new(compare, space)?;
+        once.act(compare, Planned::Opened)?;
+        let mut repeated = once.clone();
+        for blocks in 0..compare.random.between(20, 100) {
+            let number = (1 + blocks as u64) % 8;
+            report_to_both(compare, [&mut once, &mut repeated], number, last)
+                .map_err(|why| format!("block {number} after {blocks} others: {why}"))?;
+        }
+        once.end()?;
+        repeated.end()?;
+        same("message", &repeated.messages(), &once.messages())?;
+        seen.count(&repeated);
+    }
+    let in_one_block = seen.messages - seen.in_several_blocks;
+    let most = seen.most_blocks_in_one_message;
+    if in_one_block < 5_000 || seen.in_several_blocks < 2_000 || most < 40 {
+        let several = seen.in_several_blocks;
+        return Err(format!(
+            "only {in_one_block} messages in one block, {several} in several, in at most {most}"
         ));
     }
     Ok(())

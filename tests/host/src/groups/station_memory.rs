@@ -18,7 +18,8 @@ struct GuardPages {
     report: Pages,
 }
 
-/// Acts with all memory at the edge of what may be touched.
+/// Acts with all memory at the edge of what may be touched, from a closed station or at any expected
+/// number.
 pub fn station_guard_pages(compare: &mut Compare) -> Outcome {
     let mut guarded = GuardPages {
         text: Pages::new(2),
@@ -33,7 +34,10 @@ pub fn station_guard_pages(compare: &mut Compare) -> Outcome {
             1 => 4096,
             _ => compare.random.below(300),
         };
-        let mut words = [0; STATION_WORDS];
+        let mut words = match compare.random.below(2) {
+            0 => [0, 0, 0],
+            _ => [1, compare.random.below(8) as u64, 0],
+        };
         for _ in 0..8 {
             let station = Station::decode(&words).ok_or_else(|| format!("no state: {words:?}"))?;
             let planned = any_unit(&mut compare.random, &station, space);

@@ -3,7 +3,10 @@
 
 use crate::compare::{Compare, Outcome};
 use crate::compare_station::{StationCall, StationMemory};
-use crate::make_station::{any_length, any_unit, block, expected_and_left, large_numbers};
+use crate::guarded::same;
+use crate::make_station::{
+    any_length, any_unit, block, expected_and_left, large_numbers, number_before,
+};
 use host::prng::Random;
 use host::station_model::{Station, Unit, ETB, ETX, STATION_REPORT_WORDS, STATION_WORDS};
 
@@ -56,7 +59,31 @@ pub fn station_numbers(compare: &mut Compare) -> Outcome {
     Ok(())
 }
 
-/// Every buffer of up to 24 bytes, every length of text held, and every text up to two bytes over.
+/// Every expected number with every number of 0 to 7: there is one duplicate at each expected number,
+/// each number is a duplicate once, and all others that are not expected are answered NAK.
+pub fn station_pairs(compare: &mut Compare) -> Outcome {
+    let (mut at_expected, mut of_number) = ([0; 8], [0; 8]);
+    let (mut taken, mut others) = (0, 0);
+    for (expected, number) in (0..64).map(|pair| (pair / 8, pair % 8)) {
+        let mut memory = StationMemory::new(compare, [1, expected, 3], 5);
+        let answer = compare.station_act(&mut memory, &block(number, ETX, b"AB"))?;
+        match answer.report {
+            [1, replied, 1, 5] if replied == number => taken += 1,
+            [1, replied, 0, 0] if replied == number => {
+                at_expected[expected as usize] += 1;
+                of_number[number as usize] += 1;
+            }
+            [2, 0, 0, 0] => others += 1,
+            report => return Err(format!("{expected} expected, block {number}: {report:?}")),
+        }
+    }
+    same("duplicates at expected", &at_expected, &[1; 8])?;
+    same("duplicates of number", &of_number, &[1; 8])?;
+    same("taken and others", &[taken, others], &[8, 48])
+}
+
+/// Every buffer of up to 24 bytes, every length of text held, and every text up to two bytes over, with
+/// the expected number and with the one just before, of which the space is not looked at.
 pub fn station_lengths(compare: &mut Compare) -> Outcome {
     for space in 0..=24 {
         for held in 0..=space {
@@ -65,8 +92,9 @@ pub fn station_lengths(compare: &mut Compare) -> Outcome {
                 let expected = compare.random.below(8) as u64;
                 for ending in [ETB, ETX] {
                     let words = [1, expected, held as u64];
-                    let unit = block(expected, ending, &text);
-                    act_once(compare, words, space, &unit)?;
+                    for number in [expected, number_before(expected, 1)] {
+                        act_once(compare, words, space, &block(number, ending, &text))?;
+                    }
                 }
             }
         }
@@ -137,7 +165,7 @@ pub fn station_corrupt_words(compare: &mut Compare) -> Outcome {
     Ok(())
 }
 
-/// Every small content of the words, with each act.
+/// Every small content of the words, with each act and every small number of a block.
 pub fn station_small_words(compare: &mut Compare) -> Outcome {
     for open in 0..4 {
         for expected in 0..10 {
@@ -149,9 +177,10 @@ pub fn station_small_words(compare: &mut Compare) -> Outcome {
                 for space in 0..6 {
                     for length in 0..4 {
                         let text = compare.random.bytes(length);
-                        let number = expected.min(7);
-                        act_once(compare, words, space, &block(number, ETX, &text))?;
-                        act_once(compare, words, space, &block(number, ETB, &text))?;
+                        for number in 0..9 {
+                            act_once(compare, words, space, &block(number, ETX, &text))?;
+                            act_once(compare, words, space, &block(number, ETB, &text))?;
+                        }
                     }
                 }
             }
@@ -219,6 +248,8 @@ pub fn station_short_words(compare: &mut Compare) -> Outcome {
         Unit::End,
         block(1, ETX, b"AB"),
         block(1, ETB, b"ABC"),
+        block(0, ETX, b"A"),
+        block(7, ETB, b"A"),
         block(1, 0, b"A"),
     ];
     for words in [[0, 0, 0], [1, 1, 0], [1, 9, 0]] {
