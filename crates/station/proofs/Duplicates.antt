@@ -17,9 +17,6 @@ next-ind P n f g = cond-ind P (eqb n 7) 0 (n + 1) (λ h. f (eqb-true n 7 h)) (λ
 pub next-differs : (n : ℕ) → nextNumber n ≡ n → ⊥
 next-differs n = next-ind (λ (m : ℕ). m ≡ n → ⊥) n (λ f e. omega (arith, f, e)) (λ f e. omega (arith, e))
 
-pub next-small : (n : ℕ) → n ≤ 7 → nextNumber n ≤ 7
-next-small n h = next-ind (λ (m : ℕ). m ≤ 7) n (λ f. omega arith) (λ f. omega (arith, f, h))
-
 -- what comes before a number of 0 to 7 is 0 to 7 itself
 pub before-small : (n e : ℕ) → e ≤ 7 → nextNumber n ≡ e → n ≤ 7
 before-small n e h = next-ind (λ (m : ℕ). m ≡ e → n ≤ 7) n (λ f q. omega (arith, f)) (λ f q. omega (arith, h, q))

@@ -1,15 +1,15 @@
--- Blocks that are reported again: the station is as if each had been reported once.
+-- Blocks that come again, damaged or out of order: the station is as if each block that came in order had been reported once.
 use mathlib.Core.Path.{_≡_, refl, sym, ap, _∙_, subst}
 use mathlib.Core.List.{List, [], _∷_, _++_}
-use mathlib.Core.Bool.{Bool, true, false}
+use mathlib.Core.Bool.{Bool, true, false, cond, true≢false}
 use Prim.Native.Nat.{ℕ, zero, suc, _+_, _≤_}
 use native.Mathlib.Omega.{arith}
 use lib.ListN.{length, replicate}
-use lib.Dec.{leb}
-use borrow.Author.Tests.{le-leb, eq-eqb, ne-eqb}
+use lib.Dec.{leb, eqb}
+use borrow.Author.Tests.{le-leb, eqb-true, eqb-false, eq-eqb, ne-eqb}
 use Rattle.lists.specs.Outcome.{Outcome, outcome}
 use Rattle.lists.proofs.Tests.{and-left, and-right}
-use Rattle.station.specs.Station.{nextNumber, precedes, isDuplicate, dropped, goodBlockOf}
+use Rattle.station.specs.Station.{nextNumber, precedes, isDuplicate, dropped, goodBlockOf, badBlockOf}
 use Rattle.station.specs.declared.Station.{Station}
 use Rattle.station.specs.declared.Station.the-variants.{Open}
 use Rattle.station.specs.declared.Ending.{Ending}
@@ -17,10 +17,10 @@ use Rattle.station.specs.declared.Ending.the-variants.{Etx}
 use Rattle.station.specs.declared.Acted.{Acted}
 use Rattle.station.specs.declared.Reply.{Reply}
 use Rattle.station.specs.declared.Reply.the-variants.{Ack, Nak}
-use Rattle.station.specs.History.{Unit, good, Block, block, expectedAfter, textHeld, messagesOf, Past, past, fits, pastOf, stationOf, replyOf, Run, unitOutcome, runAfter, stationRun}
-use Rattle.station.specs.Retransmission.{LostBlock, Dropped, Sent, blocksOf, inOrder, eachOnce, inARow, allFit, repliesTo, acknowledgments, AsOnce}
+use Rattle.station.specs.History.{Unit, good, bad, enquiry, eot, Block, block, expectedAfter, textHeld, messagesOf, Past, past, fits, unitAfter, pastOf, stationOf, replyOf, Run, unitOutcome, runAfter, stationRun}
+use Rattle.station.specs.Retransmission.{Dropped, Transmitted, blocksOf, inOrder, eachOnce, eachRepeated, allFit, repliesTo, acknowledgments, AsOnce, LostBlock}
 use Rattle.station.proofs.Texts.{goes-round}
-use Rattle.station.proofs.Duplicates.{next-differs, next-small, before-small, next-one-to-one, next-preceded, precedes-next}
+use Rattle.station.proofs.Duplicates.{next-differs, before-small, next-one-to-one, next-preceded, precedes-next}
 use Rattle.station.proofs.History.{stands, replies}
 
 -- ---- an open station and a number that it does not expect
@@ -28,67 +28,119 @@ abbrev answers : ℕ → ℕ → ℕ → Ending → List ℕ → List ℕ → Re
 answers e h n x t b w = goodBlockOf (Open e h) n x t b ≡ outcome (dropped (Open e h) w) b
 
 module _ (e h n : ℕ) (x : Ending) (t b : List ℕ) (valid : e ≤ 7) (other : n ≡ e → ⊥) where
-  duplicate-dropped : n ≤ 7 → isDuplicate e n ≡ true → answers e h n x t b (Ack n)
+  by-duplicate : (d v : Bool) → isDuplicate e n ≡ d → leb n 7 ≡ v → answers e h n x t b (cond d (Ack n) Nak)
   unfolding goodBlockOf
-  duplicate-dropped s d = rw (le-leb e 7 valid, le-leb n 7 s, ne-eqb n e other, d)
-
-  other-dropped : (v : Bool) → leb n 7 ≡ v → isDuplicate e n ≡ false → answers e h n x t b Nak
-  unfolding goodBlockOf
-  other-dropped true p d = rw (le-leb e 7 valid, p, ne-eqb n e other, d)
-  other-dropped false p d = rw (le-leb e 7 valid, p)
+  by-duplicate true v d p =
+      rw (le-leb e 7 valid, le-leb n 7 (before-small n e valid (precedes-next n e d)), ne-eqb n e other, d)
+  by-duplicate false true d p = rw (le-leb e 7 valid, p, ne-eqb n e other, d)
+  by-duplicate false false d p = rw (le-leb e 7 valid, p)
 
 -- a run that a unit leaves as it was
 unit-dropped : (b : List ℕ) (us : List Unit) (u : Unit) (w : Reply)
     → unitOutcome (stationRun b us) u ≡ outcome (dropped (stationRun b us .station) w) (stationRun b us .buffer) → Dropped b us u w
 unfolding stationRun
-unit-dropped b us u w q =
-    record { answer = q; same = ap (λ (o : Outcome Acted). runAfter o (stationRun b us .messages)) q }
+unit-dropped b us u w q = record { answer = q; same = ap (λ (o : Outcome Acted). runAfter o (stationRun b us .messages)) q }
 
--- ---- after any history in which the station is open and the newest block that came in order is k
-module _ (b : List ℕ) (us : List Unit) (k : Block) (bs : List Block) (stood : pastOf (length b) us ≡ past (k ∷ bs) false) where
-  abbrev expects : ℕ
-  expects = nextNumber (expectedAfter bs)
+-- ---- after any history in which the station is open: bs are the blocks that came in order
+module _ (b : List ℕ) (us : List Unit) (bs : List Block) (stood : pastOf (length b) us ≡ past bs false) where
+  abbrev open-station : Station
+  open-station = Open (expectedAfter bs) (length (textHeld bs))
 
-  station-is : stationRun b us .station ≡ Open expects (length (textHeld (k ∷ bs)))
-  unfolding expectedAfter
+  station-is : stationRun b us .station ≡ open-station
   station-is = stands b us .station ∙ ap stationOf stood
 
-  good-dropped : (n : ℕ) (x : Ending) (t : List ℕ) (w : Reply) → answers expects (length (textHeld (k ∷ bs))) n x t (stationRun b us .buffer) w
-      → Dropped b us (good n x t) w
-  good-dropped n x t w q =
+  valid : expectedAfter bs ≤ 7
+  valid = goes-round bs .most
+
+  -- Any number but the expected one: ACK to a duplicate, else NAK, and all stays equal.
+  pub unexpected-dropped : (n : ℕ) (x : Ending) (t : List ℕ) → (n ≡ expectedAfter bs → ⊥)
+      → Dropped b us (good n x t) (cond (isDuplicate (expectedAfter bs) n) (Ack n) Nak)
+  unexpected-dropped n x t other =
+      let w = cond (isDuplicate (expectedAfter bs) n) (Ack n) Nak in
       unit-dropped b us (good n x t) w
-      (subst (λ (s : Station). goodBlockOf s n x t (stationRun b us .buffer) ≡ outcome (dropped s w) (stationRun b us .buffer)) (sym station-is) q)
+      (subst (λ (s : Station). goodBlockOf s n x t (stationRun b us .buffer) ≡ outcome (dropped s w) (stationRun b us .buffer)) (sym station-is)
+      (by-duplicate (expectedAfter bs) (length (textHeld bs)) n x t (stationRun b us .buffer) valid other (isDuplicate (expectedAfter bs) n) (leb n 7) refl refl))
+
+  -- A bad block, and one ended by ENQ: NAK, and all stays equal.
+  bad-answer : outcome (badBlockOf (stationRun b us .station)) (stationRun b us .buffer) ≡ outcome (dropped (stationRun b us .station) Nak) (stationRun b us .buffer)
+  unfolding badBlockOf
+  bad-answer = rw (station-is, le-leb (expectedAfter bs) 7 valid)
+
+  pub bad-dropped : Dropped b us bad Nak
+  bad-dropped = unit-dropped b us bad Nak bad-answer
+
+  pub enquiry-dropped : Dropped b us enquiry Nak
+  enquiry-dropped = unit-dropped b us enquiry Nak bad-answer
+
+-- ---- the newest block that came in order is k
+module _ (b : List ℕ) (us : List Unit) (k : Block) (bs : List Block) (stood : pastOf (length b) us ≡ past (k ∷ bs) false) where
+  own-number : expectedAfter bs ≡ expectedAfter (k ∷ bs) → ⊥
+  unfolding expectedAfter
+  own-number q = next-differs (expectedAfter bs) (sym q)
+
+  newest-duplicate : isDuplicate (expectedAfter (k ∷ bs)) (expectedAfter bs) ≡ true
+  unfolding expectedAfter
+  newest-duplicate = next-preceded (expectedAfter bs)
+
+  no-other-duplicate : (n : ℕ) (d : Bool) → (n ≡ expectedAfter bs → ⊥) → isDuplicate (expectedAfter (k ∷ bs)) n ≡ d → d ≡ false
+  unfolding expectedAfter
+  no-other-duplicate n true before d =
+      let next = precedes-next n (expectedAfter (k ∷ bs)) d in
+      absurd (before (next-one-to-one n (expectedAfter bs) (before-small n (expectedAfter (k ∷ bs)) (goes-round (k ∷ bs) .most) next) (goes-round bs .most) next))
+  no-other-duplicate n false before d = refl
 
   -- Its number again, with any text and either ending: ACK with that number, and all stays equal.
   pub retransmission-acknowledged : (x : Ending) (t : List ℕ) → Dropped b us (good (expectedAfter bs) x t) (Ack (expectedAfter bs))
   retransmission-acknowledged x t =
-      let small = goes-round bs .most in
-      good-dropped (expectedAfter bs) x t (Ack (expectedAfter bs))
-      (duplicate-dropped expects (length (textHeld (k ∷ bs))) (expectedAfter bs) x t (stationRun b us .buffer) (next-small (expectedAfter bs) small)
-      (λ q. next-differs (expectedAfter bs) (sym q)) small (next-preceded (expectedAfter bs)))
+      subst (λ (d : Bool). Dropped b us (good (expectedAfter bs) x t) (cond d (Ack (expectedAfter bs)) Nak)) newest-duplicate
+      (unexpected-dropped b us (k ∷ bs) stood (expectedAfter bs) x t own-number)
 
   -- Any other number than that and the expected one: NAK, and all stays equal.
   pub other-refused : (n : ℕ) (x : Ending) (t : List ℕ) → (n ≡ expectedAfter bs → ⊥) → (n ≡ expectedAfter (k ∷ bs) → ⊥) → Dropped b us (good n x t) Nak
-  unfolding expectedAfter
   other-refused n x t before expected =
-      let valid = next-small (expectedAfter bs) (goes-round bs .most) in
-      good-dropped n x t Nak
-      (other-dropped expects (length (textHeld (k ∷ bs))) n x t (stationRun b us .buffer) valid expected (leb n 7) refl (no-duplicate (isDuplicate expects n) refl))
-    where
-      no-duplicate : (d : Bool) → isDuplicate expects n ≡ d → d ≡ false
-      no-duplicate true d =
-          let next = precedes-next n expects d in
-          absurd (before (next-one-to-one n (expectedAfter bs) (before-small n expects (next-small (expectedAfter bs) (goes-round bs .most)) next) (goes-round bs .most) next))
-      no-duplicate false d = refl
+      subst (λ (d : Bool). Dropped b us (good n x t) (cond d (Ack n) Nak))
+      (no-other-duplicate n (isDuplicate (expectedAfter (k ∷ bs)) n) before refl) (unexpected-dropped b us (k ∷ bs) stood n x t expected)
 
--- ---- every block of a list once, or several times in a row
--- after the units us the blocks bs are taken, the run is that of the units once, and the replies were ws
-record Row (b : List ℕ) (us once : List Unit) (bs : List Block) (ws : List Reply) : Type 0 where
+-- ---- whatever else came: the run is that of the blocks that came in order, each reported once
+module _ (b : List ℕ) (us : List Unit) (bs : List Block) (stood : pastOf (length b) us ≡ past bs false) (same : stationRun b us ≡ stationRun b (eachOnce bs)) where
+  abbrev once-after : Unit → Past → Type 0
+  once-after u p = p .closed ≡ false → stationRun b (u ∷ us) ≡ stationRun b (eachOnce (p .blocks))
+
+  good-once : (n : ℕ) (x : Ending) (t : List ℕ) (v f : Bool) → eqb n (expectedAfter bs) ≡ v
+      → once-after (good n x t) (cond v (cond f (past (block x t ∷ bs) false) (past bs true)) (past bs false))
+  unfolding stationRun eachOnce
+  good-once n x t true true e h =
+      rw (eqb-true n (expectedAfter bs) e) (ap (λ (r : Run). runAfter (unitOutcome r (good (expectedAfter bs) x t)) (r .messages)) same)
+  good-once n x t true false e h = absurd (true≢false h)
+  good-once n x t false f e h = unexpected-dropped b us bs stood n x t (eqb-false n (expectedAfter bs) e) .same ∙ same
+
+  unit-once : (u : Unit) → once-after u (unitAfter (length b) bs u)
+  unit-once (good n x t) h = good-once n x t (eqb n (expectedAfter bs)) (fits (length b) bs t) refl h
+  unit-once bad h = bad-dropped b us bs stood .same ∙ same
+  unit-once enquiry h = enquiry-dropped b us bs stood .same ∙ same
+  unit-once eot h = absurd (true≢false h)
+
+-- After every history in which the station is open, damaged blocks and ones out of order among it.
+pub each-once : (b : List ℕ) (us : List Unit) → pastOf (length b) us .closed ≡ false
+    → stationRun b us ≡ stationRun b (eachOnce (pastOf (length b) us .blocks))
+unfolding pastOf eachOnce
+each-once b [] h = refl
+each-once b (u ∷ us) h = go (pastOf (length b) us .closed) refl h (each-once b us)
+  where
+    go : (k : Bool) → pastOf (length b) us .closed ≡ k → cond k (pastOf (length b) us) (unitAfter (length b) (pastOf (length b) us .blocks) u) .closed ≡ false
+        → (pastOf (length b) us .closed ≡ false → stationRun b us ≡ stationRun b (eachOnce (pastOf (length b) us .blocks)))
+        → stationRun b (u ∷ us) ≡ stationRun b (eachOnce (cond k (pastOf (length b) us) (unitAfter (length b) (pastOf (length b) us .blocks) u) .blocks))
+    go true e h before = absurd (true≢false (sym e ∙ h))
+    go false e h before =
+        unit-once b us (pastOf (length b) us .blocks) (ap (λ (k : Bool). past (pastOf (length b) us .blocks) k) e) (before e) u h
+
+-- ---- every block of a list, each with its retransmissions
+-- after the units us the blocks bs are taken, and the replies were ws
+record Row (b : List ℕ) (us : List Unit) (bs : List Block) (ws : List Reply) : Type 0 where
   taken : pastOf (length b) us ≡ past bs false
-  same : stationRun b us ≡ stationRun b once
   replied : repliesTo b us ≡ ws
 
-module _ (b : List ℕ) (us once : List Unit) (bs : List Block) (ws : List Reply) (before : Row b us once bs ws) (x : Ending) (t : List ℕ)
+module _ (b : List ℕ) (us : List Unit) (bs : List Block) (ws : List Reply) (before : Row b us bs ws) (x : Ending) (t : List ℕ)
     (fit : fits (length b) bs t ≡ true) where
   abbrev unit : Unit
   unit = good (expectedAfter bs) x t
@@ -96,67 +148,56 @@ module _ (b : List ℕ) (us once : List Unit) (bs : List Block) (ws : List Reply
   abbrev ack : Reply
   ack = Ack (expectedAfter bs)
 
-  own-number : expectedAfter bs ≡ expectedAfter (block x t ∷ bs) → ⊥
-  unfolding expectedAfter
-  own-number q = next-differs (expectedAfter bs) (sym q)
-
   first-reply : replyOf (length b) (past bs false) unit ≡ ack
   first-reply = rw (le-leb (expectedAfter bs) 7 (goes-round bs .most), eq-eqb (expectedAfter bs) (expectedAfter bs) refl, fit)
 
-  first-time : Row b (unit ∷ us) (unit ∷ once) (block x t ∷ bs) (ack ∷ ws)
-  unfolding pastOf stationRun repliesTo
-  first-time =
+  transmitted : (a : ℕ) → Row b (replicate a unit ++ unit ∷ us) (block x t ∷ bs) (replicate a ack ++ ack ∷ ws)
+  unfolding pastOf repliesTo
+  transmitted zero =
       record {
         taken = rw (before .taken, eq-eqb (expectedAfter bs) (expectedAfter bs) refl, fit);
-        same = ap (λ (r : Run). runAfter (unitOutcome r unit) (r .messages)) (before .same);
         replied =
             ap (λ (w : Reply). w ∷ repliesTo b us) (replies b us unit ∙ ap (λ (p : Past). replyOf (length b) p unit) (before .taken) ∙ first-reply)
             ∙ ap (λ (l : List Reply). ack ∷ l) (before .replied);
       }
-
-  reported : (a : ℕ) → Row b (replicate a unit ++ unit ∷ us) (unit ∷ once) (block x t ∷ bs) (replicate a ack ++ ack ∷ ws)
-  unfolding pastOf repliesTo
-  reported zero = first-time
-  reported (suc a) =
-      let r = reported a in
-      let again = retransmission-acknowledged b (replicate a unit ++ unit ∷ us) (block x t) bs (r .taken) x t in
+  transmitted (suc a) =
+      let r = transmitted a in
+      let sent = replicate a unit ++ unit ∷ us in
+      let again = retransmission-acknowledged b sent (block x t) bs (r .taken) x t in
       record {
-        taken = rw (r .taken, ne-eqb (expectedAfter bs) (expectedAfter (block x t ∷ bs)) own-number);
-        same = again .same ∙ r .same;
-        replied =
-            ap (λ (o : Outcome Acted). o .answer .reply ∷ repliesTo b (replicate a unit ++ unit ∷ us)) (again .answer) ∙ ap (λ (l : List Reply). ack ∷ l) (r .replied);
+        taken = rw (r .taken, ne-eqb (expectedAfter bs) (expectedAfter (block x t ∷ bs)) (own-number b sent (block x t) bs (r .taken)));
+        replied = ap (λ (o : Outcome Acted). o .answer .reply ∷ repliesTo b sent) (again .answer) ∙ ap (λ (l : List Reply). ack ∷ l) (r .replied);
       }
 
 -- the next block of a list, and the whole list
-one-more : (b : List ℕ) (us once : List Unit) (bs : List Block) (ws : List Reply) (k : Block) (a : ℕ) → (allFit (length b) bs ≡ true → Row b us once bs ws)
+one-more : (b : List ℕ) (us : List Unit) (bs : List Block) (ws : List Reply) (k : Block) (a : ℕ) → (allFit (length b) bs ≡ true → Row b us bs ws)
     → allFit (length b) (k ∷ bs) ≡ true
-    → Row b (replicate a (inOrder bs k) ++ inOrder bs k ∷ us) (inOrder bs k ∷ once) (k ∷ bs) (replicate a (Ack (expectedAfter bs)) ++ Ack (expectedAfter bs) ∷ ws)
+    → Row b (replicate a (inOrder bs k) ++ inOrder bs k ∷ us) (k ∷ bs) (replicate a (Ack (expectedAfter bs)) ++ Ack (expectedAfter bs) ∷ ws)
 unfolding allFit
-one-more b us once bs ws (block x t) a before f =
-    reported b us once bs ws (before (and-left (allFit (length b) bs) (fits (length b) bs t) f)) x t (and-right (allFit (length b) bs) (fits (length b) bs t) f) a
+one-more b us bs ws (block x t) a before f =
+    transmitted b us bs ws (before (and-left (allFit (length b) bs) (fits (length b) bs t) f)) x t (and-right (allFit (length b) bs) (fits (length b) bs t) f) a
 
-rows : (b : List ℕ) (ss : List Sent) → allFit (length b) (blocksOf ss) ≡ true
-    → Row b (inARow ss) (eachOnce (blocksOf ss)) (blocksOf ss) (acknowledgments ss)
-unfolding inARow eachOnce blocksOf acknowledgments pastOf stationRun repliesTo
-rows b [] f = record { taken = refl; same = refl; replied = refl }
-rows b (s ∷ ss) f = one-more b (inARow ss) (eachOnce (blocksOf ss)) (blocksOf ss) (acknowledgments ss) (s .content) (s .again) (rows b ss) f
+rows : (b : List ℕ) (ss : List Transmitted) → allFit (length b) (blocksOf ss) ≡ true → Row b (eachRepeated ss) (blocksOf ss) (acknowledgments ss)
+unfolding eachRepeated blocksOf acknowledgments pastOf repliesTo
+rows b [] f = record { taken = refl; replied = refl }
+rows b (s ∷ ss) f = one-more b (eachRepeated ss) (blocksOf ss) (acknowledgments ss) (s .content) (s .retransmissions) (rows b ss) f
 
 -- Blocks that come in order and fit, each reported once or several times in a row, however many they are.
-pub as-once : (b : List ℕ) (ss : List Sent) → allFit (length b) (blocksOf ss) ≡ true → AsOnce b ss
+pub as-once : (b : List ℕ) (ss : List Transmitted) → allFit (length b) (blocksOf ss) ≡ true → AsOnce b ss
 as-once b ss f =
     let r = rows b ss f in
     record {
-      same = r .same;
-      messages = stands b (inARow ss) .messages ∙ ap (λ (p : Past). messagesOf (p .blocks)) (r .taken);
+      same = each-once b (eachRepeated ss) (ap (λ (p : Past). p .closed) (r .taken)) ∙ ap (λ (p : Past). stationRun b (eachOnce (p .blocks))) (r .taken);
+      messages = stands b (eachRepeated ss) .messages ∙ ap (λ (p : Past). messagesOf (p .blocks)) (r .taken);
       replies = r .replied;
     }
 
--- ---- the first block of an opening has no number before it that came: block 0 is acknowledged and lost
-abbrev alone : List ℕ → Sent
-alone t = record { content = block Etx t; again = 0 }
+-- ---- right after an opening no block came of which a block 0 could be a retransmission: it is acknowledged and lost
+abbrev alone : List ℕ → Transmitted
+alone t = record { content = block Etx t; retransmissions = 0 }
 
 pub lost-block : (b lost t : List ℕ) (x : Ending) → length t ≤ length b → LostBlock b lost t x
-unfolding goodBlockOf nextNumber precedes expectedAfter textHeld messagesOf blocksOf eachOnce inARow allFit stationRun repliesTo acknowledgments
+unfolding goodBlockOf nextNumber precedes expectedAfter textHeld messagesOf blocksOf eachOnce eachRepeated allFit stationRun repliesTo acknowledgments
 lost-block b lost t x f =
     let once = as-once b (alone t ∷ []) (le-leb (0 + length t) (length b) (omega (arith, f))) in
     let zero-dropped = unit-dropped b [] (good 0 x lost) (Ack 0) refl in

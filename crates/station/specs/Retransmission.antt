@@ -1,4 +1,4 @@
--- 02, §2, over a history: blocks that come in order, each reported once or several times in a row.
+-- 02, §2, over a history: blocks that come in order, each transmitted once or several times.
 use mathlib.Core.Path.{_≡_}
 use mathlib.Core.List.{List, [], _∷_, _++_}
 use mathlib.Core.Bool.{Bool, true, _&&_}
@@ -25,46 +25,51 @@ pub record Dropped (b : List ℕ) (us : List Unit) (u : Unit) (w : Reply) : Type
   pub same : stationRun b (u ∷ us) ≡ stationRun b us
 
 -- ---- lists have the newest first
--- a block, and how many times it is reported again right after the first time
-pub record Sent : Type 0 where
-  pub content : Block
-  pub again : ℕ
-
-unfoldable pub blocksOf : List Sent → List Block
-blocksOf [] = []
-blocksOf (s ∷ ss) = s .content ∷ blocksOf ss
-
 -- a block as the unit that it is in order after these
 abbrev pub inOrder : List Block → Block → Unit
 inOrder bs (block x t) = good (expectedAfter bs) x t
 
+-- blocks in order, each reported once
 unfoldable pub eachOnce : List Block → List Unit
 eachOnce [] = []
 eachOnce (k ∷ bs) = inOrder bs k ∷ eachOnce bs
 
-unfoldable pub inARow : List Sent → List Unit
-inARow [] = []
-inARow (s ∷ ss) = replicate (s .again) (inOrder (blocksOf ss) (s .content)) ++ inOrder (blocksOf ss) (s .content) ∷ inARow ss
+-- a block, and how many times it comes again right after the first time
+pub record Transmitted : Type 0 where
+  pub content : Block
+  pub retransmissions : ℕ
+
+unfoldable pub blocksOf : List Transmitted → List Block
+blocksOf [] = []
+blocksOf (s ∷ ss) = s .content ∷ blocksOf ss
+
+-- blocks in order, each reported once and for each of its retransmissions
+unfoldable pub eachRepeated : List Transmitted → List Unit
+eachRepeated [] = []
+eachRepeated (s ∷ ss) =
+    replicate (s .retransmissions) (inOrder (blocksOf ss) (s .content)) ++ inOrder (blocksOf ss) (s .content) ∷ eachRepeated ss
 
 -- each block fits a buffer of c bytes when it comes
 unfoldable pub allFit : ℕ → List Block → Bool
 allFit c [] = true
 allFit c (block x t ∷ bs) = allFit c bs && fits c bs t
 
--- the replies to units, and ACK with its own number for every report of a block
+-- the replies to units
 unfoldable pub repliesTo : List ℕ → List Unit → List Reply
 repliesTo b [] = []
 repliesTo b (u ∷ us) = unitOutcome (stationRun b us) u .answer .reply ∷ repliesTo b us
 
-unfoldable pub acknowledgments : List Sent → List Reply
+-- ACK with its own number for every report of a block
+unfoldable pub acknowledgments : List Transmitted → List Reply
 acknowledgments [] = []
-acknowledgments (s ∷ ss) = replicate (s .again) (Ack (expectedAfter (blocksOf ss))) ++ Ack (expectedAfter (blocksOf ss)) ∷ acknowledgments ss
+acknowledgments (s ∷ ss) =
+    replicate (s .retransmissions) (Ack (expectedAfter (blocksOf ss))) ++ Ack (expectedAfter (blocksOf ss)) ∷ acknowledgments ss
 
 -- station, buffer and messages are those of each block once, no message is lost, and every reply is ACK with the block's number
-pub record AsOnce (b : List ℕ) (ss : List Sent) : Type 0 where
-  pub same : stationRun b (inARow ss) ≡ stationRun b (eachOnce (blocksOf ss))
-  pub messages : stationRun b (inARow ss) .messages ≡ messagesOf (blocksOf ss)
-  pub replies : repliesTo b (inARow ss) ≡ acknowledgments ss
+pub record AsOnce (b : List ℕ) (ss : List Transmitted) : Type 0 where
+  pub same : stationRun b (eachRepeated ss) ≡ stationRun b (eachOnce (blocksOf ss))
+  pub messages : stationRun b (eachRepeated ss) .messages ≡ messagesOf (blocksOf ss)
+  pub replies : repliesTo b (eachRepeated ss) ≡ acknowledgments ss
 
 -- DECISIONS.md E-1: opened while the block 0 of an opening before is out, the station acknowledges and drops it, and takes block 1 behind the hole
 pub record LostBlock (b lost t : List ℕ) (x : Ending) : Type 0 where
