@@ -1,6 +1,6 @@
 # Two commands: `make` proves and builds all and lists a sample; `make test` is the gate.
 # `make setup` installs the Debian packages that are lacking; the gate does so too, and `make` itself as root.
-# `make bench` measures (PART=blocks, messages or acts: that part alone); `make fuzz` fuzzes for
+# `make bench` measures (PART=blocks, messages, acts or master: that part alone); `make fuzz` fuzzes for
 # FUZZ_SECONDS; `make clean` removes target/, which is all that is ever made here.
 
 .DEFAULT_GOAL := all
@@ -12,10 +12,11 @@ export PATH := $(PATH):$(HOME)/.cargo/bin
 archive := target/staticlib/libgiamuvich.a
 header := target/include/giamuvich.h
 driver := target/driver/gmv_driver
+station := target/driver/x328
 proved_sources := crates.txt $(shell find crates -type f \( -name '*.rt' -o -name '*.antt' \))
 
-# The library and its header for a driver, and the tools, all proved; and the example driver.
-all: tools prove $(archive) $(header) $(driver) sample
+# The library and its header for a driver, and the tools, all proved; and the example driver and station.
+all: tools prove $(archive) $(header) $(driver) $(station) sample
 
 # What this needs is here, or is installed as root; else it says what is lacking.
 tools:
@@ -43,6 +44,10 @@ $(header): include/giamuvich.h
 # Both ends of a link, and linkstatus beside it.
 $(driver): $(archive) $(header) $(shell find examples/driver -name '*.[ch]')
 	tests/driver/build $(@D)
+
+# A station on an X3.28 line, and a null modem to try it with.
+$(station): $(archive) $(header) $(shell find examples/x328 examples/driver -name '*.[ch]')
+	tests/x328/build $(@D)
 
 # Offset of SB, number (0: accepted), data length, for each block of the capture.
 sample: prove

@@ -1,7 +1,7 @@
 /* giamuvich.h: HL7 lower layer blocks, the header fields of their messages, the two ends of a link
- * with sequence numbers, and the X3.28 receiving station, for a C line driver.
+ * with sequence numbers, and the two X3.28 stations, for a C line driver.
  *
- * The parts, each built on those before it but for the last, which stands by itself:
+ * The parts, each built on those before it but for the stations, which stand by themselves:
  *   - Blocks. Hybrid blocks (HL7 implementation guide, appendix C.2.2) and minimal blocks (C.4.2,
  *     the framing that is known as MLLP, release 1) are read from a line in parts of any length,
  *     checked whole, and written.
@@ -13,6 +13,8 @@
  *     transactions are delivered. The messages stay in the host's log.
  *   - The X3.28 receiving station (appendix C.3.1.5 and C.3.3.2). It says what to reply to each
  *     block, and appends the blocks' texts to messages.
+ *   - The X3.28 sending station, the master (appendix C.3.1.4 to C.3.3). It divides messages into
+ *     blocks, says what to send now, and which messages are done. The messages stay with the driver.
  *
  * Every function is proved to return the one answer that its definition gives, for every input, and
  * to change no memory but what is said here. Nothing is allocated, nothing is kept between calls, and
@@ -29,10 +31,10 @@
  *   HOST-4  input is initialised. A state is input: its words are what an earlier call left in them.
  *           Memory that a function only writes need not be initialised: a verdict, a report, fields,
  *           the buffer of a writer, a reply, a station or a fresh reader, and the state at a .._fresh
- *           function and at gmv_station_open. No answer depends on what it held, and what is not
- *           written stays as it was,
+ *           function, at gmv_station_open and at gmv_master_open. No answer depends on what it held,
+ *           and what is not written stays as it was,
  *   HOST-5  no other thread changes the memory during the call,
- *   and for the receiver, the sender and the station, the duties in their sections.
+ *   and for the receiver, the sender and the stations, the duties in their sections.
  *
  * Settings are plain numbers and are checked in every call that takes them:
  *   start_block, end_block  the bytes SB and EB of a hybrid link; 0B and 1C where nothing else is
@@ -54,18 +56,20 @@
  * and 11 that words encode no state, so that a stored word is bad: stop the link. But a sender also
  * answers 11 to an act that does not apply now, and that is ordinary: to a submission while it is
  * frozen, and to a timer or a block while no circuit is open, so to the next block after it gave up or
- * froze.
+ * froze. So does a master, to a start or a closing on a closed or waiting one: an EOT of the slave may
+ * have come before.
  *
  * A call that is refused by 1 or 2 changes nothing: a verdict, a report or fields still hold what an
- * earlier call left there. So it is with the 11 of a reader, a receiver and a station, and with the 9
- * of a function that reads a message. Every other refusal writes the verdict or the report anew: a
+ * earlier call left there. So it is with the 11 of a reader, a receiver, a station and a master, and with
+ * the 9 of a function that reads a message. Every other refusal writes the verdict or the report anew: a
  * check's 3 to 8, a writer's 3, 4, 5, 9 and 10, and a sender's 11, 4, 3, 9 and 10. Look at them only
  * after a call that wrote them (HOST-7).
  *
  * Refusals come in the order 1, 2, 11, and then those of the block: reading 8, 4, 5, 3, 6, 7;
  * writing 4, 5, 3. Minimal reading has 8, 4, 5, 3 only, and 5 there means only EB without CR. For
- * messages: reading 2, 9 (gmv_field_next: 2 only); writing 1, 2, 3, 9, 10. A receiver and a station
- * have 1, 2, 11 only, and so has a sender but for gmv_sender_submit: 1, 2, 11, 4, 3, 9, 10.
+ * messages: reading 2, 9 (gmv_field_next: 2 only); writing 1, 2, 3, 9, 10. A receiver, a
+ * station and a master have 1, 2, 11 only, and so has a sender but for gmv_sender_submit: 1, 2, 11, 4,
+ * 3, 9, 10.
  */
 #ifndef GIAMUVICH_H
 #define GIAMUVICH_H
@@ -113,9 +117,9 @@ enum {
                             gmv_sender_submit: not the next sequence number, a control ID that is not
                             this number, or no number is left */
     GMV_STATE = 11       /* a reader's words encode no state, or the stream's offsets are used up; a
-                            receiver's, a sender's or a station's words encode no state; a sender's
-                            act does not apply now (no circuit is open, or one is, or frozen, or not
-                            frozen) */
+                            receiver's, a sender's, a station's or a master's words encode no state; a
+                            sender's act does not apply now (no circuit is open, or one is, or frozen,
+                            or not frozen), or a master's (it is closed, or a block is out) */
 };
 
 /* SB and EB of a hybrid link, where nothing else is agreed. A minimal link has these, fixed. */
@@ -658,7 +662,9 @@ uint64_t gmv_minimal_control_block(uint64_t data_limit,
  *   HOST-48, HOST-49  when Timer D runs out, and when it sends an EOT of its own, it calls
  *            gmv_station_end. Timer D runs while the station is open, anew from each reply,
  *   HOST-46  it lends the same message buffer, unaltered, in every call of gmv_station_block, and takes
- *            a complete message out of it before it reports the next block. */
+ *            a complete message out of it before it reports the next block,
+ *   HOST-52  it stores a complete message before any reply goes out; where that fails it sends EOT in
+ *            place of the reply and calls gmv_station_end. The same block again completes nothing. */
 
 /* The words of a station's state. Keep them from call to call; they need not survive a crash. */
 enum {
@@ -750,6 +756,136 @@ uint64_t gmv_station_enquiry(uint64_t *state, size_t state_words,
  * forgets the text held. No reply. (After GMV_REPLY_EOT it has closed already.) */
 uint64_t gmv_station_end(uint64_t *state, size_t state_words,
                          uint64_t *report, size_t report_words);
+
+/* ---- The X3.28 sending station, the master ----
+ *
+ * The master is closed until the driver opens it. Open, it sends messages, one after the other. Each
+ * is divided into blocks of block_size bytes and a rest: all but the last end with ETB, the last with
+ * ETX. A length that is a multiple of block_size has no empty last block, and an empty message is one
+ * empty block. The blocks are numbered 1 to 7, 0, 1 and so on over the whole opening, from message to
+ * message. One block is out at a time, until its ACK comes.
+ *
+ * The message stays with the driver. A report names the part of it to send, by offset and length;
+ * the driver frames it. The state has no text, and no function looks at the text.
+ *
+ * What is proved of a master and a station over a line that loses and damages units is in
+ * docs/X328.md. The driver's duties besides memory:
+ *   HOST-53  it opens the master when it has become master, and only when nothing of an earlier opening
+ *            can still arrive, on either line,
+ *   HOST-54  it sends what each report names, as it is, in order, and keeps the message unaltered until
+ *            it is done or the opening has ended,
+ *   HOST-55  it reports each reply once, in order; one that fails its checks as GMV_REPLY_DAMAGED,
+ *   HOST-56  Timer A runs while a block is out, anew from each send. It is longer than the slowest
+ *            reply, and goes on where a reply changes nothing,
+ *   HOST-57  it takes for delivered what is reported done, and nothing else. A message that is not may
+ *            have arrived all the same: sent again, it may be there twice. */
+
+/* The words of a master's state. Keep them from call to call; they need not survive a crash. */
+enum {
+    GMV_MASTER_PHASE = 0,          /* GMV_MASTER_CLOSED, _IDLE or _WAITING; unless it is waiting, words 1
+                                      to 4 are 0 */
+    GMV_MASTER_MESSAGE_LENGTH = 1, /* the length of the message that is being sent */
+    GMV_MASTER_BLOCK_SIZE = 2,     /* its block size, 1 or more */
+    GMV_MASTER_OFFSET = 3,         /* where in the message the block out begins */
+    GMV_MASTER_RESENDS = 4,        /* how often the block out was sent again, 0 to 5 */
+    GMV_MASTER_COUNT = 5,          /* the blocks acknowledged since the opening; kept when it has ended */
+    GMV_MASTER_WORDS = 6
+};
+
+/* The phases. */
+enum {
+    GMV_MASTER_CLOSED = 0,
+    GMV_MASTER_IDLE = 1,   /* open, no block is out */
+    GMV_MASTER_WAITING = 2 /* open, a block is out */
+};
+
+/* The replies to a master are those of a station's report, GMV_REPLY_ACK, _NAK and _EOT, and one more.
+ * GMV_REPLY_NONE is none: where a station replies nothing, nothing is reported. */
+enum { GMV_REPLY_DAMAGED = 4 /* a reply that fails the driver's checks */ };
+
+/* What to send now. */
+enum {
+    GMV_MASTER_SEND_NOTHING = 0,
+    GMV_MASTER_SEND_BLOCK = 1,
+    GMV_MASTER_SEND_EOT = 2
+};
+
+/* How an opening ended. */
+enum {
+    GMV_MASTER_END_NONE = 0,     /* it did not end by this act */
+    GMV_MASTER_END_FAILED = 1,   /* after five resends there was cause for another; EOT is to be sent */
+    GMV_MASTER_END_BY_SLAVE = 2, /* EOT came; nothing is to be sent */
+    GMV_MASTER_END_BY_DRIVER = 3 /* gmv_master_close; EOT is to be sent */
+};
+
+/* The words of a master's report. */
+enum {
+    GMV_MASTER_REPORT_SEND = 0,         /* GMV_MASTER_SEND_.. */
+    GMV_MASTER_REPORT_NUMBER = 1,       /* of the block to send, 0 to 7; no block: 0 */
+    GMV_MASTER_REPORT_ENDING = 2,       /* GMV_ETB or GMV_ETX; no block: 0 */
+    GMV_MASTER_REPORT_OFFSET = 3,       /* where its text begins in the message; no block: 0 */
+    GMV_MASTER_REPORT_LENGTH = 4,       /* how many bytes its text has; no block: 0 */
+    GMV_MASTER_REPORT_ACKNOWLEDGED = 5, /* 1: the block that was out is acknowledged; else 0 */
+    GMV_MASTER_REPORT_DONE = 6,         /* 1: with it the whole message; else 0 */
+    GMV_MASTER_REPORT_END = 7,          /* GMV_MASTER_END_..: whether and how the opening ended */
+    GMV_MASTER_REPORT_COUNT = 8,        /* the blocks acknowledged since the opening */
+    GMV_MASTER_REPORT_RESENDS = 9,      /* how often the block now out was sent again; none out: 0 */
+    GMV_MASTER_REPORT_WORDS = 10
+};
+
+/* The master's acts are the five functions after gmv_master_fresh. Each returns 0 with state and
+ * report written; or, in this order and with nothing changed (nor the report), 1, 2 or 11. Words
+ * from GMV_MASTER_WORDS and GMV_MASTER_REPORT_WORDS on are not changed. Where an act changes nothing
+ * of the master, which is no refusal, the report says to send nothing, and tells count and resends.
+ *
+ * 2: state_words below GMV_MASTER_WORDS or report_words below GMV_MASTER_REPORT_WORDS.
+ * 11: the words encode no state (gmv_master_open takes any words), or the act does not apply now. They
+ * encode a state exactly if the phase is closed or idle and words 1 to 4 are 0, whatever the count; or
+ * if the phase is waiting, the block size is 1 or more, the resends are 0 to 5, and the offset is 0 or
+ * below the message's length (it need not be a multiple of the block size). */
+
+/* A master before its first opening: closed, count 0. Returns 0, or 2 (state_words below
+ * GMV_MASTER_WORDS) with nothing changed. Words from GMV_MASTER_WORDS on are not changed. */
+uint64_t gmv_master_fresh(uint64_t *state, size_t state_words);
+
+/* The driver opens the master (HOST-53). Whatever the words are, it is idle then, with count 0, and
+ * block 1 is the next. Nothing is to be sent. */
+uint64_t gmv_master_open(uint64_t *state, size_t state_words,
+                         uint64_t *report, size_t report_words);
+
+/* The driver starts a message: its first block is to be sent. Any length and any block size but 0 (a
+ * block as appendix C.3 frames it has at most 99999 bytes).
+ * 1: block_size is 0. 11: the master is closed, or a block is out. */
+uint64_t gmv_master_start(size_t message_length, uint64_t block_size,
+                          uint64_t *state, size_t state_words,
+                          uint64_t *report, size_t report_words);
+
+/* A reply arrived: GMV_REPLY_.., and with an ACK its number as the driver read it, any number (with the
+ * others it is not looked at). By the first line that applies:
+ *     the master is closed                   nothing changes
+ *     EOT                                    the opening ends (GMV_MASTER_END_BY_SLAVE), the block out
+ *                                            counted as not accepted; nothing is to be sent
+ *     no block is out                        nothing changes
+ *     ACK, number of the block out           it is acknowledged: the next block is to be sent, or the
+ *                                            message is done
+ *     ACK, number just before; NAK           the block is to be sent again; after five resends EOT,
+ *                                            and the opening ends (GMV_MASTER_END_FAILED)
+ *     ACK, any other number; damaged         nothing changes
+ * Just before is 7 for 0, and 0 for 1, also for the opening's first block.
+ * The count ends at 2^64 - 1: from there on an ACK with the number of the block out changes nothing.
+ * 1: reply is none of the four. */
+uint64_t gmv_master_reply(uint64_t reply, uint64_t number,
+                          uint64_t *state, size_t state_words,
+                          uint64_t *report, size_t report_words);
+
+/* Timer A ran out: as a NAK. Closed or with no block out nothing changes. */
+uint64_t gmv_master_timer(uint64_t *state, size_t state_words,
+                          uint64_t *report, size_t report_words);
+
+/* The driver closes the master: EOT is to be sent, and the opening ends (GMV_MASTER_END_BY_DRIVER).
+ * 11: the master is closed, or a block is out. */
+uint64_t gmv_master_close(uint64_t *state, size_t state_words,
+                          uint64_t *report, size_t report_words);
 
 #ifdef __cplusplus
 }

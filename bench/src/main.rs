@@ -1,9 +1,10 @@
 //! Times the library against other Rust on the same inputs, side by side, and prints tables in
 //! Markdown: blocks read, written and checked, against plain Rust; messages read and written and the
-//! acts of both ends, against the model of tests/host. Both sides are release builds; verdicts, words
-//! and bytes are compared in every round.
+//! acts of both ends, against the model of tests/host; the master's acts on long messages, against the
+//! same on a short one. Both sides are release builds; verdicts, words and bytes are compared in every
+//! round.
 //!
-//! `bench [PART]`: without a part all three, otherwise `blocks`, `messages` or `acts` alone.
+//! `bench [PART]`: without a part all four, otherwise `blocks`, `messages`, `acts` or `master` alone.
 
 mod act_checks;
 mod act_inputs;
@@ -11,6 +12,7 @@ mod act_tables;
 mod acts;
 mod fields;
 mod inputs;
+mod master;
 mod messages;
 mod model_side;
 mod plain;
@@ -206,18 +208,23 @@ fn end_tables() {
     act_tables::print(ROUNDS);
 }
 
+fn master_table() {
+    master::print(ROUNDS);
+}
+
 /// The parts, in the order in which they run.
-const PARTS: [(&str, fn()); 3] = [
+const PARTS: [(&str, fn()); 4] = [
     ("blocks", block_table),
     ("messages", message_tables),
     ("acts", end_tables),
+    ("master", master_table),
 ];
 
 fn main() -> ExitCode {
     let only = std::env::args().nth(1);
     let wanted = |name: &str| only.as_deref().is_none_or(|only| only == name);
     if !PARTS.iter().any(|(name, _)| wanted(name)) {
-        eprintln!("usage: bench [blocks|messages|acts]");
+        eprintln!("usage: bench [blocks|messages|acts|master]");
         return ExitCode::from(2);
     }
     println!(

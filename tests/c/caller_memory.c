@@ -223,13 +223,48 @@ static uint64_t station_end(const row *r, memory *m)
     return gmv_station_end(STATE_OF(m), REPORT_OF(m));
 }
 
+static uint64_t master_fresh(const row *r, memory *m)
+{
+    (void)r;
+    return gmv_master_fresh(STATE_OF(m));
+}
+
+static uint64_t master_open(const row *r, memory *m)
+{
+    (void)r;
+    return gmv_master_open(STATE_OF(m), REPORT_OF(m));
+}
+
+static uint64_t master_start(const row *r, memory *m)
+{
+    return gmv_master_start((size_t)r->setting, r->other, STATE_OF(m), REPORT_OF(m));
+}
+
+static uint64_t master_reply(const row *r, memory *m)
+{
+    return gmv_master_reply(r->setting, r->other, STATE_OF(m), REPORT_OF(m));
+}
+
+static uint64_t master_timer(const row *r, memory *m)
+{
+    (void)r;
+    return gmv_master_timer(STATE_OF(m), REPORT_OF(m));
+}
+
+static uint64_t master_close(const row *r, memory *m)
+{
+    (void)r;
+    return gmv_master_close(STATE_OF(m), REPORT_OF(m));
+}
+
 enum {
     READER_FRESH, HYBRID_READ, MINIMAL_READ, HYBRID_CHECK, MINIMAL_CHECK, HYBRID_WRITE,
     MINIMAL_WRITE, HEADER_READ, ANSWER_READ, FIELD_NEXT, ANSWER_WRITE, CONTROL_WRITE,
     HYBRID_CONTROL_BLOCK, MINIMAL_CONTROL_BLOCK, RECEIVER_FRESH, HYBRID_RECEIVE,
     MINIMAL_RECEIVE, SENDER_FRESH, SENDER_SUBMIT, SENDER_OPEN, SENDER_ENDED, SENDER_RESET,
     SENDER_TIMER, SENDER_BLOCK, STATION_FRESH, STATION_OPEN, STATION_BLOCK, STATION_BAD,
-    STATION_ENQUIRY, STATION_END,
+    STATION_ENQUIRY, STATION_END, MASTER_FRESH, MASTER_OPEN, MASTER_START, MASTER_REPLY,
+    MASTER_TIMER, MASTER_CLOSE,
     FUNCTIONS
 };
 
@@ -264,6 +299,12 @@ static const function functions[FUNCTIONS] = {
     {"station_bad", station_bad, GMV_STATION_WORDS, 0, GMV_STATION_REPORT_WORDS},
     {"station_enquiry", station_enquiry, GMV_STATION_WORDS, 0, GMV_STATION_REPORT_WORDS},
     {"station_end", station_end, GMV_STATION_WORDS, 0, GMV_STATION_REPORT_WORDS},
+    {"master_fresh", master_fresh, GMV_MASTER_WORDS, 0, 0},
+    {"master_open", master_open, GMV_MASTER_WORDS, 0, GMV_MASTER_REPORT_WORDS},
+    {"master_start", master_start, GMV_MASTER_WORDS, 0, GMV_MASTER_REPORT_WORDS},
+    {"master_reply", master_reply, GMV_MASTER_WORDS, 0, GMV_MASTER_REPORT_WORDS},
+    {"master_timer", master_timer, GMV_MASTER_WORDS, 0, GMV_MASTER_REPORT_WORDS},
+    {"master_close", master_close, GMV_MASTER_WORDS, 0, GMV_MASTER_REPORT_WORDS},
 };
 
 /* ---- the calls */
@@ -284,6 +325,11 @@ static const uint64_t closed[] = {5, 5, 5, 1, 0, GMV_WAITING_CLOSED, 0};
 static const uint64_t waits[] = {5, 5, 6, 1, 0, GMV_WAITING_TRANSACTION, 1};
 static const uint64_t frozen[] = {5, 5, 5, 1, 1, GMV_WAITING_CLOSED, 0};
 static const uint64_t station[] = {1, 3, 2}, no_station[] = {1, 8, 0};
+static const uint64_t ended_master[] = {GMV_MASTER_CLOSED, 0, 0, 0, 0, 3};
+static const uint64_t idle_master[] = {GMV_MASTER_IDLE, 0, 0, 0, 0, 3};
+static const uint64_t busy_master[] = {GMV_MASTER_WAITING, 10, 4, 0, 2, 3};
+static const uint64_t last_master[] = {GMV_MASTER_WAITING, 10, 4, 8, 5, 3};
+static const uint64_t no_master[] = {GMV_MASTER_WAITING, 10, 4, 0, 6, 3};
 
 static const row block_rows[] = {
     {READER_FRESH, 0, KEPT, NONE, NULL, "", 0, 0, 0},
@@ -458,6 +504,49 @@ static const row station_rows[] = {
     {STATION_END, 11, KEPT, NONE, no_station, "", 0, 0, 0},
 };
 
+static const row master_rows[] = {
+    {MASTER_FRESH, 0, KEPT, NONE, NULL, "", 0, 0, 0},
+    {MASTER_FRESH, 2, KEPT, STATE, NULL, "", 0, 0, 0},
+    {MASTER_OPEN, 0, REWRITTEN, NONE, NULL, "", 0, 0, 0},
+    {MASTER_OPEN, 2, KEPT, STATE, NULL, "", 0, 0, 0},
+    {MASTER_OPEN, 2, KEPT, REPORT, NULL, "", 0, 0, 0},
+    {MASTER_START, 0, REWRITTEN, NONE, idle_master, "", 0, 10, 4},
+    {MASTER_START, 0, REWRITTEN, NONE, idle_master, "", 0, 0, 4},
+    {MASTER_START, 1, KEPT, NONE, idle_master, "", 0, 10, 0},
+    {MASTER_START, 2, KEPT, STATE, idle_master, "", 0, 10, 4},
+    {MASTER_START, 2, KEPT, REPORT, idle_master, "", 0, 10, 4},
+    {MASTER_START, 11, KEPT, NONE, ended_master, "", 0, 10, 4},
+    {MASTER_START, 11, KEPT, NONE, busy_master, "", 0, 10, 4},
+    {MASTER_START, 11, KEPT, NONE, no_master, "", 0, 10, 4},
+    {MASTER_REPLY, 0, REWRITTEN, NONE, busy_master, "", 0, GMV_REPLY_ACK, 4},
+    {MASTER_REPLY, 0, REWRITTEN, NONE, busy_master, "", 0, GMV_REPLY_ACK, 3},
+    {MASTER_REPLY, 0, REWRITTEN, NONE, busy_master, "", 0, GMV_REPLY_ACK, 5},
+    {MASTER_REPLY, 0, REWRITTEN, NONE, busy_master, "", 0, GMV_REPLY_NAK, 0},
+    {MASTER_REPLY, 0, REWRITTEN, NONE, busy_master, "", 0, GMV_REPLY_EOT, 0},
+    {MASTER_REPLY, 0, REWRITTEN, NONE, busy_master, "", 0, GMV_REPLY_DAMAGED, 0},
+    {MASTER_REPLY, 0, REWRITTEN, NONE, last_master, "", 0, GMV_REPLY_ACK, 4},
+    {MASTER_REPLY, 0, REWRITTEN, NONE, last_master, "", 0, GMV_REPLY_NAK, 0},
+    {MASTER_REPLY, 0, REWRITTEN, NONE, idle_master, "", 0, GMV_REPLY_ACK, 3},
+    {MASTER_REPLY, 0, REWRITTEN, NONE, idle_master, "", 0, GMV_REPLY_EOT, 0},
+    {MASTER_REPLY, 0, REWRITTEN, NONE, ended_master, "", 0, GMV_REPLY_EOT, 0},
+    {MASTER_REPLY, 1, KEPT, NONE, busy_master, "", 0, GMV_REPLY_NONE, 4},
+    {MASTER_REPLY, 2, KEPT, STATE, busy_master, "", 0, GMV_REPLY_ACK, 4},
+    {MASTER_REPLY, 2, KEPT, REPORT, busy_master, "", 0, GMV_REPLY_ACK, 4},
+    {MASTER_REPLY, 11, KEPT, NONE, no_master, "", 0, GMV_REPLY_ACK, 4},
+    {MASTER_TIMER, 0, REWRITTEN, NONE, busy_master, "", 0, 0, 0},
+    {MASTER_TIMER, 0, REWRITTEN, NONE, last_master, "", 0, 0, 0},
+    {MASTER_TIMER, 0, REWRITTEN, NONE, ended_master, "", 0, 0, 0},
+    {MASTER_TIMER, 2, KEPT, STATE, busy_master, "", 0, 0, 0},
+    {MASTER_TIMER, 2, KEPT, REPORT, busy_master, "", 0, 0, 0},
+    {MASTER_TIMER, 11, KEPT, NONE, no_master, "", 0, 0, 0},
+    {MASTER_CLOSE, 0, REWRITTEN, NONE, idle_master, "", 0, 0, 0},
+    {MASTER_CLOSE, 2, KEPT, STATE, idle_master, "", 0, 0, 0},
+    {MASTER_CLOSE, 2, KEPT, REPORT, idle_master, "", 0, 0, 0},
+    {MASTER_CLOSE, 11, KEPT, NONE, ended_master, "", 0, 0, 0},
+    {MASTER_CLOSE, 11, KEPT, NONE, busy_master, "", 0, 0, 0},
+    {MASTER_CLOSE, 11, KEPT, NONE, no_master, "", 0, 0, 0},
+};
+
 /* ---- one call */
 
 /* Memory that is only written: it holds the paint, and for valgrind it was never written. */
@@ -561,7 +650,7 @@ static void test_rows(const char *name, const row *rows, size_t count)
 static void every_function_has_rows(void)
 {
     begin_test("lent memory: every function that takes any has its rows"); /* gmv_version takes none */
-    CHECK(FUNCTIONS == 30);
+    CHECK(FUNCTIONS == 36);
     for (int i = 0; i < FUNCTIONS; i++)
         CHECK(has_rows[i]);
 }
@@ -632,6 +721,7 @@ void test_caller_memory(void)
     TEST_ROWS("lent memory and reports: the receiver", receiver_rows);
     TEST_ROWS("lent memory and reports: the sender", sender_rows);
     TEST_ROWS("lent memory and reports: the station", station_rows);
+    TEST_ROWS("lent memory and reports: the master", master_rows);
     every_function_has_rows();
     begin_test("lent memory: a reader's buffer, over a stream in parts");
     stream_reads(hybrid(LIMIT));

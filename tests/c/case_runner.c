@@ -69,6 +69,7 @@ static uint64_t *words_at(size_t i)
     "n:application s1:state n:block_number n:block_type b:data o:buffer n:start w3:report"
 #define SENDER "s7:state w8:report"
 #define STATION "s3:state w4:report"
+#define MASTER "s6:state w10:report"
 #define FUNCTIONS(F) \
     F(reader_fresh, "w4:state", W(0)) \
     F(hybrid_read, HYBRID READ, N(0), N(1), N(2), W(0), B(1), B(2), W(3)) \
@@ -101,7 +102,13 @@ static uint64_t *words_at(size_t i)
     F(station_block, "n:number n:ending b:text h:buffer " STATION, N(0), N(1), B(0), B(1), W(2), W(3)) \
     F(station_bad, STATION, W(0), W(1)) \
     F(station_enquiry, STATION, W(0), W(1)) \
-    F(station_end, STATION, W(0), W(1))
+    F(station_end, STATION, W(0), W(1)) \
+    F(master_fresh, "w6:state", W(0)) \
+    F(master_open, MASTER, W(0), W(1)) \
+    F(master_start, "n:message_length n:block_size " MASTER, N(0), N(1), W(0), W(1)) \
+    F(master_reply, "n:reply n:number " MASTER, N(0), N(1), W(0), W(1)) \
+    F(master_timer, MASTER, W(0), W(1)) \
+    F(master_close, MASTER, W(0), W(1))
 
 #define CALLER(name, signature, ...) \
     static uint64_t call_##name(void) { return gmv_##name(__VA_ARGS__); }
@@ -493,7 +500,7 @@ void run_cases_of(const char *path)
 void test_cases(void)
 {
     static const char *const files[] = {"blocks", "messages", "fields", "receiver",
-                                        "sender", "control", "station"};
+                                        "sender", "control", "station", "master"};
 
     for (size_t i = 0; i < sizeof files / sizeof files[0]; i++) {
         char path[64];

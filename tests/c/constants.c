@@ -70,6 +70,24 @@ static void constants_of_station(void)
           GMV_STATION_MESSAGE_LENGTH == 3 && GMV_STATION_REPORT_WORDS == 4);
 }
 
+static void constants_of_master(void)
+{
+    CHECK(GMV_MASTER_PHASE == 0 && GMV_MASTER_MESSAGE_LENGTH == 1 && GMV_MASTER_BLOCK_SIZE == 2 &&
+          GMV_MASTER_OFFSET == 3 && GMV_MASTER_RESENDS == 4 && GMV_MASTER_COUNT == 5 &&
+          GMV_MASTER_WORDS == 6);
+    CHECK(GMV_MASTER_CLOSED == 0 && GMV_MASTER_IDLE == 1 && GMV_MASTER_WAITING == 2);
+    CHECK(GMV_REPLY_DAMAGED == 4);
+    CHECK(GMV_MASTER_SEND_NOTHING == 0 && GMV_MASTER_SEND_BLOCK == 1 && GMV_MASTER_SEND_EOT == 2);
+    CHECK(GMV_MASTER_END_NONE == 0 && GMV_MASTER_END_FAILED == 1 && GMV_MASTER_END_BY_SLAVE == 2 &&
+          GMV_MASTER_END_BY_DRIVER == 3);
+    CHECK(GMV_MASTER_REPORT_SEND == 0 && GMV_MASTER_REPORT_NUMBER == 1 &&
+          GMV_MASTER_REPORT_ENDING == 2 && GMV_MASTER_REPORT_OFFSET == 3 &&
+          GMV_MASTER_REPORT_LENGTH == 4 && GMV_MASTER_REPORT_ACKNOWLEDGED == 5 &&
+          GMV_MASTER_REPORT_DONE == 6 && GMV_MASTER_REPORT_END == 7 &&
+          GMV_MASTER_REPORT_COUNT == 8 && GMV_MASTER_REPORT_RESENDS == 9 &&
+          GMV_MASTER_REPORT_WORDS == 10);
+}
+
 void test_constants(void)
 {
     begin_test("header: the constants");
@@ -77,4 +95,5 @@ void test_constants(void)
     constants_of_messages();
     constants_of_ends();
     constants_of_station();
+    constants_of_master();
 }

@@ -92,9 +92,12 @@ void test_sweeps(void);
 void test_message_trips(void);
 void test_link(void);
 void test_dialogue(void);
+void test_master_sweeps(void);
+void test_master_dialogue(void);
 void test_caller_memory(void);
 void test_duties(void);
 void test_stack(void);
+void test_instructions(void);
 void test_version(void);
 
 #endif

@@ -20,6 +20,8 @@ static void run_all(enum memory_kind kind)
     test_message_trips();
     test_link();
     test_dialogue();
+    test_master_sweeps();
+    test_master_dialogue();
     test_caller_memory();
     test_duties();
 }
@@ -47,6 +49,7 @@ int main(int count, char **arguments)
     run_all(FENCED_PAGES);
     run_all(EXACT_MALLOC);
     test_stack();
+    test_instructions();
     test_version();
     return finish_tests();
 }

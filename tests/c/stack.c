@@ -224,6 +224,47 @@ static void station_end(void)
     gmv_station_end(station, GMV_STATION_WORDS, station_report, GMV_STATION_REPORT_WORDS);
 }
 
+/* The master; the reply is block_type with the number block_number. */
+static uint64_t master[GMV_MASTER_WORDS], master_before[GMV_MASTER_WORDS];
+static uint64_t master_report[GMV_MASTER_REPORT_WORDS];
+
+static void master_fresh(void)
+{
+    gmv_master_fresh(master, GMV_MASTER_WORDS);
+}
+
+static void master_open(void)
+{
+    memcpy(master, master_before, sizeof master);
+    gmv_master_open(master, GMV_MASTER_WORDS, master_report, GMV_MASTER_REPORT_WORDS);
+}
+
+static void master_start(void)
+{
+    memcpy(master, master_before, sizeof master);
+    gmv_master_start(text_length, LIMIT, master, GMV_MASTER_WORDS, master_report,
+                     GMV_MASTER_REPORT_WORDS);
+}
+
+static void master_reply(void)
+{
+    memcpy(master, master_before, sizeof master);
+    gmv_master_reply(block_type, block_number, master, GMV_MASTER_WORDS, master_report,
+                     GMV_MASTER_REPORT_WORDS);
+}
+
+static void master_timer(void)
+{
+    memcpy(master, master_before, sizeof master);
+    gmv_master_timer(master, GMV_MASTER_WORDS, master_report, GMV_MASTER_REPORT_WORDS);
+}
+
+static void master_close(void)
+{
+    memcpy(master, master_before, sizeof master);
+    gmv_master_close(master, GMV_MASTER_WORDS, master_report, GMV_MASTER_REPORT_WORDS);
+}
+
 /* The bytes of the stack that were touched while the call ran. */
 static size_t touched_by(void (*call)(void))
 {
@@ -487,6 +528,48 @@ static void every_kind_of_station(void)
     CHECK(station_report[GMV_STATION_MESSAGE_LENGTH] == LIMIT);
 }
 
+static void master_takes_little_stack(void)
+{
+    const size_t lengths[] = {0, LIMIT + 1, SIZE_MAX};
+
+    takes_little_stack(master_fresh);
+    takes_little_stack(master_open);
+    for (size_t i = 0; i < sizeof lengths / sizeof lengths[0]; i++) {
+        text_length = lengths[i];
+        takes_little_stack(master_start);
+    }
+    takes_little_stack(master_reply);
+    takes_little_stack(master_timer);
+    takes_little_stack(master_close);
+}
+
+/* Closed, idle, waiting with a block before the last, with the last one, after five resends and with
+ * the last count, and words that encode no state; each reply, and codes that are none. */
+static void every_kind_of_master(void)
+{
+    const uint64_t states[][GMV_MASTER_WORDS] = {
+        {GMV_MASTER_CLOSED, 0, 0, 0, 0, 3},
+        {GMV_MASTER_IDLE, 0, 0, 0, 0, 3},
+        {GMV_MASTER_WAITING, 10, 4, 0, 0, 3},
+        {GMV_MASTER_WAITING, 10, 4, 8, 5, 3},
+        {GMV_MASTER_WAITING, UINT64_MAX, 1, 7, 5, UINT64_MAX},
+        {GMV_MASTER_WAITING, 10, 4, 10, 0, 3},
+        {GMV_MASTER_WAITING + 1, 0, 0, 0, 0, 0}};
+
+    for (size_t i = 0; i < sizeof states / sizeof states[0]; i++)
+        for (block_type = GMV_REPLY_NONE; block_type <= GMV_REPLY_DAMAGED + 1; block_type++)
+            for (block_number = 0; block_number < 9; block_number++) {
+                memcpy(master_before, states[i], sizeof master_before);
+                master_takes_little_stack();
+            }
+    memcpy(master_before, states[2], sizeof master_before);
+    block_type = GMV_REPLY_ACK;
+    block_number = 4;
+    master_reply();
+    CHECK(master_report[GMV_MASTER_REPORT_ACKNOWLEDGED] == 1);
+    CHECK(master_report[GMV_MASTER_REPORT_OFFSET] == 4);
+}
+
 void test_stack(void)
 {
     begin_test("no function takes over 1 KiB of stack");
@@ -494,6 +577,7 @@ void test_stack(void)
     good_and_damaged_messages();
     good_and_damaged_ends();
     every_kind_of_station();
+    every_kind_of_master();
 }
 
 #endif

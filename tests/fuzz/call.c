@@ -119,8 +119,26 @@ static uint64_t invoke_station(call *c)
     }
 }
 
+static uint64_t invoke_master(call *c)
+{
+    switch (c->function) {
+    case call_master_fresh:
+        return gmv_master_fresh(STATE);
+    case call_master_open:
+        return gmv_master_open(STATE, RESULT);
+    case call_master_start:
+        return gmv_master_start(c->number, c->code, STATE, RESULT);
+    case call_master_reply:
+        return gmv_master_reply(c->code, c->number, STATE, RESULT);
+    case call_master_timer:
+        return gmv_master_timer(STATE, RESULT);
+    default:
+        return gmv_master_close(STATE, RESULT);
+    }
+}
+
 /* The files of the library that a function stands in: each has its models and its calls. */
-enum family { BLOCKS, MESSAGES, RECEIVER, SENDER, STATION };
+enum family { BLOCKS, MESSAGES, RECEIVER, SENDER, STATION, MASTER };
 
 static enum family family_of(enum function function)
 {
@@ -132,13 +150,15 @@ static enum family family_of(enum function function)
         return RECEIVER;
     if (function <= call_sender_block)
         return SENDER;
-    return function <= call_minimal_control_block ? MESSAGES : STATION;
+    if (function <= call_minimal_control_block)
+        return MESSAGES;
+    return function <= call_station_end ? STATION : MASTER;
 }
 
 static uint64_t invoke(call *c)
 {
     static uint64_t (*const families[])(call *) = {invoke_blocks, invoke_messages, invoke_receiver,
-                                                   invoke_sender, invoke_station};
+                                                   invoke_sender, invoke_station, invoke_master};
 
     return families[family_of(c->function)](c);
 }
@@ -146,7 +166,7 @@ static uint64_t invoke(call *c)
 uint64_t model_call(call *c)
 {
     static uint64_t (*const families[])(call *) = {model_blocks, model_messages, model_receiver,
-                                                   model_sender, model_station};
+                                                   model_sender, model_station, model_master};
 
     return families[family_of(c->function)](c);
 }
@@ -260,7 +280,8 @@ void write_counts(void)
 {
     static const char *const kinds[] = {"read_block",   "field_delimiter", "received_block",
                                         "sender_event", "sender_send",     "station_reply",
-                                        "station_duplicate"};
+                                        "station_duplicate", "master_send", "master_end",
+                                        "master_number", "master_resends"};
     const char *path = getenv("FUZZ_COUNTS");
     FILE *file = path ? fopen(path, "w") : NULL;
 

@@ -89,6 +89,8 @@ static uint64_t read_one_byte_more(const call *c)
                            count_words(&c->result));
 }
 
+#include "faults_master.h"
+
 static uint64_t word_of_state(const call *c, size_t index)
 {
     return count_words(&c->state) > index ? get_word(&c->state, index) : 0;
@@ -98,6 +100,8 @@ static uint64_t invoke_library(call *c)
 {
     uint64_t phase = word_of_state(c, 0), expected = word_of_state(c, GMV_STATION_EXPECTED), number;
 
+    if (family_of(c->function) == MASTER)
+        return invoke_master_library(c);
     if (c->function == call_header_read && c->content.length > 4 && is_planted("overread"))
         return read_one_byte_more(c);
     if (c->function == call_station_block && is_planted("promise"))

@@ -56,7 +56,8 @@ memory take_buffer(input *in, size_t need, size_t *start);
     X(control_write) X(receiver_fresh) X(hybrid_receive) X(minimal_receive) X(sender_fresh) \
     X(sender_submit) X(sender_open) X(sender_ended) X(sender_reset) X(sender_timer) \
     X(sender_block) X(hybrid_control_block) X(minimal_control_block) X(station_fresh) \
-    X(station_open) X(station_block) X(station_bad) X(station_enquiry) X(station_end)
+    X(station_open) X(station_block) X(station_bad) X(station_enquiry) X(station_end) \
+    X(master_fresh) X(master_open) X(master_start) X(master_reply) X(master_timer) X(master_close)
 
 #define NAME_FUNCTION(name) call_##name,
 enum function { FUNCTIONS(NAME_FUNCTION) FUNCTION_COUNT };
@@ -69,8 +70,8 @@ typedef struct {
 typedef struct {
     enum function function;
     settings link;
-    uint64_t number;       /* a number, type, first, resends, position, or a station's block number */
-    uint64_t code;         /* a code, an application's verdict, or a station's ending */
+    uint64_t number;       /* a number, type, first, resends, position, or a message's length */
+    uint64_t code;         /* a code, an application's verdict, an ending, a reply, or a block size */
     uint64_t block_number; /* with block_type: what a reader said of a block */
     uint64_t block_type;
     memory content; /* what is only read */
@@ -92,6 +93,7 @@ uint64_t model_messages(call *c);
 uint64_t model_receiver(call *c);
 uint64_t model_sender(call *c);
 uint64_t model_station(call *c);
+uint64_t model_master(call *c);
 
 /* Parts of the models that the others and the fuzzers need. */
 enum { LEAST_LINK_LIMIT = 128, GREATEST_LIMIT = 99994 };
@@ -144,6 +146,7 @@ void fuzz_messages(input *in);
 void fuzz_receiver(input *in);
 void fuzz_sender(input *in);
 void fuzz_station(input *in);
+void fuzz_master(input *in);
 
 /* Writes the counts, a line for each function and number, to the file that FUZZ_COUNTS names. */
 void write_counts(void);
@@ -156,6 +159,10 @@ enum outcome {
     SENDER_SEND,
     STATION_REPLY,
     STATION_DUPLICATE,
+    MASTER_SEND,
+    MASTER_END,
+    MASTER_NUMBER,
+    MASTER_RESENDS,
     OUTCOME_COUNT
 };
 void count_outcome(enum outcome kind, uint64_t number);

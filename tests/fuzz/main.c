@@ -15,7 +15,7 @@ static fuzzer find_fuzzer(const char *name)
         const char *name;
         fuzzer run;
     } fuzzers[] = {{"blocks", fuzz_blocks}, {"messages", fuzz_messages}, {"receiver", fuzz_receiver},
-                   {"sender", fuzz_sender}, {"station", fuzz_station}};
+                   {"sender", fuzz_sender}, {"station", fuzz_station}, {"master", fuzz_master}};
 
     for (size_t i = 0; name && i < sizeof fuzzers / sizeof fuzzers[0]; i++)
         if (strcmp(name, fuzzers[i].name) == 0)

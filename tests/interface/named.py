@@ -7,7 +7,7 @@ import re
 from declared import ROOT
 
 # Documents that name definitions as `crate.name` and functions as `crate::name`.
-NAMING = ("THEOREMS", "SENTENCES", "FUNCTIONS", "FORMS", "LINK", "SPECS", "DECISIONS", "TRUSTED")
+NAMING = ("THEOREMS", "SENTENCES", "FUNCTIONS", "FORMS", "LINK", "X328", "SPECS", "DECISIONS", "TRUSTED")
 FILES = (".c", ".h", ".rs", ".rt", ".py", ".md", ".antt", ".txt", ".a")
 
 

@@ -35,6 +35,12 @@ static uint64_t *fresh_station(void)
     return state;
 }
 
+static uint64_t *fresh_master(void)
+{
+    gmv_master_fresh(state, GMV_MASTER_WORDS);
+    return state;
+}
+
 static uint64_t *no_number(void)
 {
     gmv_receiver_fresh(state, GMV_RECEIVER_WORDS);
@@ -102,6 +108,8 @@ static void ends(void)
     LEAST("station-buffer", (gmv_station_open(fresh_station(), GMV_STATION_WORDS, words, GMV_STATION_REPORT_WORDS),
                              gmv_station_block(1, GMV_ETX, data, D, buffer, n, state, GMV_STATION_WORDS, words,
                                                GMV_STATION_REPORT_WORDS)));
+    LEAST("master-state", gmv_master_fresh(state, n));
+    LEAST("master-report", gmv_master_open(fresh_master(), GMV_MASTER_WORDS, words, n));
 }
 
 int main(void)

@@ -28,6 +28,8 @@ ROWS = [
     ("station's state", "3 words", {"station-state": 3}),
     ("station's report", "4 words", {"station-report": 4}),
     ("station's message buffer", "none", {"station-buffer": 0}),
+    ("master's state", "6 words", {"master-state": 6}),
+    ("master's report", "10 words", {"master-report": 10}),
 ]
 
 

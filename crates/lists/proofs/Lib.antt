@@ -6,3 +6,4 @@ pub mod Over
 pub mod All
 pub mod Same
 pub mod Calls
+pub mod Append

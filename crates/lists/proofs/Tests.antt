@@ -27,6 +27,10 @@ pub or-cases : (a b : Bool) → (a || b) ≡ true → (P : Type 0) → (a ≡ tr
 or-cases true b e P f g = f refl
 or-cases false b e P f g = g e
 
+pub or-true : (a : Bool) → (a || true) ≡ true
+or-true true = refl
+or-true false = refl
+
 -- what holds of both outcomes of a test holds of its choice
 pub cond-ind : {A : Type 0} (P : A → Type 0) (b : Bool) (x y : A) → (b ≡ true → P x) → (b ≡ false → P y) → P (cond b x y)
 cond-ind P true x y f g = f refl

@@ -10,7 +10,7 @@ use crate::units::refuse_station;
 ghost use mathlib.Core.Path.{_≡_};
 ghost use Prim.Native.Nat.{_≤_};
 ghost use Rattle.lists.specs.Outcome.{outcome};
-ghost use Rattle.station.specs.Station.{nextNumber, isDuplicate, appended, expectedBlock, openBlock, goodBlockOf};
+ghost use Rattle.station.specs.Station.{nextNumber, precedes, appended, expectedBlock, openBlock, goodBlockOf};
 
 fn next_number(n: u64) -> u64
     requires { ⌜ n ≤ 7 ⌝ }
@@ -22,11 +22,17 @@ fn next_number(n: u64) -> u64
     n + 1
 }
 
-fn is_duplicate(expected: u64, n: u64) -> bool
-    requires { ⌜ n ≤ 7 ⌝ }
-    ensures { λ r. ⌜ r ≡ isDuplicate expected n ⌝ }
+// Whether n is the number just before m, counted round. Any numbers.
+pub fn precedes(n: u64, m: u64) -> bool
+    ensures { λ r. ⌜ r ≡ precedes n m ⌝ }
 {
-    next_number(n) == expected
+    if n == LAST_NUMBER {
+        return m == 0;
+    }
+    if m == 0 {
+        return false;
+    }
+    m - 1 == n
 }
 
 // The answer to an appended block, after which the text has n bytes.
@@ -84,7 +90,7 @@ fn block_when_open(
     if n == expected {
         return take_expected(expected, held, ending, text, buffer);
     }
-    if is_duplicate(expected, n) {
+    if precedes(n, expected) {
         return answer(Station::Open(expected, held), Reply::Ack(n));
     }
     answer(Station::Open(expected, held), Reply::Nak)

@@ -10,6 +10,7 @@ pub use acts::block_words;
 pub use acts::end_words;
 pub use acts::fresh_station_words;
 pub use acts::opened_words;
+pub use blocks::precedes;
 
 // The last block number: after it comes 0.
 pub(crate) const LAST_NUMBER: u64 = 7;

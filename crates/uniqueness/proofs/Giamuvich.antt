@@ -22,6 +22,18 @@ use Rattle.giamuvich.proofs.gmv_minimal_control_block as gmv-minimal-control-bl
 use Rattle.giamuvich.proofs.gmv_minimal_control_block.Reads as gmv-minimal-control-block-reads
 use Rattle.giamuvich.proofs.gmv_field_next as gmv-field-next-contract
 use Rattle.giamuvich.proofs.gmv_field_next.Reads as gmv-field-next-reads
+use Rattle.giamuvich.proofs.gmv_master_fresh as gmv-master-fresh-contract
+use Rattle.giamuvich.proofs.gmv_master_fresh.Reads as gmv-master-fresh-reads
+use Rattle.giamuvich.proofs.gmv_master_open as gmv-master-open-contract
+use Rattle.giamuvich.proofs.gmv_master_open.Reads as gmv-master-open-reads
+use Rattle.giamuvich.proofs.gmv_master_start as gmv-master-start-contract
+use Rattle.giamuvich.proofs.gmv_master_start.Reads as gmv-master-start-reads
+use Rattle.giamuvich.proofs.gmv_master_reply as gmv-master-reply-contract
+use Rattle.giamuvich.proofs.gmv_master_reply.Reads as gmv-master-reply-reads
+use Rattle.giamuvich.proofs.gmv_master_timer as gmv-master-timer-contract
+use Rattle.giamuvich.proofs.gmv_master_timer.Reads as gmv-master-timer-reads
+use Rattle.giamuvich.proofs.gmv_master_close as gmv-master-close-contract
+use Rattle.giamuvich.proofs.gmv_master_close.Reads as gmv-master-close-reads
 use Rattle.giamuvich.proofs.gmv_header_read as gmv-header-read-contract
 use Rattle.giamuvich.proofs.gmv_header_read.Reads as gmv-header-read-reads
 use Rattle.giamuvich.proofs.gmv_answer_read as gmv-answer-read-contract
@@ -133,6 +145,48 @@ gmv-field-next = record {
   holds = gmv-field-next-reads.Learnt;
   says = λ M 𝓤 H A mem run. refl;
   one = λ κs a z z′ ws ws′ h h′. once h h′ (λ y. y .number) (λ y. (tt, (tt, (y .report, tt))));
+}
+
+pub gmv-master-fresh : Unique gmv-master-fresh-contract.ended (λ M. gmv-master-fresh-contract.clauses {M = M})
+gmv-master-fresh = record {
+  holds = gmv-master-fresh-reads.Learnt;
+  says = λ M 𝓤 H A mem run. refl;
+  one = λ κs a z z′ ws ws′ h h′. once h h′ (λ y. y .number) (λ y. (y .state, tt));
+}
+
+pub gmv-master-open : Unique gmv-master-open-contract.ended (λ M. gmv-master-open-contract.clauses {M = M})
+gmv-master-open = record {
+  holds = gmv-master-open-reads.Learnt;
+  says = λ M 𝓤 H A mem run. refl;
+  one = λ κs a z z′ ws ws′ h h′. once h h′ (λ y. y .number) (λ y. (y .state, (y .report, tt)));
+}
+
+pub gmv-master-start : Unique gmv-master-start-contract.ended (λ M. gmv-master-start-contract.clauses {M = M})
+gmv-master-start = record {
+  holds = gmv-master-start-reads.Learnt;
+  says = λ M 𝓤 H A mem run. refl;
+  one = λ κs a z z′ ws ws′ h h′. once h h′ (λ y. y .number) (λ y. (tt, (tt, (y .state, (y .report, tt)))));
+}
+
+pub gmv-master-reply : Unique gmv-master-reply-contract.ended (λ M. gmv-master-reply-contract.clauses {M = M})
+gmv-master-reply = record {
+  holds = gmv-master-reply-reads.Learnt;
+  says = λ M 𝓤 H A mem run. refl;
+  one = λ κs a z z′ ws ws′ h h′. once h h′ (λ y. y .number) (λ y. (tt, (tt, (y .state, (y .report, tt)))));
+}
+
+pub gmv-master-timer : Unique gmv-master-timer-contract.ended (λ M. gmv-master-timer-contract.clauses {M = M})
+gmv-master-timer = record {
+  holds = gmv-master-timer-reads.Learnt;
+  says = λ M 𝓤 H A mem run. refl;
+  one = λ κs a z z′ ws ws′ h h′. once h h′ (λ y. y .number) (λ y. (y .state, (y .report, tt)));
+}
+
+pub gmv-master-close : Unique gmv-master-close-contract.ended (λ M. gmv-master-close-contract.clauses {M = M})
+gmv-master-close = record {
+  holds = gmv-master-close-reads.Learnt;
+  says = λ M 𝓤 H A mem run. refl;
+  one = λ κs a z z′ ws ws′ h h′. once h h′ (λ y. y .number) (λ y. (y .state, (y .report, tt)));
 }
 
 pub gmv-header-read : Unique gmv-header-read-contract.ended (λ M. gmv-header-read-contract.clauses {M = M})

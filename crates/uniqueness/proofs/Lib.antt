@@ -3,9 +3,11 @@ pub mod BlockCalls
 pub mod ControlBlock
 pub mod FieldReader
 pub mod Fields
+pub mod Fragments
 pub mod Giamuvich
 pub mod Header
 pub mod Lists
+pub mod Master
 pub mod MessageCalls
 pub mod Messages
 pub mod Numbers

@@ -1,5 +1,5 @@
 -- The public functions of the crate station. Written by tests/interface/uniqueness --write.
-use mathlib.Core.Path.{refl}
+use mathlib.Core.Path.{refl, sym, _∙_}
 use Rattle.uniqueness.specs.Unique.{Unique}
 use Rattle.uniqueness.proofs.Once.{once}
 use Rattle.station.proofs.fresh_station_words as fresh-station-words-contract
@@ -12,6 +12,8 @@ use Rattle.station.proofs.end_words as end-words-contract
 use Rattle.station.proofs.end_words.Reads as end-words-reads
 use Rattle.station.proofs.block_words as block-words-contract
 use Rattle.station.proofs.block_words.Reads as block-words-reads
+use Rattle.station.proofs.precedes as precedes-contract
+use Rattle.station.proofs.precedes.Reads as precedes-reads
 
 pub fresh-station-words : Unique fresh-station-words-contract.ended (λ M. fresh-station-words-contract.clauses {M = M})
 fresh-station-words = record {
@@ -46,4 +48,11 @@ block-words = record {
   holds = block-words-reads.Learnt;
   says = λ M 𝓤 H A mem run. refl;
   one = λ κs a z z′ ws ws′ h h′. once h h′ (λ y. y .number) (λ y. (tt, (tt, (tt, (y .buffer, (y .state, (y .report, tt)))))));
+}
+
+pub precedes : Unique precedes-contract.ended (λ M. precedes-contract.clauses {M = M})
+precedes = record {
+  holds = precedes-reads.Learnt;
+  says = λ M 𝓤 H A mem run. refl;
+  one = λ κs a z z′ ws ws′ h h′. (h ∙ sym h′, refl);
 }

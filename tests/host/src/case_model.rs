@@ -5,12 +5,13 @@ use crate::compare::{expected_read, expected_write, ReadCall, WriteCall, GUARD_B
 use crate::guarded::{same, Guarded};
 use crate::library;
 use host::field_model::{Fields, NEXT_WORDS};
+use host::master_model::{self, MasterAct, MasterActed, MASTER_WORDS};
 use host::message_model::{self, Memory, Written};
 use host::model::{self, Settings};
 use host::receiver_model::{self, Incoming, Received};
 use host::sender_model::{self, Act};
 use host::station_model::{self, Lengths, Unit};
-use host::{ends_ffi, ffi, station_ffi};
+use host::{ends_ffi, ffi, master_ffi, station_ffi};
 
 fn settings(call: &Call) -> Settings {
     if call.function.starts_with("hybrid") {
@@ -86,6 +87,23 @@ fn station_unit(call: &Call) -> Option<Unit<'_>> {
             number: call.number("number"),
             ending: call.number("ending"),
             text: &call.read,
+        },
+        _ => return None,
+    })
+}
+
+fn master_act(call: &Call) -> Option<MasterAct> {
+    Some(match call.function.as_str() {
+        "master_open" => MasterAct::Open,
+        "master_timer" => MasterAct::Timer,
+        "master_close" => MasterAct::Close,
+        "master_start" => MasterAct::Start {
+            message_length: call.number("message_length"),
+            block_size: call.number("block_size"),
+        },
+        "master_reply" => MasterAct::Reply {
+            reply: call.number("reply"),
+            number: call.number("number"),
         },
         _ => return None,
     })
@@ -224,6 +242,17 @@ fn station_acted(call: &Call, unit: &Unit) -> Answer {
     }
 }
 
+fn master_acted(call: &Call, act: &MasterAct) -> Answer {
+    match master_model::act_on_words(act, &call.writable.state, call.writable.words.len()) {
+        MasterActed::Refused(number) => answer(call, number),
+        MasterActed::Done(master, report) => {
+            let mut then = words_written(call, &report.words());
+            then.writable.state[..MASTER_WORDS].copy_from_slice(&master.words());
+            then
+        }
+    }
+}
+
 fn control_block_written(call: &Call) -> Answer {
     let (settings, memory) = (settings(call), memory(call));
     match sender_model::control_block(&settings, &call.read, call.number("number"), &memory) {
@@ -269,6 +298,9 @@ pub fn modelled(call: &Call) -> Answer {
     if let Some(unit) = station_unit(call) {
         return station_acted(call, &unit);
     }
+    if let Some(act) = master_act(call) {
+        return master_acted(call, &act);
+    }
     if let Some(answer) = message_modelled(call) {
         return answer;
     }
@@ -276,6 +308,7 @@ pub fn modelled(call: &Call) -> Answer {
         "reader_fresh" => words_written(call, &[0; 4]),
         "receiver_fresh" => words_written(call, &[0]),
         "station_fresh" => words_written(call, &[0; 3]),
+        "master_fresh" => words_written(call, &[0; MASTER_WORDS]),
         "sender_fresh" => {
             match sender_model::fresh(call.number("first"), call.writable.words.len()) {
                 Ok(words) => words_written(call, &words),
@@ -315,21 +348,30 @@ fn fresh_number(call: &Call, words: &mut [u64]) -> Option<u64> {
         "reader_fresh" => ffi::reader_fresh(words),
         "receiver_fresh" => ends_ffi::receiver_fresh(words),
         "station_fresh" => station_ffi::station_fresh(words),
+        "master_fresh" => master_ffi::master_fresh(words),
         "sender_fresh" => ends_ffi::sender_fresh(call.number("first"), words),
         _ => return None,
     })
 }
 
-/// What the library answers.
-fn library_number(call: &Call, buffer: &mut [u8], state: &mut [u64], words: &mut [u64]) -> u64 {
+/// The library's functions for the acts of the sender and of the two stations.
+fn act_number(call: &Call, buffer: &mut [u8], state: &mut [u64], words: &mut [u64]) -> Option<u64> {
     if let Some(act) = sender_act(call) {
-        return ends_ffi::sender_act(&act, state, words);
+        return Some(ends_ffi::sender_act(&act, state, words));
     }
     if let Some(unit) = station_unit(call) {
-        return station_ffi::station_act(&unit, buffer, state, words);
+        return Some(station_ffi::station_act(&unit, buffer, state, words));
     }
-    let fresh = fresh_number(call, words);
-    if let Some(number) = fresh.or_else(|| message_number(call, buffer, words)) {
+    let act = master_act(call)?;
+    Some(master_ffi::master_act(&act, state, words))
+}
+
+/// What the library answers.
+fn library_number(call: &Call, buffer: &mut [u8], state: &mut [u64], words: &mut [u64]) -> u64 {
+    let number = act_number(call, buffer, state, words)
+        .or_else(|| fresh_number(call, words))
+        .or_else(|| message_number(call, buffer, words));
+    if let Some(number) = number {
         return number;
     }
     let bytes = &call.read;

@@ -4,7 +4,7 @@
 /// The functions: a name, and its parameters in the header's order, each with its kind: n a number, b
 /// bytes that are read, o bytes that are written and given by their length, h bytes that are held and
 /// may change, s words of a state and w words that are written, both with the count that is needed.
-const FUNCTIONS: [(&str, &str); 30] = [
+const FUNCTIONS: [(&str, &str); 36] = [
     ("reader_fresh", "w4:state"),
     ("hybrid_read", "HYBRID s4:state b:part h:buffer w8:verdict"),
     (
@@ -44,9 +44,15 @@ const FUNCTIONS: [(&str, &str); 30] = [
     ("station_bad", "STATION"),
     ("station_enquiry", "STATION"),
     ("station_end", "STATION"),
+    ("master_fresh", "w6:state"),
+    ("master_open", "MASTER"),
+    ("master_start", "n:message_length n:block_size MASTER"),
+    ("master_reply", "n:reply n:number MASTER"),
+    ("master_timer", "MASTER"),
+    ("master_close", "MASTER"),
 ];
 
-const COMMON: [(&str, &str); 6] = [
+const COMMON: [(&str, &str); 7] = [
     ("HYBRID", "n:start_block n:end_block n:data_limit"),
     ("MINIMAL", "n:data_limit"),
     ("WRITE", "o:buffer n:start w2:report"),
@@ -56,6 +62,7 @@ const COMMON: [(&str, &str); 6] = [
     ),
     ("SENDER", "s7:state w8:report"),
     ("STATION", "s3:state w4:report"),
+    ("MASTER", "s6:state w10:report"),
 ];
 
 const LARGEST: usize = 110_000;

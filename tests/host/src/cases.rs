@@ -8,8 +8,8 @@ use crate::guarded::same;
 use host::model::{self, Settings};
 
 /// The files, in the order of the layers.
-pub const FILES: [&str; 7] = [
-    "blocks", "messages", "fields", "receiver", "sender", "control", "station",
+pub const FILES: [&str; 8] = [
+    "blocks", "messages", "fields", "receiver", "sender", "control", "station", "master",
 ];
 const FOLDER: &str = concat!(env!("CARGO_MANIFEST_DIR"), "/../cases");
 const MORE_WORDS: usize = 3;

@@ -2,6 +2,7 @@
 //! word and byte of the memory, with the model.
 
 use crate::compare_fields::FieldCounts;
+use crate::compare_master::MasterCounts;
 use crate::compare_station::StationCounts;
 use crate::guarded::{same, Guarded};
 use crate::library;
@@ -17,7 +18,8 @@ pub const GUARD_BYTE: u8 = 0xC3;
 /// blocks, and messages that were read or written. Of the messages read, those with a header that
 /// the model reads are counted too, and those with an answer. Acts are calls of the functions for
 /// the receiver and the sender, those on simulated links apart, with the runs of such links; acts of
-/// stations, calls of the field reader and calls of the cases by hand are counted apart too.
+/// stations and masters, acts on links of the two and runs of such links, acts in walks of small links
+/// with the states found, calls of the field reader and calls of the cases by hand are counted apart too.
 pub struct Compare {
     pub random: Random,
     pub inputs: u64,
@@ -29,6 +31,11 @@ pub struct Compare {
     pub link_runs: u64,
     pub kinds: Kinds,
     pub station: StationCounts,
+    pub master: MasterCounts,
+    pub stations_acts: u64,
+    pub stations_runs: u64,
+    pub walk_acts: u64,
+    pub walk_states: u64,
     pub fields: FieldCounts,
     pub cases: u64,
 }
@@ -120,6 +127,11 @@ impl Compare {
             link_runs: 0,
             kinds: Kinds::default(),
             station: StationCounts::default(),
+            master: MasterCounts::new(),
+            stations_acts: 0,
+            stations_runs: 0,
+            walk_acts: 0,
+            walk_states: 0,
             fields: FieldCounts::default(),
             cases: 0,
         }

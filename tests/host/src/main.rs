@@ -7,6 +7,7 @@ mod cases;
 mod compare;
 mod compare_ends;
 mod compare_fields;
+mod compare_master;
 mod compare_messages;
 mod compare_station;
 mod faults;
@@ -25,26 +26,33 @@ mod link_schedule;
 mod link_sending;
 mod make;
 mod make_ends;
+mod make_master;
 mod make_messages;
 mod make_station;
 mod real;
+mod stations_checks;
+mod stations_counts;
+mod stations_link;
+mod stations_plan;
 
 use compare::Compare;
+use compare_master::{LEAST_OF_MASTERS, MASTER_KINDS};
 use compare_station::StationCounts;
 use std::process::ExitCode;
 use std::time::Instant;
 
 const SEED: u64 = 20_261_115;
 
-const COUNTS: usize = 38;
+const COUNTS_BEFORE_MASTERS: usize = 42;
+const COUNTS: usize = COUNTS_BEFORE_MASTERS + MASTER_KINDS;
 
 /// How many inputs a whole run compares at least: calls of the functions for blocks; messages read
 /// or written; of the messages read, those whose header can be read, and those that are answers;
 /// acts of the receiver and the sender compared with the model; acts on simulated links, and runs of
 /// such links; of the acts compared, those of each kind; acts of stations, with what happened in them;
-/// calls of the field reader, with what they gave, and headers and answers found by its steps; and
-/// calls of the cases by hand.
-const LEAST: [(&str, u64); COUNTS] = [
+/// calls of the field reader, with what they gave, and headers and answers found by its steps; calls of
+/// the cases by hand; and acts on links of the two X3.28 stations, runs of such links, and walks of them.
+const LEAST: [(&str, u64); COUNTS_BEFORE_MASTERS] = [
     ("inputs", 1_000_000),
     ("messages", 2_000_000),
     ("readable headers", 500_000),
@@ -82,10 +90,19 @@ const LEAST: [(&str, u64); COUNTS] = [
     ("calls that found no field", 100_000),
     ("headers found by steps", 20_000),
     ("answers found by steps", 10_000),
-    ("calls of cases by hand", 400_000),
+    ("calls of cases by hand", 650_000),
+    ("acts on links of stations", 10_000_000),
+    ("runs of links of stations", 100_000),
+    ("acts in walks of links of stations", 10_000_000),
+    ("states in walks of links of stations", 1_000_000),
 ];
 
-/// What a group compared, in the order of `LEAST`.
+/// The least counts, those of acts of masters behind the others.
+fn least_counts() -> impl Iterator<Item = (&'static str, u64)> {
+    LEAST.into_iter().chain(LEAST_OF_MASTERS)
+}
+
+/// What a group compared, in the order of `least_counts`.
 fn counts(compare: &Compare) -> [u64; COUNTS] {
     let (kinds, fields) = (&compare.kinds, &compare.fields);
     let [none, one, three, most] = kinds.resends;
@@ -115,10 +132,15 @@ fn counts(compare: &Compare) -> [u64; COUNTS] {
         fields.headers,
         fields.answers,
         compare.cases,
+        compare.stations_acts,
+        compare.stations_runs,
+        compare.walk_acts,
+        compare.walk_states,
     ];
     let stations = station_counts(&compare.station);
-    let all = [&before_stations[..], &stations, &after_stations].concat();
-    all.try_into().expect("a count for each row of LEAST")
+    let masters = compare.master.all();
+    let all = [&before_stations[..], &stations, &after_stations, &masters].concat();
+    all.try_into().expect("a count for each of `least_counts`")
 }
 
 /// The acts of stations, and what happened in them.
@@ -153,7 +175,7 @@ fn group_seed(seed: u64, name: &str) -> u64 {
 /// A run that compared fewer of something than promised has failed, whatever they gave.
 fn too_few(compared: &[u64; COUNTS]) -> bool {
     let mut fewer = false;
-    for ((what, least), &found) in LEAST.into_iter().zip(compared) {
+    for ((what, least), &found) in least_counts().zip(compared) {
         if found < least {
             println!("FAIL {what}: {found}, and {least} are promised");
             fewer = true;
@@ -170,6 +192,10 @@ fn tally(compare: &Compare) -> String {
         (compare.acts, "acts"),
         (compare.link_acts, "acts on links"),
         (compare.station.acts, "acts of stations"),
+        (compare.master.acts, "acts of masters"),
+        (compare.stations_acts, "acts on links of stations"),
+        (compare.walk_acts, "acts in walks"),
+        (compare.walk_states, "states"),
         (compare.fields.calls, "calls of the field reader"),
         (compare.cases, "calls of cases"),
     ];
@@ -187,7 +213,7 @@ fn print_counts(compared: &[u64; COUNTS]) {
     println!(
         "{acts} acts of the receiver and the sender, and {link_acts} in {link_runs} link runs"
     );
-    for (count, (what, _)) in kinds.iter().zip(&LEAST[COUNTS - kinds.len()..]) {
+    for (count, (what, _)) in kinds.iter().zip(least_counts().skip(COUNTS - kinds.len())) {
         println!("  {count} {what}");
     }
 }

@@ -8,6 +8,9 @@ mod fields;
 mod fields_memory;
 mod headers;
 mod links;
+mod master;
+mod master_memory;
+mod master_words;
 mod memory;
 mod message_memory;
 mod message_writers;
@@ -21,6 +24,9 @@ mod states;
 mod station;
 mod station_memory;
 mod station_words;
+mod stations_links;
+mod stations_runs;
+mod stations_walk;
 mod streams;
 mod version;
 mod writers;
@@ -49,6 +55,9 @@ pub const ALL: &[(&str, Group)] = &[
     }),
     ("cases_of_the_station", |compare| {
         cases::file(compare, "station")
+    }),
+    ("cases_of_the_master", |compare| {
+        cases::file(compare, "master")
     }),
     ("valid_blocks", blocks::valid_blocks),
     ("real_messages", blocks::real_messages),
@@ -167,4 +176,23 @@ pub const ALL: &[(&str, Group)] = &[
     ("station_refusals", station_words::station_refusals),
     ("station_short_words", station_words::station_short_words),
     ("station_guard_pages", station_memory::station_guard_pages),
+    ("master_fresh", master_words::master_fresh),
+    ("master_numbers", master_words::master_numbers),
+    ("master_pairs", master_words::master_pairs),
+    ("master_histories", master::master_histories),
+    ("master_messages", master::master_messages),
+    ("master_sizes", master::master_sizes),
+    ("master_limit", master::master_limit),
+    ("master_large_words", master_words::master_large_words),
+    ("master_large_starts", master_words::master_large_starts),
+    ("master_large_parts", master_words::master_large_parts),
+    ("master_corrupt_words", master_words::master_corrupt_words),
+    ("master_small_words", master_words::master_small_words),
+    ("master_refusals", master_words::master_refusals),
+    ("master_short_words", master_words::master_short_words),
+    ("master_guard_pages", master_memory::master_guard_pages),
+    ("stations_links", stations_links::stations_links),
+    ("broken_premises", stations_links::broken_premises),
+    ("premise_runs", stations_runs::premise_runs),
+    ("stations_walk", stations_walk::stations_walk),
 ];

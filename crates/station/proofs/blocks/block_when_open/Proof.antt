@@ -27,8 +27,8 @@ returns-2 c =
     _∙_ {b = expectedBlock (a .expected) (a .held) (a .ending) (a .text .now) (a .buffer .now)} (c .before .before .take-expected .ensures)
     (rw (le-leb (a .n) 7 (before-call .before .if1 .left), eq-eqb (a .n) (a .expected) (before-call .if2 .taken)))
 
-is-duplicate-requires : tie.Need-is-duplicate-requires
-is-duplicate-requires c κs = search needs
+precedes-requires : tie.Need-precedes-requires
+precedes-requires c κs = search needs
 
 answer-requires-2 : tie.Need-answer-requires-2
 answer-requires-2 c κs = search needs
@@ -37,7 +37,7 @@ returns-3 : tie.Need-returns-3
 returns-3 c =
     let tested = c .before .before .before in
     let a = tested .before .before .before .before .args in
-    let d = sym (c .before .before .is-duplicate .ensures) ∙ c .before .if3 .taken in
+    let d = sym (c .before .before .precedes .ensures) ∙ c .before .if3 .taken in
     rw (c .answer2 .ensures, le-leb (a .n) 7 (tested .before .if1 .left), ne-eqb (a .n) (a .expected) (tested .if2 .left), d)
 
 answer-requires-3 : tie.Need-answer-requires-3
@@ -47,7 +47,7 @@ returns-4 : tie.Need-returns-4
 returns-4 c =
     let tested = c .before .before .before in
     let a = tested .before .before .before .before .args in
-    let d = sym (c .before .before .is-duplicate .ensures) ∙ c .before .if3 .left in
+    let d = sym (c .before .before .precedes .ensures) ∙ c .before .if3 .left in
     rw (c .answer3 .ensures, le-leb (a .n) 7 (tested .before .if1 .left), ne-eqb (a .n) (a .expected) (tested .if2 .left), d)
 
 pub block-when-open-spec : {M : Type 1} → statement M
@@ -59,7 +59,7 @@ block-when-open-spec =
     take-expected-requires
     same-length
     returns-2
-    is-duplicate-requires
+    precedes-requires
     answer-requires-2
     returns-3
     answer-requires-3

@@ -1,0 +1,63 @@
+// The X3.28 sending station, the master.
+ghost use mathlib.Core.Path.{_≡_};
+ghost use mathlib.Core.List.{[]};
+ghost use Rattle.lists.specs.Outcome.{called};
+ghost use Rattle.master.specs.MasterCalls.{freshMasterCall, openMasterCall, startCall, masterReplyCall, timerACall, closeCall};
+
+// A master before its first opening.
+#[no_mangle]
+pub extern "C" fn gmv_master_fresh(state: &mut [u64]) -> u64
+    ensures { λ r. ⌜ called r (now (state .exit)) [] [] ≡ freshMasterCall (now (state .entry)) ⌝ }
+{
+    master::fresh_master_words(state)
+}
+
+// The driver opened the master.
+#[no_mangle]
+pub extern "C" fn gmv_master_open(state: &mut [u64], report: &mut [u64]) -> u64
+    ensures { λ r. ⌜ called r (now (state .exit)) [] (now (report .exit)) ≡ openMasterCall (now (state .entry)) (now (report .entry)) ⌝ }
+{
+    master::opened_master_words(state, report)
+}
+
+// The driver starts a message.
+#[no_mangle]
+pub extern "C" fn gmv_master_start(
+    message_length: usize,
+    block_size: u64,
+    state: &mut [u64],
+    report: &mut [u64],
+) -> u64
+    ensures { λ r. ⌜ called r (now (state .exit)) [] (now (report .exit)) ≡ startCall «message_length» «block_size» (now (state .entry)) (now (report .entry)) ⌝ }
+{
+    master::start_words(message_length, block_size, state, report)
+}
+
+// A reply arrived.
+#[no_mangle]
+pub extern "C" fn gmv_master_reply(
+    reply: u64,
+    number: u64,
+    state: &mut [u64],
+    report: &mut [u64],
+) -> u64
+    ensures { λ r. ⌜ called r (now (state .exit)) [] (now (report .exit)) ≡ masterReplyCall reply number (now (state .entry)) (now (report .entry)) ⌝ }
+{
+    master::reply_words(reply, number, state, report)
+}
+
+// Timer A ran out.
+#[no_mangle]
+pub extern "C" fn gmv_master_timer(state: &mut [u64], report: &mut [u64]) -> u64
+    ensures { λ r. ⌜ called r (now (state .exit)) [] (now (report .exit)) ≡ timerACall (now (state .entry)) (now (report .entry)) ⌝ }
+{
+    master::timer_words(state, report)
+}
+
+// The driver closes the master.
+#[no_mangle]
+pub extern "C" fn gmv_master_close(state: &mut [u64], report: &mut [u64]) -> u64
+    ensures { λ r. ⌜ called r (now (state .exit)) [] (now (report .exit)) ≡ closeCall (now (state .entry)) (now (report .entry)) ⌝ }
+{
+    master::close_words(state, report)
+}

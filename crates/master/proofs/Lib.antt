@@ -1,0 +1,4 @@
+pub mod CallLaws
+pub mod Valid
+pub mod History
+pub mod ReadBack

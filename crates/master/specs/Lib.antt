@@ -1,0 +1,3 @@
+pub mod Master
+pub mod MasterCalls
+pub mod MasterHistory

@@ -1,0 +1,13 @@
+pub mod Queues
+pub mod Numbers
+pub mod Content
+pub mod Invariant
+pub mod MasterSteps
+pub mod SlaveSteps
+pub mod Safety
+pub mod Stored
+pub mod Ends
+pub mod Exact
+pub mod Runs
+pub mod Delivery
+pub mod Calls

@@ -1,0 +1,4 @@
+pub mod System
+pub mod Promise
+pub mod Needed
+pub mod Calls
