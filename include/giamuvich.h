@@ -56,8 +56,9 @@
  * and 11 that words encode no state, so that a stored word is bad: stop the link. But a sender also
  * answers 11 to an act that does not apply now, and that is ordinary: to a submission while it is
  * frozen, and to a timer or a block while no circuit is open, so to the next block after it gave up or
- * froze. So does a master, to a start or a closing on a closed or waiting one: an EOT of the slave may
- * have come before.
+ * froze. So does a master, to an act of its driver that does not apply now: an EOT of the slave may have
+ * come before. So does a station that is asked for a RINT, where one is pending, none may follow the last
+ * one yet, or it has closed.
  *
  * A call that is refused by 1 or 2 changes nothing: a verdict, a report or fields still hold what an
  * earlier call left there. So it is with the 11 of a reader, a receiver, a station and a master, and with
@@ -119,7 +120,8 @@ enum {
     GMV_STATE = 11       /* a reader's words encode no state, or the stream's offsets are used up; a
                             receiver's, a sender's, a station's or a master's words encode no state; a
                             sender's act does not apply now (no circuit is open, or one is, or frozen,
-                            or not frozen), or a master's (it is closed, or a block is out) */
+                            or not frozen), or a master's (it is closed, a block is out, or none is,
+                            or no RINT came), or a station's (gmv_station_interrupt) */
 };
 
 /* SB and EB of a hybrid link, where nothing else is agreed. A minimal link has these, fixed. */
@@ -651,7 +653,10 @@ uint64_t gmv_minimal_control_block(uint64_t data_limit,
 /* ---- The X3.28 receiving station ----
  *
  * The station is closed until the driver opens it. Open, it expects a block number, 1 at first and
- * 0 after 7, and holds the text of the message that is not yet complete.
+ * 0 after 7, and holds the text of the message that is not yet complete. It knows what it replied last.
+ *
+ * A driver that wants the line while messages come in asks for a reverse interrupt: RINT then goes out
+ * in place of the ACK of the next block that is appended, and the master ends when it may receive.
  *
  * The driver's duties besides memory:
  *   HOST-45  it frames the units that come from the line, checks each block, and reports each unit
@@ -660,18 +665,32 @@ uint64_t gmv_minimal_control_block(uint64_t data_limit,
  *   HOST-51  it opens it when, and only when, the other side opens its master: a station opened at
  *            another time, or not opened then, may acknowledge and drop a new block,
  *   HOST-48, HOST-49  when Timer D runs out, and when it sends an EOT of its own, it calls
- *            gmv_station_end. Timer D runs while the station is open, anew from each reply,
+ *            gmv_station_end. Timer D runs while the station is open, anew from each reply to a block,
  *   HOST-46  it lends the same message buffer, unaltered, in every call of gmv_station_block, and takes
  *            a complete message out of it before it reports the next block,
  *   HOST-52  it stores a complete message before any reply goes out; where that fails it sends EOT in
- *            place of the reply and calls gmv_station_end. The same block again completes nothing. */
+ *            place of the reply and calls gmv_station_end. The same block again completes nothing,
+ *   HOST-58  as long as no block was appended in this opening an ENQ is a bid, which it answers by ACK0
+ *            itself, opening anew; after that it is for gmv_station_bare_enq,
+ *   HOST-59  a RINT that is lost is not given again by itself, and opening forgets what was asked for: it
+ *            asks again. */
 
 /* The words of a station's state. Keep them from call to call; they need not survive a crash. */
 enum {
-    GMV_STATION_OPEN = 0,     /* 0 closed, 1 open; closed, the words below are 0 */
-    GMV_STATION_EXPECTED = 1, /* the expected block number, 0 to 7 */
-    GMV_STATION_HELD = 2,     /* the length of the text held; it stands at the buffer's start */
-    GMV_STATION_WORDS = 3
+    GMV_STATION_OPEN = 0,       /* 0 closed, 1 open; closed, the words below are 0 */
+    GMV_STATION_EXPECTED = 1,   /* the expected block number, 0 to 7 */
+    GMV_STATION_HELD = 2,       /* the length of the text held; it stands at the buffer's start */
+    GMV_STATION_LAST_REPLY = 3, /* what it replied last in this opening: GMV_REPLY_NONE, _ACK, _NAK or
+                                   _RINT. The number of the last ACK is the one just before the expected */
+    GMV_STATION_INTERRUPT = 4,  /* GMV_INTERRUPT_..: how it stands with RINT */
+    GMV_STATION_WORDS = 5
+};
+
+/* How a station stands with RINT. */
+enum {
+    GMV_INTERRUPT_NONE = 0,    /* none is asked for, and one may be */
+    GMV_INTERRUPT_PENDING = 1, /* one is asked for, and not yet given */
+    GMV_INTERRUPT_GIVEN = 2    /* one was given, and no ACK since */
 };
 
 /* What ends a good block: the ASCII characters. */
@@ -682,7 +701,8 @@ enum {
     GMV_REPLY_NONE = 0,
     GMV_REPLY_ACK = 1, /* ACK with the number GMV_STATION_REPLY_NUMBER */
     GMV_REPLY_NAK = 2,
-    GMV_REPLY_EOT = 3  /* EOT; the station has closed */
+    GMV_REPLY_EOT = 3, /* EOT; the station has closed */
+    GMV_REPLY_RINT = 5 /* RINT, the reverse interrupt: an ACK that asks for the line */
 };
 
 /* The words of a station's report. */
@@ -695,23 +715,29 @@ enum {
     GMV_STATION_REPORT_WORDS = 4
 };
 
-/* The station's acts are the five functions after gmv_station_fresh. Each returns 0 with state and
+/* The station's acts are the seven functions after gmv_station_fresh. Each returns 0 with state and
  * report written; or, in this order and with nothing changed (nor the report), 1, 2 or 11. Words
  * from GMV_STATION_WORDS and GMV_STATION_REPORT_WORDS on are not changed.
  *
  * 2: state_words below GMV_STATION_WORDS or report_words below GMV_STATION_REPORT_WORDS. The buffer
  * has no least length.
- * 11: the words encode no state. They encode one exactly if open is 1 and expected is 0 to 7; or if
- * all three are 0. gmv_station_open takes any words. That the station is closed is no refusal: it
- * then drops what is reported, replies nothing and stays closed until it is opened. Text held that
- * is longer than the buffer is no refusal either: no text fits behind it. */
+ * 11: the words encode no state, or gmv_station_interrupt does not apply now. They encode a state
+ * exactly if all five are 0; or if open is 1, expected is 0 to 7, and last reply and interrupt are one
+ * of these pairs:
+ *     GMV_REPLY_NONE     none or pending; expected is 1 and held is 0 then
+ *     GMV_REPLY_ACK      none or pending
+ *     GMV_REPLY_NAK      none, pending or given
+ *     GMV_REPLY_RINT     given
+ * gmv_station_open takes any words. That the station is closed is no refusal but at
+ * gmv_station_interrupt: it drops what is reported, replies nothing and stays closed until it is
+ * opened. Text held that is longer than the buffer is no refusal either: no text fits behind it. */
 
 /* A station before its first opening: closed. Returns 0, or 2 (state_words below GMV_STATION_WORDS)
  * with nothing changed. Words from GMV_STATION_WORDS on are not changed. */
 uint64_t gmv_station_fresh(uint64_t *state, size_t state_words);
 
-/* The driver opens the station (HOST-51). Whatever the words are, block 1 is expected then, and no
- * text is held. No reply. */
+/* The driver opens the station (HOST-51). Whatever the words are, block 1 is expected then, no text is
+ * held, no reply was given, and no RINT is asked for. No reply. */
 uint64_t gmv_station_open(uint64_t *state, size_t state_words,
                           uint64_t *report, size_t report_words);
 
@@ -723,10 +749,11 @@ uint64_t gmv_station_open(uint64_t *state, size_t state_words,
  *     E, ended by ETX                  ACK E; the text is appended, and the message is complete
  *     number just before E (7 for 0)   ACK number; dropped as a duplicate, also one ended by ETX
  *     any other number                 NAK; dropped
- * After a block that was appended, the next number is expected. A text fits if it and the text held
- * have at most buffer_length bytes together: one that just fills the buffer fits, and an empty one
- * wherever the text held does. In a buffer that is shorter than the text held (HOST-46 forbids one)
- * none fits.
+ * Where a RINT is pending, the ACK E of the third and the fourth line is RINT; the ACK of a duplicate
+ * never is. After a block that was appended, the next number is expected. A text fits if it and the
+ * text held have at most buffer_length bytes together: one that just fills the buffer fits, and an
+ * empty one wherever the text held does. In a buffer that is shorter than the text held (HOST-46
+ * forbids one) none fits.
  *
  * The text goes into the buffer behind the text held before the call, and these text_length bytes
  * are all that changes of the buffer. A block that is dropped or does not fit changes no byte of
@@ -742,13 +769,13 @@ uint64_t gmv_station_block(uint64_t number, uint64_t ending,
                            uint64_t *state, size_t state_words,
                            uint64_t *report, size_t report_words);
 
-/* A bad block was received: one that fails the driver's checks. An open station drops it and
- * replies NAK; its state stays equal. */
+/* A bad block was received: one that fails the driver's checks, or another damaged unit. An open
+ * station drops it and replies NAK; but for the last reply its state stays equal. */
 uint64_t gmv_station_bad(uint64_t *state, size_t state_words,
                          uint64_t *report, size_t report_words);
 
-/* A block ended by ENQ was received. An open station drops it and replies NAK; its state stays
- * equal. */
+/* A block ended by ENQ was received; a bare ENQ is for gmv_station_bare_enq. An open station drops it
+ * and replies NAK; but for the last reply its state stays equal. */
 uint64_t gmv_station_enquiry(uint64_t *state, size_t state_words,
                              uint64_t *report, size_t report_words);
 
@@ -756,6 +783,20 @@ uint64_t gmv_station_enquiry(uint64_t *state, size_t state_words,
  * forgets the text held. No reply. (After GMV_REPLY_EOT it has closed already.) */
 uint64_t gmv_station_end(uint64_t *state, size_t state_words,
                          uint64_t *report, size_t report_words);
+
+/* A bare ENQ was received, the master's enquiry (HOST-58). An open station replies what it replied last
+ * in this opening, to whatever it was: ACK with its number, NAK or RINT; NAK if it replied nothing yet,
+ * which is the last reply then. All else stays equal: a RINT that is pending stays so. */
+uint64_t gmv_station_bare_enq(uint64_t *state, size_t state_words,
+                              uint64_t *report, size_t report_words);
+
+/* The driver asks for a reverse interrupt: the next block that is appended is answered RINT in place of
+ * ACK (GMV_INTERRUPT_PENDING until then, and GMV_INTERRUPT_GIVEN until the next ACK). No reply. It stays
+ * pending through NAKs, duplicates and enquiries, also between messages, and is gone when the station
+ * closes or is opened.
+ * 11: the station is closed, one is pending, or no ACK was given since the last RINT. */
+uint64_t gmv_station_interrupt(uint64_t *state, size_t state_words,
+                               uint64_t *report, size_t report_words);
 
 /* ---- The X3.28 sending station, the master ----
  *
@@ -768,6 +809,10 @@ uint64_t gmv_station_end(uint64_t *state, size_t state_words,
  * The message stays with the driver. A report names the part of it to send, by offset and length;
  * the driver frames it. The state has no text, and no function looks at the text.
  *
+ * A RINT of the slave is an ACK of the block out, and asks for the line. The driver may go on as long as
+ * it must. When it may receive, it says so, and the master ends with EOT as soon as no block is out: the
+ * opening is reversed. The rest of the message is not sent, and the slave forgets what it has of it.
+ *
  * What is proved of a master and a station over a line that loses and damages units is in
  * docs/X328.md. The driver's duties besides memory:
  *   HOST-53  it opens the master when it has become master, and only when nothing of an earlier opening
@@ -778,18 +823,29 @@ uint64_t gmv_station_end(uint64_t *state, size_t state_words,
  *   HOST-56  Timer A runs while a block is out, anew from each send. It is longer than the slowest
  *            reply, and goes on where a reply changes nothing,
  *   HOST-57  it takes for delivered what is reported done, and nothing else. A message that is not may
- *            have arrived all the same: sent again, it may be there twice. */
+ *            have arrived all the same: sent again, it may be there twice,
+ *   HOST-60  a bid begins with EOT; and where the other side may still hold text, after a crash, a failure,
+ *            a reversal and a hang-up, it is silent for longer than that side's Timer D first: else the ENQ
+ *            may be answered as an enquiry, by an ACK0 that looks like the grant,
+ *   HOST-61  it enquires only with a block numbered 2 to 6 out, and once for each send: a slave that is back
+ *            in control mode takes the ENQ for a bid, and its ACK0 means something to a block 0 or 1, and
+ *            may come when block 7 has given way to block 0. */
 
 /* The words of a master's state. Keep them from call to call; they need not survive a crash. */
 enum {
     GMV_MASTER_PHASE = 0,          /* GMV_MASTER_CLOSED, _IDLE or _WAITING; unless it is waiting, words 1
-                                      to 4 are 0 */
+                                      to 4, 8 and 9 are 0; closed, 6 and 7 as well */
     GMV_MASTER_MESSAGE_LENGTH = 1, /* the length of the message that is being sent */
     GMV_MASTER_BLOCK_SIZE = 2,     /* its block size, 1 or more */
     GMV_MASTER_OFFSET = 3,         /* where in the message the block out begins */
     GMV_MASTER_RESENDS = 4,        /* how often the block out was sent again, 0 to 5 */
     GMV_MASTER_COUNT = 5,          /* the blocks acknowledged since the opening; kept when it has ended */
-    GMV_MASTER_WORDS = 6
+    GMV_MASTER_LAST_REPLY = 6,     /* the last undamaged reply of this opening, whatever became of it:
+                                      GMV_REPLY_NONE, _ACK, _NAK or _RINT */
+    GMV_MASTER_INTERRUPTED = 7,    /* 1: a RINT came in this opening; else 0 */
+    GMV_MASTER_ENQUIRED = 8,       /* 1: a block is out, and what was sent last is ENQ; else 0 */
+    GMV_MASTER_MAY_RECEIVE = 9,    /* 1: it ends when the block out is acknowledged; else 0 */
+    GMV_MASTER_WORDS = 10
 };
 
 /* The phases. */
@@ -799,23 +855,25 @@ enum {
     GMV_MASTER_WAITING = 2 /* open, a block is out */
 };
 
-/* The replies to a master are those of a station's report, GMV_REPLY_ACK, _NAK and _EOT, and one more.
- * GMV_REPLY_NONE is none: where a station replies nothing, nothing is reported. */
+/* The replies to a master are those of a station's report, GMV_REPLY_ACK, _NAK, _EOT and _RINT, and one
+ * more. GMV_REPLY_NONE is none: where a station replies nothing, nothing is reported. */
 enum { GMV_REPLY_DAMAGED = 4 /* a reply that fails the driver's checks */ };
 
 /* What to send now. */
 enum {
     GMV_MASTER_SEND_NOTHING = 0,
     GMV_MASTER_SEND_BLOCK = 1,
-    GMV_MASTER_SEND_EOT = 2
+    GMV_MASTER_SEND_EOT = 2,
+    GMV_MASTER_SEND_ENQ = 3 /* a bare ENQ */
 };
 
 /* How an opening ended. */
 enum {
-    GMV_MASTER_END_NONE = 0,     /* it did not end by this act */
-    GMV_MASTER_END_FAILED = 1,   /* after five resends there was cause for another; EOT is to be sent */
-    GMV_MASTER_END_BY_SLAVE = 2, /* EOT came; nothing is to be sent */
-    GMV_MASTER_END_BY_DRIVER = 3 /* gmv_master_close; EOT is to be sent */
+    GMV_MASTER_END_NONE = 0,      /* it did not end by this act */
+    GMV_MASTER_END_FAILED = 1,    /* after five resends there was cause for another; EOT is to be sent */
+    GMV_MASTER_END_BY_SLAVE = 2,  /* EOT came; nothing is to be sent */
+    GMV_MASTER_END_BY_DRIVER = 3, /* gmv_master_close; EOT is to be sent */
+    GMV_MASTER_END_REVERSED = 4   /* the driver may receive, and no block is out; EOT is to be sent */
 };
 
 /* The words of a master's report. */
@@ -833,16 +891,21 @@ enum {
     GMV_MASTER_REPORT_WORDS = 10
 };
 
-/* The master's acts are the five functions after gmv_master_fresh. Each returns 0 with state and
+/* The master's acts are the seven functions after gmv_master_fresh. Each returns 0 with state and
  * report written; or, in this order and with nothing changed (nor the report), 1, 2 or 11. Words
  * from GMV_MASTER_WORDS and GMV_MASTER_REPORT_WORDS on are not changed. Where an act changes nothing
  * of the master, which is no refusal, the report says to send nothing, and tells count and resends.
  *
  * 2: state_words below GMV_MASTER_WORDS or report_words below GMV_MASTER_REPORT_WORDS.
  * 11: the words encode no state (gmv_master_open takes any words), or the act does not apply now. They
- * encode a state exactly if the phase is closed or idle and words 1 to 4 are 0, whatever the count; or
- * if the phase is waiting, the block size is 1 or more, the resends are 0 to 5, and the offset is 0 or
- * below the message's length (it need not be a multiple of the block size). */
+ * encode a state exactly if one of these is so:
+ *     closed     all words but the count are 0, whatever the count
+ *     idle       words 1 to 4, 8 and 9 are 0, and words 6 and 7 go together
+ *     waiting    the block size is 1 or more, the resends are 0 to 5, the offset is 0 or below the
+ *                message's length (it need not be a multiple of the block size), words 6 and 7 go
+ *                together, word 8 is 0 or 1, and word 9 is 0, or 1 where word 7 is 1
+ * Words 6 and 7 go together where the last reply is ACK or NAK and word 7 is 0 or 1; or it is RINT and
+ * word 7 is 1; or it is GMV_REPLY_NONE and word 7, the count and the offset are 0. */
 
 /* A master before its first opening: closed, count 0. Returns 0, or 2 (state_words below
  * GMV_MASTER_WORDS) with nothing changed. Words from GMV_MASTER_WORDS on are not changed. */
@@ -861,24 +924,33 @@ uint64_t gmv_master_start(size_t message_length, uint64_t block_size,
                           uint64_t *report, size_t report_words);
 
 /* A reply arrived: GMV_REPLY_.., and with an ACK its number as the driver read it, any number (with the
- * others it is not looked at). By the first line that applies:
+ * others it is not looked at). A RINT is *doubtful* if the last undamaged reply before it in this opening
+ * was a RINT too, whatever was sent last; or was a NAK, and what was sent last is ENQ. Undamaged replies
+ * are ACKs with any number, NAKs and RINTs, also those that came with no block out. By the first line
+ * that applies:
  *     the master is closed                   nothing changes
  *     EOT                                    the opening ends (GMV_MASTER_END_BY_SLAVE), the block out
  *                                            counted as not accepted; nothing is to be sent
- *     no block is out                        nothing changes
- *     ACK, number of the block out           it is acknowledged: the next block is to be sent, or the
- *                                            message is done
- *     ACK, number just before; NAK           the block is to be sent again; after five resends EOT,
- *                                            and the opening ends (GMV_MASTER_END_FAILED)
- *     ACK, any other number; damaged         nothing changes
- * Just before is 7 for 0, and 0 for 1, also for the opening's first block.
- * The count ends at 2^64 - 1: from there on an ACK with the number of the block out changes nothing.
- * 1: reply is none of the four. */
+ *     no block is out                        nothing changes but words 6 and 7
+ *     ACK, number of the block out;          it is acknowledged: the next block is to be sent, or the
+ *     RINT that is not doubtful              message is done. Where word 9 is 1: EOT is to be sent, and
+ *                                            the opening ends (GMV_MASTER_END_REVERSED); if it was the
+ *                                            message's last block, the message is done as well
+ *     ACK, number just before; NAK;          the block is to be sent again; after five resends EOT,
+ *     RINT that is doubtful                  and the opening ends (GMV_MASTER_END_FAILED)
+ *     ACK, any other number                  nothing changes but word 6
+ *     damaged                                nothing changes
+ * Just before is 7 for 0, and 0 for 1, also for the opening's first block. While the master is open each
+ * undamaged reply is noted in word 6, and a RINT in word 7.
+ * The count ends at 2^64 - 1: from there on an ACK with the number of the block out, or a RINT that is
+ * not doubtful, changes nothing but words 6 and 7.
+ * 1: reply is none of the five. */
 uint64_t gmv_master_reply(uint64_t reply, uint64_t number,
                           uint64_t *state, size_t state_words,
                           uint64_t *report, size_t report_words);
 
-/* Timer A ran out: as a NAK. Closed or with no block out nothing changes. */
+/* Timer A ran out: the block out is to be sent again, as on a NAK, also where ENQ was sent last. Closed or
+ * with no block out nothing changes. It is no reply: word 6 stays. */
 uint64_t gmv_master_timer(uint64_t *state, size_t state_words,
                           uint64_t *report, size_t report_words);
 
@@ -886,6 +958,20 @@ uint64_t gmv_master_timer(uint64_t *state, size_t state_words,
  * 11: the master is closed, or a block is out. */
 uint64_t gmv_master_close(uint64_t *state, size_t state_words,
                           uint64_t *report, size_t report_words);
+
+/* The driver enquires: a bare ENQ is to be sent, by which the slave gives its last reply again. It is no
+ * resend, has no limit and touches no count.
+ * 11: the master is closed, or no block is out. */
+uint64_t gmv_master_enquire(uint64_t *state, size_t state_words,
+                            uint64_t *report, size_t report_words);
+
+/* The driver may receive. With no block out EOT is to be sent, and the opening ends at once
+ * (GMV_MASTER_END_REVERSED). With a block out it ends when that block is acknowledged, and nothing is to
+ * be sent now; said twice, nothing changes. It is not taken back. (At a count of 2^64 - 1 no block is
+ * acknowledged any more.)
+ * 11: the master is closed, or no RINT came in this opening. */
+uint64_t gmv_master_may_receive(uint64_t *state, size_t state_words,
+                                uint64_t *report, size_t report_words);
 
 #ifdef __cplusplus
 }

@@ -14,7 +14,7 @@ const LIMIT: f64 = 2.0;
 const BLOCK_SIZE: u64 = 245;
 const CALLS: usize = 5_000;
 
-const STATE_WORDS: usize = 6;
+const STATE_WORDS: usize = 10;
 const REPORT_WORDS: usize = 10;
 const REPORT_SEND: usize = 0;
 const REPORT_DONE: usize = 6;
@@ -23,6 +23,13 @@ const IDLE: u64 = 1;
 const WAITING: u64 = 2;
 const ACK: u64 = 1;
 const NAK: u64 = 2;
+const RINT: u64 = 5;
+
+/// The last four words: the last reply, whether a RINT came, whether ENQ was sent last, whether the
+/// driver may receive.
+const AFTER_ACK: [u64; 4] = [ACK, 0, 0, 0];
+const AFTER_RINT: [u64; 4] = [RINT, 1, 0, 0];
+const MAY_RECEIVE: [u64; 4] = [ACK, 1, 0, 1];
 
 mod raw {
     extern "C" {
@@ -48,6 +55,18 @@ mod raw {
             report: *mut u64,
             report_words: usize,
         ) -> u64;
+        pub fn gmv_master_enquire(
+            state: *mut u64,
+            state_words: usize,
+            report: *mut u64,
+            report_words: usize,
+        ) -> u64;
+        pub fn gmv_master_may_receive(
+            state: *mut u64,
+            state_words: usize,
+            report: *mut u64,
+            report_words: usize,
+        ) -> u64;
     }
 }
 
@@ -57,17 +76,27 @@ enum Step {
     Acknowledged,
     Done,
     Nak,
+    Rint,
+    Refused,
+    Reversed,
     Timer,
     Failed,
+    Enquiry,
+    Leave,
 }
 
-const STEPS: [(Step, &str); 6] = [
+const STEPS: [(Step, &str); 11] = [
     (Step::Start, "gmv_master_start"),
     (Step::Acknowledged, "gmv_master_reply, an ACK"),
     (Step::Done, "gmv_master_reply, the last ACK"),
     (Step::Nak, "gmv_master_reply, a NAK"),
+    (Step::Rint, "gmv_master_reply, a RINT"),
+    (Step::Refused, "gmv_master_reply, a RINT after a RINT"),
+    (Step::Reversed, "gmv_master_reply, an ACK that reverses"),
     (Step::Timer, "gmv_master_timer"),
     (Step::Failed, "gmv_master_timer, the sixth"),
+    (Step::Enquiry, "gmv_master_enquire"),
+    (Step::Leave, "gmv_master_may_receive"),
 ];
 
 /// An act on a message of one length: the words it begins from, and those it left.
@@ -82,12 +111,20 @@ struct Side {
 
 impl Side {
     fn new(step: Step, length: u64) -> Side {
-        let before = match step {
+        let first = match step {
             Step::Start => [IDLE, 0, 0, 0, 0, 2],
             Step::Done => [WAITING, length, BLOCK_SIZE, length - 1, 0, 2],
             Step::Failed => [WAITING, length, BLOCK_SIZE, 0, 5, 2],
             _ => [WAITING, length, BLOCK_SIZE, 0, 0, 2],
         };
+        let last = match step {
+            Step::Refused | Step::Leave => AFTER_RINT,
+            Step::Reversed => MAY_RECEIVE,
+            _ => AFTER_ACK,
+        };
+        let mut before = [0; STATE_WORDS];
+        before[..first.len()].copy_from_slice(&first);
+        before[first.len()..].copy_from_slice(&last);
         Side {
             step,
             length,
@@ -112,14 +149,21 @@ impl Side {
                     report,
                     REPORT_WORDS,
                 ),
-                Step::Acknowledged | Step::Done => {
+                Step::Acknowledged | Step::Done | Step::Reversed => {
                     raw::gmv_master_reply(ACK, 3, state, STATE_WORDS, report, REPORT_WORDS)
                 }
                 Step::Nak => {
                     raw::gmv_master_reply(NAK, 0, state, STATE_WORDS, report, REPORT_WORDS)
                 }
+                Step::Rint | Step::Refused => {
+                    raw::gmv_master_reply(RINT, 0, state, STATE_WORDS, report, REPORT_WORDS)
+                }
                 Step::Timer | Step::Failed => {
                     raw::gmv_master_timer(state, STATE_WORDS, report, REPORT_WORDS)
+                }
+                Step::Enquiry => raw::gmv_master_enquire(state, STATE_WORDS, report, REPORT_WORDS),
+                Step::Leave => {
+                    raw::gmv_master_may_receive(state, STATE_WORDS, report, REPORT_WORDS)
                 }
             }
         }
@@ -132,16 +176,22 @@ impl Side {
         }
     }
 
-    /// What the act is to leave: a block or EOT to send, or the message done.
+    /// What the act is to leave: a block, EOT or ENQ to send, the message done, or the opening ended.
     fn did_its_work(&self) -> bool {
         let sends = match self.step {
-            Step::Done => 0,
-            Step::Failed => 2,
+            Step::Done | Step::Leave => 0,
+            Step::Failed | Step::Reversed => 2,
+            Step::Enquiry => 3,
             _ => 1,
+        };
+        let end = match self.step {
+            Step::Failed => 1,
+            Step::Reversed => 4,
+            _ => 0,
         };
         self.report[REPORT_SEND] == sends
             && (self.report[REPORT_DONE] == 1) == (self.step == Step::Done)
-            && (self.report[REPORT_END] == 1) == (self.step == Step::Failed)
+            && self.report[REPORT_END] == end
     }
 }
 

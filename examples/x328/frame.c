@@ -44,7 +44,7 @@ static size_t frame_control(uint8_t *frame, const char *prefix, uint8_t control)
     return length + 2;
 }
 
-size_t frame_bid(uint8_t *frame)
+size_t frame_enq(uint8_t *frame)
 {
     return frame_control(frame, "", ENQ);
 }
@@ -59,13 +59,30 @@ size_t frame_nak(uint8_t *frame, const char *prefix)
     return frame_control(frame, prefix, NAK);
 }
 
-size_t frame_ack(uint8_t *frame, const char *prefix, unsigned number)
+static size_t frame_dle(uint8_t *frame, const char *prefix, uint8_t character)
 {
     const size_t length = frame_control(frame, prefix, DLE);
 
-    frame[length - 1] = (uint8_t)('0' + number % 8);
+    frame[length - 1] = character;
     frame[length] = CR;
     return length + 1;
+}
+
+size_t frame_ack(uint8_t *frame, const char *prefix, unsigned number)
+{
+    return frame_dle(frame, prefix, (uint8_t)('0' + number % 8));
+}
+
+size_t frame_rint(uint8_t *frame, const char *prefix)
+{
+    return frame_dle(frame, prefix, INTERRUPT);
+}
+
+size_t frame_bid(uint8_t *frame)
+{
+    const size_t length = frame_eot(frame);
+
+    return length + frame_enq(frame + length);
 }
 
 size_t first_unframable(const uint8_t *text, size_t length)

@@ -194,14 +194,14 @@ void line_write(line *line, uint8_t *bytes, size_t length)
     line->last_byte = now();
 }
 
-long long line_silent_at(const line *line)
+long long line_silent_at(const line *line, long silence)
 {
-    return line->last_byte + line->settings->silence;
+    return line->last_byte + silence;
 }
 
-int line_is_silent(const line *line)
+int line_is_silent(const line *line, long silence)
 {
-    return now() >= line_silent_at(line) && !line_wait(line, now());
+    return now() >= line_silent_at(line, silence) && !line_wait(line, now());
 }
 
 void line_flush(line *line)

@@ -32,12 +32,11 @@ ssize_t line_read(line *line, uint8_t *part, size_t size);
  * the rest: the other side sees a damaged unit. */
 void line_write(line *line, uint8_t *bytes, size_t length);
 
-/* Whether no byte has come or gone for so long that no reply to an earlier unit can still come, and none waits to be
- * read. */
-int line_is_silent(const line *line);
+/* Whether no byte has come or gone for so many milliseconds, and none waits to be read. */
+int line_is_silent(const line *line, long silence);
 
 /* When it will be, if none comes or goes. */
-long long line_silent_at(const line *line);
+long long line_silent_at(const line *line, long silence);
 
 /* Drops what has come and was not read, and what has not gone. */
 void line_flush(line *line);

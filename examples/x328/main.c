@@ -15,7 +15,7 @@ static int usage(void)
             "PATH: of the terminal line\n"
             "OPTIONS: --timer-a, --timer-b, --timer-d, --retry, --recovery, --silence MILLISECONDS, --bids M,\n"
             "  --block-size SIZE, --message-limit BYTES, --parity none|odd|software, --speed 1200|2400|4800|9600,\n"
-            "  --prefix TEXT\n");
+            "  --prefix TEXT, --enquiry no|yes\n");
     return 2;
 }
 

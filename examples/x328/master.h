@@ -14,6 +14,7 @@ typedef struct {
     line *line;
     outbox outbox;
     uint64_t state[GMV_MASTER_WORDS], report[GMV_MASTER_REPORT_WORDS];
+    int is_under_way;  /* the outbox's message: started, and not done */
     long long timer_a; /* when it runs out */
     uint8_t frame[MOST_BLOCK];
 } master;
@@ -27,7 +28,7 @@ int master_open(master *master);
 /* A unit came. Those that are no reply are dropped. */
 int master_take(master *master, const unit *unit);
 
-/* Timer A ran out. */
+/* Timer A ran out: the block goes again, or an enquiry first. */
 int master_timer(master *master);
 
 #endif

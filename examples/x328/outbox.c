@@ -15,14 +15,17 @@
 
 enum { NAME_KEPT = 200 /* bytes of a name, so that there are some left for a number */ };
 
+#define URGENT "stat"
+#define ORDINARY "spool"
+
 /* What is found may be no more than visible: a message that left the spool, and comes back at a power cut, is sent
  * again. */
 void outbox_begin(outbox *outbox, const char *folder, const settings *settings)
 {
-    static const char *const names[] = {"spool", "sent", "refused"};
+    static const char *const names[] = {URGENT, ORDINARY, "sent", "refused"};
     char path[PATH_LENGTH];
 
-    for (int i = 0; i < 3; i++) {
+    for (int i = 0; i < 4; i++) {
         path_of(path, folder, names[i]);
         sync_folder(path);
     }
@@ -37,11 +40,18 @@ void outbox_end(outbox *outbox)
     free(outbox->message);
 }
 
+int outbox_has_urgent(const outbox *outbox)
+{
+    waiting_file first;
+
+    return waiting_first(outbox->folder, URGENT, &first);
+}
+
 int outbox_has_messages(const outbox *outbox)
 {
-    spool_file first;
+    waiting_file first;
 
-    return spool_first(outbox->folder, &first);
+    return outbox_has_urgent(outbox) || waiting_first(outbox->folder, ORDINARY, &first);
 }
 
 static int has_eighth_bit(const uint8_t *bytes, size_t length)
@@ -64,21 +74,32 @@ static uint64_t refusal_of(const outbox *outbox)
     return GMV_OK;
 }
 
-int outbox_take(outbox *outbox)
+static int take_first(outbox *outbox, const char *folder)
 {
     require_same_folder(outbox->folder);
-    while (spool_first(outbox->folder, &outbox->file)) {
+    while (waiting_first(outbox->folder, folder, &outbox->file)) {
         const ssize_t length =
-            spool_read(outbox->folder, &outbox->file, outbox->message, outbox->settings->message_limit + 1);
+            waiting_read(outbox->folder, &outbox->file, outbox->message, outbox->settings->message_limit + 1);
 
         if (length < 0)
             return 0; /* the host took it back */
         outbox->length = (size_t)length;
         if (refusal_of(outbox) == GMV_OK)
             return 1;
-        spool_refuse(outbox->folder, &outbox->file, refusal_of(outbox));
+        waiting_refuse(outbox->folder, &outbox->file, refusal_of(outbox));
     }
     return 0;
+}
+
+int outbox_take_urgent(outbox *outbox)
+{
+    outbox->urgent = take_first(outbox, URGENT);
+    return outbox->urgent;
+}
+
+int outbox_take(outbox *outbox)
+{
+    return outbox_take_urgent(outbox) || take_first(outbox, ORDINARY);
 }
 
 /* Where that cannot be told, no other name can be tried for ever. */
@@ -109,14 +130,12 @@ static void free_name(char *name, size_t size, const char *folder, const char *w
 /* A crash between the two leaves it in both: it is sent again. A file that the host put there meanwhile stays. */
 void outbox_done(const outbox *outbox)
 {
-    char sent[PATH_LENGTH], spool[PATH_LENGTH], name[SPOOL_NAME];
+    char sent[PATH_LENGTH], name[WAITING_NAME];
 
     require_same_folder(outbox->folder);
     path_of(sent, outbox->folder, "sent");
-    path_of(spool, outbox->folder, "spool");
     free_name(name, sizeof name, sent, outbox->file.name);
     if (write_durably(sent, name, outbox->message, outbox->length) != 0)
         fail("cannot write %s/%s: %s", sent, name, strerror(errno));
-    spool_remove(outbox->folder, &outbox->file);
-    sync_folder(spool);
+    waiting_remove(outbox->folder, &outbox->file);
 }

@@ -18,6 +18,11 @@
 #define FAILED \
     "x328: %s failed, a block was sent six times, %llu acknowledged: it may have arrived, and is sent again\n"
 #define ENDED_BY_SLAVE "x328: the other side ended %s by EOT, %llu acknowledged: it is sent again\n"
+#define ENQUIRED "x328: timer A: no reply to a block of %s, enquired\n"
+#define INTERRUPT_HEARD "x328: RINT came while %s is sent: the other side asks for the line\n"
+#define REVERSED "x328: the line is turned round, %llu acknowledged: EOT, the other side may send\n"
+#define REVERSED_HALFWAY \
+    "x328: the line is turned round in the middle of %s, %llu acknowledged: EOT, it is sent again from its first block\n"
 #define REFUSED_FILE "x328: %s is refused by %llu\n"
 #define BAD_UNIT "x328: a unit came damaged or out of turn: NAK\n"
 #define NOT_STORED "x328: a message could not be stored: %s: EOT in place of its ACK\n"
@@ -25,12 +30,17 @@
 #define BLOCK_LOST "x328: timer B: a block did not end, discarded\n"
 #define MASTER_LOST "x328: timer D: nothing more came, %llu bytes of a message are forgotten\n"
 #define BROKEN_OFF "x328: a message was broken off, %llu bytes of it are forgotten\n"
-#define BID_IN_OPENING "x328: a bid came before the opening had ended: EOT, %llu bytes of a message are forgotten\n"
+#define ENQUIRY "x328: ENQ came in an opening: the last reply again\n"
+#define INTERRUPT_ASKED "x328: %s waits in stat/: a reverse interrupt is asked for\n"
+#define INTERRUPT_GIVEN "x328: RINT in place of an ACK: the other side is asked for the line\n"
+#define NO_INTERRUPT \
+    "x328: %s was not taken in %llu openings: no reverse interrupt for it until a message has come in\n"
 #define REPEATED "x328: %llu times more since %s: %s\n"
 
 enum { LINE_LENGTH = 1024, FIRST_FOLD = 60000, MOST_FOLD = 3600000 /* milliseconds */ };
 enum sentence {
-    LIFE, LINES, SILENCE, BIDS, REPLIES, REFUSALS, FAILURES, FILES, UNITS, STORING, BLOCKS, MASTERS,
+    LIFE, LINES, SILENCE, BIDS, REPLIES, ENQUIRIES, REFUSALS, FAILURES, RINTS_HEARD, REVERSALS, FILES, UNITS, STORING,
+    BLOCKS, MASTERS, RINTS_ASKED, RINTS_GIVEN, RINTS_REFRAINED,
     SENTENCES
 };
 
@@ -133,6 +143,11 @@ void say_no_reply(const char *name)
     say(REPLIES, NO_REPLY, name);
 }
 
+void say_enquired(const char *name)
+{
+    say(ENQUIRIES, ENQUIRED, name);
+}
+
 void say_block_refused(const char *name)
 {
     say(REFUSALS, BLOCK_REFUSED, name);
@@ -146,6 +161,19 @@ void say_failed(const char *name, uint64_t blocks)
 void say_ended_by_slave(const char *name, uint64_t blocks)
 {
     say(FAILURES, ENDED_BY_SLAVE, name, (unsigned long long)blocks);
+}
+
+void say_interrupt_heard(const char *name)
+{
+    say(RINTS_HEARD, INTERRUPT_HEARD, name);
+}
+
+void say_reversed(const char *name, uint64_t blocks)
+{
+    if (name == NULL)
+        say(REVERSALS, REVERSED, (unsigned long long)blocks);
+    else
+        say(REVERSALS, REVERSED_HALFWAY, name, (unsigned long long)blocks);
 }
 
 void say_refused_file(const char *name, uint64_t number)
@@ -183,7 +211,22 @@ void say_broken_off(uint64_t held)
     say(MASTERS, BROKEN_OFF, (unsigned long long)held);
 }
 
-void say_bid_in_opening(uint64_t held)
+void say_enquiry(void)
 {
-    say(MASTERS, BID_IN_OPENING, (unsigned long long)held);
+    say(ENQUIRIES, ENQUIRY);
+}
+
+void say_interrupt_asked(const char *name)
+{
+    say(RINTS_ASKED, INTERRUPT_ASKED, name);
+}
+
+void say_interrupt_given(void)
+{
+    say(RINTS_GIVEN, INTERRUPT_GIVEN);
+}
+
+void say_no_interrupt(const char *name, uint64_t openings)
+{
+    say(RINTS_REFRAINED, NO_INTERRUPT, name, (unsigned long long)openings);
 }

@@ -25,6 +25,7 @@ enum {
 };
 
 static const char *const parities[] = {"none", "odd", "software"};
+static const char *const answers[] = {"no", "yes"};
 
 static int number_of(const char *word, uint64_t least, uint64_t most, uint64_t *number)
 {
@@ -47,14 +48,26 @@ static int time_of(const char *word, long *time)
     return 0;
 }
 
+/* Which of the words it is, or -1. */
+static int index_of(const char *word, const char *const *words, int count)
+{
+    while (--count >= 0 && strcmp(word, words[count]) != 0)
+        continue;
+    return count;
+}
+
 static int parity_of(const char *word, enum parity *parity)
 {
-    for (int i = PARITY_NONE; i <= PARITY_SOFTWARE; i++)
-        if (strcmp(word, parities[i]) == 0) {
-            *parity = (enum parity)i;
-            return 0;
-        }
-    return -1;
+    const int index = index_of(word, parities, 3);
+
+    *parity = (enum parity)index;
+    return index < 0 ? -1 : 0;
+}
+
+static int answer_of(const char *word, int *answer)
+{
+    *answer = index_of(word, answers, 2);
+    return *answer < 0 ? -1 : 0;
 }
 
 /* No control character is in a prefix, and with seven bits no byte of eight. */
@@ -98,6 +111,8 @@ static int option_of(settings *settings, const char *option, const char *value)
         return parity_of(value, &settings->parity);
     if (strcmp(option, "--prefix") == 0)
         return prefix_of(value, &settings->prefix);
+    if (strcmp(option, "--enquiry") == 0)
+        return answer_of(value, &settings->enquiry);
     return strcmp(option, "--speed") == 0 ? speed_of(value, &settings->speed) : -1;
 }
 
@@ -138,9 +153,9 @@ void settings_text(const settings *settings, char *text, size_t size)
 {
     snprintf(text, size,
              "%.100s, %s, timer A %ld, timer B %ld, timer D %ld, retry %ld, recovery %ld, silence %ld, bids %llu, "
-             "block size %llu, message limit %llu, parity %s",
+             "block size %llu, message limit %llu, parity %s, enquiry %s",
              settings->path, settings->primary ? "primary" : "secondary", settings->timer_a, settings->timer_b,
              settings->timer_d, settings->retry, settings->recovery, settings->silence,
              (unsigned long long)settings->bids, (unsigned long long)settings->block_size,
-             (unsigned long long)settings->message_limit, parities[settings->parity]);
+             (unsigned long long)settings->message_limit, parities[settings->parity], answers[settings->enquiry]);
 }

@@ -18,7 +18,8 @@ typedef struct {
     uint64_t block_size, message_limit;
     uint64_t speed;                      /* bits a second; 0: as the device has it */
     enum parity parity;
-    const char *prefix;                  /* before each ACK and NAK of this station */
+    const char *prefix;                  /* before each ACK, NAK and RINT of this station */
+    int enquiry;                         /* on Timer A first ENQ, and then the block */
 } settings;
 
 /* Reads PATH, primary or secondary, and the options. Returns 0, or -1 where they are not what the usage says. */

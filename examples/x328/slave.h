@@ -23,12 +23,15 @@ typedef struct {
 void slave_begin(slave *slave, const char *folder, const settings *settings, line *line);
 void slave_end(slave *slave);
 
-/* A bid came. The station is opened, and the line is granted by ACK 0; or, where an opening has not ended, that one is
- * ended by EOT, and the next bid is granted. Returns whether this station is slave now. */
-int slave_bid(slave *slave);
+/* A bid came: the station is opened, and the line is granted by ACK 0. */
+void slave_grant(slave *slave);
 
 /* A unit came. Those that are no master's are dropped. Returns whether this station is still slave. */
 int slave_take(slave *slave, const unit *unit);
+
+/* Whether a reverse interrupt may be asked for now; and asking for it, for the message of that name. */
+int slave_may_interrupt(const slave *slave);
+void slave_interrupt(slave *slave, const char *name);
 
 /* Timer D ran out, or the line has hung up: this station is no slave any more. */
 void slave_timer(slave *slave);

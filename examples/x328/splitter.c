@@ -73,7 +73,7 @@ static void take_between(splitter *splitter, uint8_t byte, int damaged)
         begin(splitter, BEFORE_TERM, UNIT_EOT, damaged || any_prefix);
         break;
     case ENQ:
-        begin(splitter, BEFORE_TERM, UNIT_BID, damaged || any_prefix);
+        begin(splitter, BEFORE_TERM, UNIT_ENQ, damaged || any_prefix);
         break;
     default:
         take_prefix(splitter, byte, damaged);
@@ -95,10 +95,11 @@ static void take_in_block(splitter *splitter, uint8_t byte)
     }
 }
 
-/* RINT (DLE and <) is no unit yet, and refused as any other character. */
 static void take_digit(splitter *splitter, uint8_t byte)
 {
-    if (byte < '0' || byte > '7')
+    if (byte == INTERRUPT)
+        splitter->kind = UNIT_RINT;
+    else if (byte < '0' || byte > '7')
         splitter->refused = 1;
     splitter->number = byte & 7u;
     splitter->state = BEFORE_TERM;

@@ -2,9 +2,9 @@
  *
  * A block lasts from STX to the first ETB, ETX or ENQ, whatever stands between, the control characters of a text too.
  * Only then its text length is compared. After ETB or ETX come two check characters and TERM, after ENQ TERM. A reply
- * is DLE and a digit, or NAK; with EOT and the bid ENQ, TERM follows each. Whatever byte stands where a check
+ * is DLE and a digit, DLE and <, or NAK; with EOT and ENQ, TERM follows each. Whatever byte stands where a check
  * character, a digit or TERM belongs, belongs to that unit: it is never read again. So damage of one byte makes of a
- * block one that is refused, or none, and never another one. Replies, bids and EOT have no check characters. */
+ * block one that is refused, or none, and never another one. Replies, ENQ and EOT have no check characters. */
 #ifndef SPLITTER_H
 #define SPLITTER_H
 
@@ -18,11 +18,12 @@ enum unit_kind {
     UNIT_BLOCK,     /* good: number, ending and text */
     UNIT_BAD_BLOCK, /* one that fails a check */
     UNIT_ABANDONED, /* a block ended by ENQ */
-    UNIT_BID,       /* ENQ */
+    UNIT_ENQ,       /* a bare one: a bid, or to a slave in an opening an enquiry */
     UNIT_ACK,       /* with its number */
     UNIT_NAK,
     UNIT_EOT,
-    UNIT_DAMAGED    /* a reply, a bid or an EOT that fails a check */
+    UNIT_RINT,
+    UNIT_DAMAGED    /* a reply, an ENQ or an EOT that fails a check */
 };
 
 typedef struct {

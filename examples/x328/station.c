@@ -11,7 +11,8 @@
 #include "splitter.h"
 #include "store.h"
 
-enum { PART = 4096, LOOK = 50 /* milliseconds between two looks into the spool */ };
+enum { PART = 4096, LOOK = 50 /* milliseconds between two looks for messages */ };
+enum { MOST_VAIN = 3 /* openings in a row in which an urgent message was not taken */ };
 
 /* Control mode: neither master nor slave. */
 enum mode { CONTROL, BIDDING, MASTER, SLAVE };
@@ -28,16 +29,45 @@ typedef struct {
     long long next_bid;      /* in control mode: not before. Bidding: when the bid is made again */
     uint64_t bids, refusals; /* made since this station began to bid; answered NAK */
     long long waits_since;   /* since when messages wait in control mode; 0: none do */
+    int other_may_hold_text; /* of this station's last opening: its slave may not have heard that it has ended */
+    uint64_t vain;           /* openings in a row in which an urgent message was not taken */
 } station;
 
-static const char *const folders[] = {"spool", "sent", "refused", "received"};
+/* Before a bid nothing of an earlier opening may be on the way. Where the other side may still be slave in one, and hold
+ * text, its Timer D must have run out as well. Else it may answer the bid as an enquiry: the ACK 0 of an eighth block
+ * would look like the grant, and the new block 1 be joined to the old text (HOST-60). */
+static long silence_before_bid(const station *station)
+{
+    return station->settings->silence + (station->other_may_hold_text ? station->settings->timer_d : 0);
+}
+
+static int line_is_free(const station *station)
+{
+    return line_is_silent(&station->line, silence_before_bid(station));
+}
 
 /* The primary waits less than the secondary: else both bid at the same moment. */
 static void return_to_control(station *station)
 {
     station->mode = CONTROL;
-    station->next_bid = line_silent_at(&station->line) + station->settings->retry;
+    station->next_bid = line_silent_at(&station->line, silence_before_bid(station)) + station->settings->retry;
     station->waits_since = 0;
+}
+
+/* Where the slave gave the EOT, it has closed. Where this side closed, all was done, and a slave that did not hear the EOT
+ * holds no text. After a failure and a reversal it may hold some. And after a reversal it is to bid first, also by its
+ * Timer D. */
+static void leave_master(station *station)
+{
+    const master *master = &station->master;
+    const uint64_t end = master->report[GMV_MASTER_REPORT_END];
+    const int failed = end == GMV_MASTER_END_FAILED || end == GMV_MASTER_END_BY_SLAVE;
+
+    station->other_may_hold_text = end == GMV_MASTER_END_FAILED || end == GMV_MASTER_END_REVERSED;
+    station->vain = failed && master->outbox.urgent ? station->vain + 1 : 0;
+    if (station->vain == MOST_VAIN)
+        say_no_interrupt(master->outbox.file.name, station->vain);
+    return_to_control(station);
 }
 
 static void write_bid(station *station)
@@ -59,6 +89,7 @@ static void begin_to_bid(station *station)
     station->mode = BIDDING;
     station->bids = station->refusals = 0;
     station->waits_since = 0;
+    station->other_may_hold_text = 0;
     write_bid(station);
 }
 
@@ -67,7 +98,7 @@ static void wait_for_silence(station *station)
 {
     if (station->waits_since == 0)
         station->waits_since = now();
-    if (now() < station->waits_since + station->settings->recovery + station->settings->silence)
+    if (now() < station->waits_since + station->settings->recovery + silence_before_bid(station))
         return;
     say_not_silent();
     station->waits_since = now();
@@ -80,10 +111,37 @@ static void look_for_messages(station *station)
 
     if (now() < station->next_bid || !outbox_has_messages(outbox))
         return;
-    if (!line_is_silent(&station->line))
+    if (!line_is_free(station))
         wait_for_silence(station);
-    else if (outbox_take(outbox) && line_is_silent(&station->line))
+    else if (outbox_take(outbox) && line_is_free(station))
         begin_to_bid(station);
+}
+
+/* While this station is slave an urgent message interrupts. It is asked for again and again: a RINT may be lost, or not be
+ * followed (HOST-59). An ordinary message does not: what comes in then comes again from its first block. Nor does one that
+ * the other side never takes: else its own messages would never come in. */
+static void interrupt_for_urgent(station *station)
+{
+    outbox *outbox = &station->master.outbox;
+
+    if (station->vain < MOST_VAIN && slave_may_interrupt(&station->slave) && outbox_take_urgent(outbox))
+        slave_interrupt(&station->slave, outbox->file.name);
+}
+
+/* EOT came from a side that has sent a block in this opening. The line keeps order: so all that it sent before has come,
+ * and what was replied to it reaches it before the bid. No silence is needed. */
+static void bid_for_urgent(station *station)
+{
+    if (station->slave.any_accepted && outbox_take_urgent(&station->master.outbox))
+        begin_to_bid(station);
+}
+
+/* Where a block came the other side was master, and is slave no more. */
+static void leave_slave(station *station)
+{
+    if (station->slave.any_accepted)
+        station->other_may_hold_text = 0;
+    return_to_control(station);
 }
 
 /* After M bids in vain there is a pause: the other side is busy or down. */
@@ -104,37 +162,45 @@ static void take_while_bidding(station *station, const unit *unit)
     if (unit->kind == UNIT_ACK && unit->number == 0) {
         station->mode = MASTER;
         if (!master_open(&station->master))
-            return_to_control(station);
+            leave_master(station);
     } else if (unit->kind == UNIT_NAK) {
         station->refusals++;
         station->next_bid = now() + station->settings->retry;
     }
 }
 
-/* Where both bid, the primary goes on with its bid, and the secondary grants the line. A master drops a bid: its own
- * opening ends by its own timers. */
+/* Where both bid, the primary goes on with its bid, and the secondary grants the line. A master drops ENQ. */
 static int grants(const station *station)
 {
-    return station->mode == CONTROL || station->mode == SLAVE ||
-           (station->mode == BIDDING && !station->settings->primary);
+    return station->mode == CONTROL || (station->mode == BIDDING && !station->settings->primary);
+}
+
+static void take_as_slave(station *station, const unit *unit)
+{
+    const uint64_t before = station->slave.received.last;
+    const int is_slave = slave_take(&station->slave, unit);
+
+    if (station->slave.received.last != before)
+        station->vain = 0;
+    if (is_slave)
+        return;
+    leave_slave(station);
+    if (unit->kind == UNIT_EOT)
+        bid_for_urgent(station);
 }
 
 static void take_unit(station *station, const unit *unit)
 {
-    if (unit->kind == UNIT_BID) {
-        if (!grants(station))
-            return;
+    if (unit->kind == UNIT_ENQ && grants(station)) {
         station->mode = SLAVE;
-        if (!slave_bid(&station->slave))
-            return_to_control(station);
+        slave_grant(&station->slave);
     } else if (station->mode == BIDDING) {
         take_while_bidding(station, unit);
     } else if (station->mode == MASTER) {
         if (!master_take(&station->master, unit))
-            return_to_control(station);
+            leave_master(station);
     } else if (station->mode == SLAVE) {
-        if (!slave_take(&station->slave, unit))
-            return_to_control(station);
+        take_as_slave(station, unit);
     }
 }
 
@@ -144,6 +210,7 @@ static void hang_up(station *station)
     if (station->mode == SLAVE)
         slave_hung_up(&station->slave);
     line_close(&station->line);
+    station->other_may_hold_text = 1;
     return_to_control(station);
 }
 
@@ -193,11 +260,13 @@ static void run_timers(station *station)
     if (station->mode == BIDDING && now() >= station->next_bid)
         bid_again(station);
     if (station->mode == MASTER && now() >= station->master.timer_a && !master_timer(&station->master))
-        return_to_control(station);
+        leave_master(station);
     if (station->mode == SLAVE && now() >= station->slave.timer_d) {
         slave_timer(&station->slave);
-        return_to_control(station);
+        leave_slave(station);
     }
+    if (station->mode == SLAVE)
+        interrupt_for_urgent(station);
 }
 
 static long long next_timer(const station *station)
@@ -223,11 +292,22 @@ static void sync_station(const char *folder)
     sync_folder(path);
 }
 
+/* An earlier version made none. */
+static void make_stat_folder(const char *folder)
+{
+    char path[PATH_LENGTH];
+
+    path_of(path, folder, "stat");
+    make_folder(path);
+}
+
 static void begin(station *station, const char *folder, const settings *settings)
 {
+    make_stat_folder(folder);
     sync_station(folder);
     memset(station, 0, sizeof *station);
     station->settings = settings;
+    station->other_may_hold_text = 1; /* a predecessor may have been master */
     station->parity.parity = settings->parity;
     line_prepare(&station->line, settings);
     master_begin(&station->master, folder, settings, &station->line);
@@ -273,10 +353,11 @@ void station_run(const char *folder, const settings *settings)
 /* No folder is used before it is there for good. */
 void station_create(const char *folder)
 {
+    static const char *const folders[] = {"stat", "spool", "sent", "refused", "received"};
     char path[PATH_LENGTH];
 
     make_folder(folder);
-    for (int i = 0; i < 4; i++) {
+    for (int i = 0; i < 5; i++) {
         path_of(path, folder, folders[i]);
         make_folder(path);
         sync_folder(path);

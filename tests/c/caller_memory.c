@@ -223,6 +223,18 @@ static uint64_t station_end(const row *r, memory *m)
     return gmv_station_end(STATE_OF(m), REPORT_OF(m));
 }
 
+static uint64_t station_bare_enq(const row *r, memory *m)
+{
+    (void)r;
+    return gmv_station_bare_enq(STATE_OF(m), REPORT_OF(m));
+}
+
+static uint64_t station_interrupt(const row *r, memory *m)
+{
+    (void)r;
+    return gmv_station_interrupt(STATE_OF(m), REPORT_OF(m));
+}
+
 static uint64_t master_fresh(const row *r, memory *m)
 {
     (void)r;
@@ -257,14 +269,26 @@ static uint64_t master_close(const row *r, memory *m)
     return gmv_master_close(STATE_OF(m), REPORT_OF(m));
 }
 
+static uint64_t master_enquire(const row *r, memory *m)
+{
+    (void)r;
+    return gmv_master_enquire(STATE_OF(m), REPORT_OF(m));
+}
+
+static uint64_t master_may_receive(const row *r, memory *m)
+{
+    (void)r;
+    return gmv_master_may_receive(STATE_OF(m), REPORT_OF(m));
+}
+
 enum {
     READER_FRESH, HYBRID_READ, MINIMAL_READ, HYBRID_CHECK, MINIMAL_CHECK, HYBRID_WRITE,
     MINIMAL_WRITE, HEADER_READ, ANSWER_READ, FIELD_NEXT, ANSWER_WRITE, CONTROL_WRITE,
     HYBRID_CONTROL_BLOCK, MINIMAL_CONTROL_BLOCK, RECEIVER_FRESH, HYBRID_RECEIVE,
     MINIMAL_RECEIVE, SENDER_FRESH, SENDER_SUBMIT, SENDER_OPEN, SENDER_ENDED, SENDER_RESET,
     SENDER_TIMER, SENDER_BLOCK, STATION_FRESH, STATION_OPEN, STATION_BLOCK, STATION_BAD,
-    STATION_ENQUIRY, STATION_END, MASTER_FRESH, MASTER_OPEN, MASTER_START, MASTER_REPLY,
-    MASTER_TIMER, MASTER_CLOSE,
+    STATION_ENQUIRY, STATION_END, STATION_BARE_ENQ, STATION_INTERRUPT, MASTER_FRESH, MASTER_OPEN,
+    MASTER_START, MASTER_REPLY, MASTER_TIMER, MASTER_CLOSE, MASTER_ENQUIRE, MASTER_MAY_RECEIVE,
     FUNCTIONS
 };
 
@@ -299,12 +323,16 @@ static const function functions[FUNCTIONS] = {
     {"station_bad", station_bad, GMV_STATION_WORDS, 0, GMV_STATION_REPORT_WORDS},
     {"station_enquiry", station_enquiry, GMV_STATION_WORDS, 0, GMV_STATION_REPORT_WORDS},
     {"station_end", station_end, GMV_STATION_WORDS, 0, GMV_STATION_REPORT_WORDS},
+    {"station_bare_enq", station_bare_enq, GMV_STATION_WORDS, 0, GMV_STATION_REPORT_WORDS},
+    {"station_interrupt", station_interrupt, GMV_STATION_WORDS, 0, GMV_STATION_REPORT_WORDS},
     {"master_fresh", master_fresh, GMV_MASTER_WORDS, 0, 0},
     {"master_open", master_open, GMV_MASTER_WORDS, 0, GMV_MASTER_REPORT_WORDS},
     {"master_start", master_start, GMV_MASTER_WORDS, 0, GMV_MASTER_REPORT_WORDS},
     {"master_reply", master_reply, GMV_MASTER_WORDS, 0, GMV_MASTER_REPORT_WORDS},
     {"master_timer", master_timer, GMV_MASTER_WORDS, 0, GMV_MASTER_REPORT_WORDS},
     {"master_close", master_close, GMV_MASTER_WORDS, 0, GMV_MASTER_REPORT_WORDS},
+    {"master_enquire", master_enquire, GMV_MASTER_WORDS, 0, GMV_MASTER_REPORT_WORDS},
+    {"master_may_receive", master_may_receive, GMV_MASTER_WORDS, 0, GMV_MASTER_REPORT_WORDS},
 };
 
 /* ---- the calls */
@@ -324,12 +352,18 @@ static const uint64_t expects_6[] = {6}, no_receiver[] = {TOO_LARGE};
 static const uint64_t closed[] = {5, 5, 5, 1, 0, GMV_WAITING_CLOSED, 0};
 static const uint64_t waits[] = {5, 5, 6, 1, 0, GMV_WAITING_TRANSACTION, 1};
 static const uint64_t frozen[] = {5, 5, 5, 1, 1, GMV_WAITING_CLOSED, 0};
-static const uint64_t station[] = {1, 3, 2}, no_station[] = {1, 8, 0};
-static const uint64_t ended_master[] = {GMV_MASTER_CLOSED, 0, 0, 0, 0, 3};
-static const uint64_t idle_master[] = {GMV_MASTER_IDLE, 0, 0, 0, 0, 3};
-static const uint64_t busy_master[] = {GMV_MASTER_WAITING, 10, 4, 0, 2, 3};
-static const uint64_t last_master[] = {GMV_MASTER_WAITING, 10, 4, 8, 5, 3};
-static const uint64_t no_master[] = {GMV_MASTER_WAITING, 10, 4, 0, 6, 3};
+static const uint64_t station[] = {1, 3, 2, GMV_REPLY_ACK, GMV_INTERRUPT_NONE};
+static const uint64_t asked_station[] = {1, 3, 2, GMV_REPLY_ACK, GMV_INTERRUPT_PENDING};
+static const uint64_t rint_station[] = {1, 3, 2, GMV_REPLY_RINT, GMV_INTERRUPT_GIVEN};
+static const uint64_t closed_station[] = {0, 0, 0, 0, 0};
+static const uint64_t no_station[] = {1, 8, 0, GMV_REPLY_ACK, GMV_INTERRUPT_NONE};
+static const uint64_t ended_master[] = {GMV_MASTER_CLOSED, 0, 0, 0, 0, 3, 0, 0, 0, 0};
+static const uint64_t idle_master[] = {GMV_MASTER_IDLE, 0, 0, 0, 0, 3, GMV_REPLY_ACK, 0, 0, 0};
+static const uint64_t rint_master[] = {GMV_MASTER_IDLE, 0, 0, 0, 0, 3, GMV_REPLY_RINT, 1, 0, 0};
+static const uint64_t busy_master[] = {GMV_MASTER_WAITING, 10, 4, 0, 2, 3, GMV_REPLY_ACK, 0, 0, 0};
+static const uint64_t turning_master[] = {GMV_MASTER_WAITING, 10, 4, 0, 2, 3, GMV_REPLY_RINT, 1, 1, 1};
+static const uint64_t last_master[] = {GMV_MASTER_WAITING, 10, 4, 8, 5, 3, GMV_REPLY_NAK, 1, 0, 0};
+static const uint64_t no_master[] = {GMV_MASTER_WAITING, 10, 4, 0, 6, 3, GMV_REPLY_RINT, 1, 0, 0};
 
 static const row block_rows[] = {
     {READER_FRESH, 0, KEPT, NONE, NULL, "", 0, 0, 0},
@@ -502,6 +536,22 @@ static const row station_rows[] = {
     {STATION_END, 2, KEPT, STATE, station, "", 0, 0, 0},
     {STATION_END, 2, KEPT, REPORT, station, "", 0, 0, 0},
     {STATION_END, 11, KEPT, NONE, no_station, "", 0, 0, 0},
+    {STATION_BLOCK, 0, REWRITTEN, NONE, asked_station, TEXT("text"), 3, GMV_ETX},
+    {STATION_BLOCK, 0, REWRITTEN, NONE, asked_station, TEXT("text"), 2, GMV_ETX},
+    {STATION_BLOCK, 0, REWRITTEN, NONE, rint_station, TEXT("text"), 2, GMV_ETX},
+    {STATION_BARE_ENQ, 0, REWRITTEN, NONE, station, "", 0, 0, 0},
+    {STATION_BARE_ENQ, 0, REWRITTEN, NONE, rint_station, "", 0, 0, 0},
+    {STATION_BARE_ENQ, 0, REWRITTEN, NONE, closed_station, "", 0, 0, 0},
+    {STATION_BARE_ENQ, 2, KEPT, STATE, station, "", 0, 0, 0},
+    {STATION_BARE_ENQ, 2, KEPT, REPORT, station, "", 0, 0, 0},
+    {STATION_BARE_ENQ, 11, KEPT, NONE, no_station, "", 0, 0, 0},
+    {STATION_INTERRUPT, 0, REWRITTEN, NONE, station, "", 0, 0, 0},
+    {STATION_INTERRUPT, 2, KEPT, STATE, station, "", 0, 0, 0},
+    {STATION_INTERRUPT, 2, KEPT, REPORT, station, "", 0, 0, 0},
+    {STATION_INTERRUPT, 11, KEPT, NONE, asked_station, "", 0, 0, 0},
+    {STATION_INTERRUPT, 11, KEPT, NONE, rint_station, "", 0, 0, 0},
+    {STATION_INTERRUPT, 11, KEPT, NONE, closed_station, "", 0, 0, 0},
+    {STATION_INTERRUPT, 11, KEPT, NONE, no_station, "", 0, 0, 0},
 };
 
 static const row master_rows[] = {
@@ -545,6 +595,25 @@ static const row master_rows[] = {
     {MASTER_CLOSE, 11, KEPT, NONE, ended_master, "", 0, 0, 0},
     {MASTER_CLOSE, 11, KEPT, NONE, busy_master, "", 0, 0, 0},
     {MASTER_CLOSE, 11, KEPT, NONE, no_master, "", 0, 0, 0},
+    {MASTER_REPLY, 0, REWRITTEN, NONE, busy_master, "", 0, GMV_REPLY_RINT, 0},
+    {MASTER_REPLY, 0, REWRITTEN, NONE, turning_master, "", 0, GMV_REPLY_RINT, 0},
+    {MASTER_REPLY, 0, REWRITTEN, NONE, turning_master, "", 0, GMV_REPLY_ACK, 4},
+    {MASTER_REPLY, 0, REWRITTEN, NONE, last_master, "", 0, GMV_REPLY_RINT, 0},
+    {MASTER_REPLY, 0, REWRITTEN, NONE, rint_master, "", 0, GMV_REPLY_RINT, 0},
+    {MASTER_ENQUIRE, 0, REWRITTEN, NONE, busy_master, "", 0, 0, 0},
+    {MASTER_ENQUIRE, 2, KEPT, STATE, busy_master, "", 0, 0, 0},
+    {MASTER_ENQUIRE, 2, KEPT, REPORT, busy_master, "", 0, 0, 0},
+    {MASTER_ENQUIRE, 11, KEPT, NONE, ended_master, "", 0, 0, 0},
+    {MASTER_ENQUIRE, 11, KEPT, NONE, rint_master, "", 0, 0, 0},
+    {MASTER_ENQUIRE, 11, KEPT, NONE, no_master, "", 0, 0, 0},
+    {MASTER_MAY_RECEIVE, 0, REWRITTEN, NONE, rint_master, "", 0, 0, 0},
+    {MASTER_MAY_RECEIVE, 0, REWRITTEN, NONE, last_master, "", 0, 0, 0},
+    {MASTER_MAY_RECEIVE, 0, REWRITTEN, NONE, turning_master, "", 0, 0, 0},
+    {MASTER_MAY_RECEIVE, 2, KEPT, STATE, rint_master, "", 0, 0, 0},
+    {MASTER_MAY_RECEIVE, 2, KEPT, REPORT, rint_master, "", 0, 0, 0},
+    {MASTER_MAY_RECEIVE, 11, KEPT, NONE, ended_master, "", 0, 0, 0},
+    {MASTER_MAY_RECEIVE, 11, KEPT, NONE, busy_master, "", 0, 0, 0},
+    {MASTER_MAY_RECEIVE, 11, KEPT, NONE, no_master, "", 0, 0, 0},
 };
 
 /* ---- one call */
@@ -650,7 +719,7 @@ static void test_rows(const char *name, const row *rows, size_t count)
 static void every_function_has_rows(void)
 {
     begin_test("lent memory: every function that takes any has its rows"); /* gmv_version takes none */
-    CHECK(FUNCTIONS == 36);
+    CHECK(FUNCTIONS == 40);
     for (int i = 0; i < FUNCTIONS; i++)
         CHECK(has_rows[i]);
 }

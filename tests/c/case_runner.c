@@ -68,8 +68,8 @@ static uint64_t *words_at(size_t i)
 #define RECEIVE \
     "n:application s1:state n:block_number n:block_type b:data o:buffer n:start w3:report"
 #define SENDER "s7:state w8:report"
-#define STATION "s3:state w4:report"
-#define MASTER "s6:state w10:report"
+#define STATION "s5:state w4:report"
+#define MASTER "s10:state w10:report"
 #define FUNCTIONS(F) \
     F(reader_fresh, "w4:state", W(0)) \
     F(hybrid_read, HYBRID READ, N(0), N(1), N(2), W(0), B(1), B(2), W(3)) \
@@ -97,18 +97,22 @@ static uint64_t *words_at(size_t i)
     F(hybrid_control_block, HYBRID "b:type n:number " WRITE, \
       N(0), N(1), N(2), B(0), N(3), B(1), N(4), W(2)) \
     F(minimal_control_block, MINIMAL "b:type n:number " WRITE, N(0), B(0), N(1), B(1), N(2), W(2)) \
-    F(station_fresh, "w3:state", W(0)) \
+    F(station_fresh, "w5:state", W(0)) \
     F(station_open, STATION, W(0), W(1)) \
     F(station_block, "n:number n:ending b:text h:buffer " STATION, N(0), N(1), B(0), B(1), W(2), W(3)) \
     F(station_bad, STATION, W(0), W(1)) \
     F(station_enquiry, STATION, W(0), W(1)) \
     F(station_end, STATION, W(0), W(1)) \
-    F(master_fresh, "w6:state", W(0)) \
+    F(station_bare_enq, STATION, W(0), W(1)) \
+    F(station_interrupt, STATION, W(0), W(1)) \
+    F(master_fresh, "w10:state", W(0)) \
     F(master_open, MASTER, W(0), W(1)) \
     F(master_start, "n:message_length n:block_size " MASTER, N(0), N(1), W(0), W(1)) \
     F(master_reply, "n:reply n:number " MASTER, N(0), N(1), W(0), W(1)) \
     F(master_timer, MASTER, W(0), W(1)) \
-    F(master_close, MASTER, W(0), W(1))
+    F(master_close, MASTER, W(0), W(1)) \
+    F(master_enquire, MASTER, W(0), W(1)) \
+    F(master_may_receive, MASTER, W(0), W(1))
 
 #define CALLER(name, signature, ...) \
     static uint64_t call_##name(void) { return gmv_##name(__VA_ARGS__); }

@@ -1,6 +1,6 @@
-/* A sender of blocks and the receiving station, over a line that loses each ACK once. The sender
- * repeats a block until it has its ACK, so that every block comes twice. Every message must come out
- * once and whole. */
+/* A sender of blocks and the receiving station, over a line that loses each reply once. The sender
+ * repeats a block until it has its reply, so that every block comes twice, or it asks for the reply by a
+ * bare ENQ. Every message must come out once and whole, also where the station's driver asks for RINT. */
 #include "harness.h"
 
 #include <string.h>
@@ -14,6 +14,10 @@ typedef uint64_t block_rule(dialogue *d, uint64_t number, uint64_t ending, const
 struct dialogue {
     block_rule *rule;
     int blocks_of_message;
+    int asks;     /* the station's driver asks for RINT before each block */
+    int enquires; /* the sender enquires, and does not repeat the block */
+    uint64_t reply; /* the one due to the block: GMV_REPLY_ACK or _RINT */
+    int interrupts;
     guarded state, report, buffer;
     /* what the driver took out of the buffer: how many messages, and their texts joined */
     int messages;
@@ -45,14 +49,17 @@ static uint64_t earlier_rule(dialogue *d, uint64_t number, uint64_t ending, cons
     return GMV_OK;
 }
 
+#define STATION(d) words_of(&(d)->state), word_count(&(d)->state), words_of(&(d)->report), \
+    word_count(&(d)->report)
+
 static dialogue begin_dialogue(block_rule *rule, int blocks_of_message)
 {
-    dialogue d = {rule, blocks_of_message, guard(GMV_STATION_WORDS * sizeof(uint64_t), 0xEE),
-                  guard(GMV_STATION_REPORT_WORDS * sizeof(uint64_t), 0xEE),
-                  guard((size_t)blocks_of_message * TEXT_LENGTH, 0x55), 0, {0}, 0};
+    dialogue d = {.rule = rule, .blocks_of_message = blocks_of_message, .reply = GMV_REPLY_NONE};
 
-    CHECK(gmv_station_open(words_of(&d.state), word_count(&d.state), words_of(&d.report),
-                           word_count(&d.report)) == GMV_OK);
+    d.state = guard(GMV_STATION_WORDS * sizeof(uint64_t), 0xEE);
+    d.report = guard(GMV_STATION_REPORT_WORDS * sizeof(uint64_t), 0xEE);
+    d.buffer = guard((size_t)blocks_of_message * TEXT_LENGTH, 0x55);
+    CHECK(gmv_station_open(STATION(&d)) == GMV_OK);
     return d;
 }
 
@@ -85,26 +92,65 @@ static void write_text(uint8_t *text, int block)
     text[1] = (uint8_t)('0' + block % 10);
 }
 
+/* The driver asks for RINT. It may, unless no ACK was given since the last one. */
+static int is_asked(dialogue *d)
+{
+    const int may = words_of(&d->state)[GMV_STATION_INTERRUPT] == GMV_INTERRUPT_NONE;
+
+    d->reply = d->asks && may ? GMV_REPLY_RINT : GMV_REPLY_ACK;
+    d->interrupts += d->reply == GMV_REPLY_RINT;
+    return !d->asks || gmv_station_interrupt(STATION(d)) == (may ? GMV_OK : GMV_STATE);
+}
+
+/* The reply to the block, with its number where it is an ACK. */
+static int says_reply(const dialogue *d, uint64_t reply, int block)
+{
+    const uint64_t *report = words_of(&d->report);
+    const uint64_t number = reply == GMV_REPLY_ACK ? (uint64_t)block % 8 : 0;
+
+    return report[GMV_STATION_REPLY] == reply && report[GMV_STATION_REPLY_NUMBER] == number;
+}
+
+static int says_complete(const dialogue *d, int is_complete, uint64_t length)
+{
+    const uint64_t *report = words_of(&d->report);
+
+    return report[GMV_STATION_COMPLETE] == (uint64_t)is_complete &&
+           report[GMV_STATION_MESSAGE_LENGTH] == (is_complete ? length : 0);
+}
+
 /* The report acknowledges the block, and its message if that is complete; the next is expected. */
 static int says_appended(const dialogue *d, int block)
 {
     const int position = (block - 1) % d->blocks_of_message + 1; /* in its message */
     const uint64_t length = (uint64_t)(position * TEXT_LENGTH);
     const int ends = position == d->blocks_of_message;
-    const uint64_t report[] = {GMV_REPLY_ACK, (uint64_t)block % 8, (uint64_t)ends, ends ? length : 0};
-    const uint64_t state[] = {1, ((uint64_t)block + 1) % 8, ends ? 0 : length};
+    const uint64_t interrupt = d->reply == GMV_REPLY_RINT ? GMV_INTERRUPT_GIVEN : GMV_INTERRUPT_NONE;
+    const uint64_t state[] = {1, ((uint64_t)block + 1) % 8, ends ? 0 : length, d->reply, interrupt};
 
-    return memcmp(d->report.at, report, sizeof report) == 0 &&
+    return says_reply(d, d->reply, block) && says_complete(d, ends, length) &&
            memcmp(d->state.at, state, sizeof state) == 0;
 }
 
-/* The report acknowledges the block, and the state and the buffer are as they were before it. */
+/* The report acknowledges the block, also one that was answered RINT; the buffer is as it was before it,
+ * and so is the state but for the last reply. */
 static int says_duplicate(const dialogue *d, int block)
 {
-    const uint64_t report[] = {GMV_REPLY_ACK, (uint64_t)block % 8, 0, 0};
+    const uint64_t *state = words_of(&d->state);
 
-    return memcmp(d->report.at, report, sizeof report) == 0 && unchanged(&d->state) &&
-           unchanged(&d->buffer);
+    return says_reply(d, GMV_REPLY_ACK, block) && says_complete(d, 0, 0) &&
+           memcmp(d->state.at, d->state.kept, GMV_STATION_LAST_REPLY * sizeof(uint64_t)) == 0 &&
+           state[GMV_STATION_LAST_REPLY] == GMV_REPLY_ACK &&
+           state[GMV_STATION_INTERRUPT] == GMV_INTERRUPT_NONE && unchanged(&d->buffer);
+}
+
+/* The reply comes once more, and nothing changes. */
+static int is_given_again(dialogue *d, int block)
+{
+    keep(&d->state);
+    keep(&d->buffer);
+    return gmv_station_bare_enq(STATION(d)) == GMV_OK && says_reply(d, d->reply, block) &&
+           says_complete(d, 0, 0) && unchanged(&d->state) && unchanged(&d->buffer);
 }
 
 /* The block arrives at the station. Is it answered as it must be? */
@@ -126,29 +172,35 @@ static int is_answered(dialogue *d, int block, int is_retransmission)
            (is_retransmission ? says_duplicate(d, block) : says_appended(d, block));
 }
 
-/* Sends each block until it has its ACK: the line loses the first one. */
+/* Sends each block until it has its reply: the line loses the first one. */
 static failure send_blocks(dialogue *d)
 {
     failure found = {0, 0};
 
-    for (int block = 1; block <= BLOCKS; block++)
-        for (int acknowledgments = 0; acknowledgments < 2; acknowledgments++)
-            if (!is_answered(d, block, acknowledgments > 0)) {
-                found.block = block;
-                found.is_retransmission = acknowledgments > 0;
-                return found;
-            }
+    for (int block = 1; block <= BLOCKS; block++) {
+        const int is_first_right = is_asked(d) && is_answered(d, block, 0);
+
+        if (!is_first_right || !(d->enquires ? is_given_again(d, block) : is_answered(d, block, 1))) {
+            found.block = block;
+            found.is_retransmission = is_first_right;
+            return found;
+        }
+    }
     return found;
 }
 
-static void comes_out_once(int blocks_of_message)
+/* Where no ACK comes between, every other block is answered RINT. */
+static void comes_out_once(int blocks_of_message, int asks, int enquires)
 {
     dialogue d = begin_dialogue(library_rule, blocks_of_message);
     uint8_t sent[ALL_TEXTS];
 
+    d.asks = asks;
+    d.enquires = enquires;
     for (int block = 1; block <= BLOCKS; block++)
         write_text(sent + (block - 1) * TEXT_LENGTH, block);
     CHECK(send_blocks(&d).block == 0);
+    CHECK(d.interrupts == (!asks ? 0 : enquires ? BLOCKS / 2 : BLOCKS));
     CHECK(d.messages == BLOCKS / blocks_of_message);
     CHECK(d.taken_length == ALL_TEXTS && memcmp(d.taken, sent, ALL_TEXTS) == 0);
     end_dialogue(&d);
@@ -169,9 +221,17 @@ static void stops_at_block_7(int blocks_of_message)
 void test_dialogue(void)
 {
     begin_test("station: each ACK lost once, one message of 40 blocks comes out once and whole");
-    comes_out_once(BLOCKS);
+    comes_out_once(BLOCKS, 0, 0);
     begin_test("station: each ACK lost once, 40 messages of one block come out once each");
-    comes_out_once(1);
+    comes_out_once(1, 0, 0);
+    begin_test("station: each RINT lost once, 40 blocks sent again, and all comes out once");
+    comes_out_once(BLOCKS, 1, 0);
+    comes_out_once(1, 1, 0);
+    begin_test("station: each reply lost once, 40 enquiries bring it, and all comes out once");
+    comes_out_once(BLOCKS, 0, 1);
+    comes_out_once(BLOCKS, 1, 1);
+    comes_out_once(4, 1, 1);
+    comes_out_once(1, 1, 1);
     begin_test("station: under the rule before request 2 both stop at the retransmission of block 7");
     stops_at_block_7(BLOCKS);
     stops_at_block_7(1);

@@ -94,6 +94,8 @@ void test_link(void);
 void test_dialogue(void);
 void test_master_sweeps(void);
 void test_master_dialogue(void);
+void test_turning(void);
+void test_state_words(void);
 void test_caller_memory(void);
 void test_duties(void);
 void test_stack(void);

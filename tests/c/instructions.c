@@ -14,7 +14,7 @@ void test_instructions(void) {} /* the plain build's, as stack.c */
 #include <signal.h>
 #include <string.h>
 
-enum { SIZE = 245, MOST_INSTRUCTIONS = 400 };
+enum { SIZE = 245, MOST_INSTRUCTIONS = 500 };
 
 static volatile uint64_t instructions;
 
@@ -53,20 +53,21 @@ static uint64_t instructions_of(void (*call)(void))
 /* ---- the calls */
 
 static uint64_t state[GMV_MASTER_WORDS], report[GMV_MASTER_REPORT_WORDS];
-static uint64_t message_length, count, reply, number;
+static uint64_t message_length, count, reply, number, last_reply = GMV_REPLY_ACK, may_receive;
 
 static void start(void)
 {
-    const uint64_t idle[] = {GMV_MASTER_IDLE, 0, 0, 0, 0, count};
+    const uint64_t idle[] = {GMV_MASTER_IDLE, 0, 0, 0, 0, count, GMV_REPLY_ACK, 0, 0, 0};
 
     memcpy(state, idle, sizeof state);
     gmv_master_start(message_length, SIZE, state, GMV_MASTER_WORDS, report, GMV_MASTER_REPORT_WORDS);
 }
 
-/* The block out is the message's first. */
+/* The block out is the message's first. A RINT came, and the last reply was last_reply. */
 static void set_waiting(uint64_t resends)
 {
-    const uint64_t waiting[] = {GMV_MASTER_WAITING, message_length, SIZE, 0, resends, count};
+    const uint64_t waiting[] = {GMV_MASTER_WAITING, message_length, SIZE, 0, resends, count,
+                                last_reply, 1, 0, may_receive};
 
     memcpy(state, waiting, sizeof state);
 }
@@ -102,6 +103,18 @@ static void refuse_close(void)
     gmv_master_close(state, GMV_MASTER_WORDS, report, GMV_MASTER_REPORT_WORDS);
 }
 
+static void enquire(void)
+{
+    set_waiting(0);
+    gmv_master_enquire(state, GMV_MASTER_WORDS, report, GMV_MASTER_REPORT_WORDS);
+}
+
+static void say_may_receive(void)
+{
+    set_waiting(0);
+    gmv_master_may_receive(state, GMV_MASTER_WORDS, report, GMV_MASTER_REPORT_WORDS);
+}
+
 /* ---- the comparisons */
 
 /* Block 3 is out, or is the next, with each of these counts. */
@@ -125,11 +138,23 @@ static void same_for_all_lengths(void (*call)(void))
     }
 }
 
+/* After an ACK; a RINT also after a RINT, by which it is doubtful; and an ACK of the block out and a RINT
+ * with the leave to receive. */
 static void every_reply(void)
 {
-    for (reply = GMV_REPLY_ACK; reply <= GMV_REPLY_DAMAGED; reply++)
+    for (reply = GMV_REPLY_ACK; reply <= GMV_REPLY_RINT; reply++)
         for (number = 1; number <= 4; number++)
             same_for_all_lengths(take_reply);
+    number = 3;
+    reply = GMV_REPLY_RINT;
+    last_reply = GMV_REPLY_RINT;
+    same_for_all_lengths(take_reply);
+    last_reply = GMV_REPLY_ACK;
+    may_receive = 1;
+    same_for_all_lengths(take_reply);
+    reply = GMV_REPLY_ACK;
+    same_for_all_lengths(take_reply);
+    may_receive = 0;
 }
 
 /* What is counted does its work: the block after the first one is named. */
@@ -143,6 +168,14 @@ static void acts_do_their_work(void)
     CHECK(report[GMV_MASTER_REPORT_ACKNOWLEDGED] == 1 && report[GMV_MASTER_REPORT_OFFSET] == SIZE);
     take_last_acknowledgment();
     CHECK(report[GMV_MASTER_REPORT_DONE] == 1);
+    enquire();
+    CHECK(report[GMV_MASTER_REPORT_SEND] == GMV_MASTER_SEND_ENQ);
+    say_may_receive();
+    CHECK(state[GMV_MASTER_MAY_RECEIVE] == 1);
+    may_receive = 1;
+    take_reply();
+    CHECK(report[GMV_MASTER_REPORT_END] == GMV_MASTER_END_REVERSED);
+    may_receive = 0;
     run_last_timer();
     CHECK(report[GMV_MASTER_REPORT_END] == GMV_MASTER_END_FAILED);
 }
@@ -182,6 +215,8 @@ void test_instructions(void)
     same_for_all_lengths(run_timer);
     same_for_all_lengths(run_last_timer);
     same_for_all_lengths(refuse_close);
+    same_for_all_lengths(enquire);
+    same_for_all_lengths(say_may_receive);
     acts_do_their_work();
     longer_fields_take_longer();
     CHECK(sigaction(SIGTRAP, &before, NULL) == 0);

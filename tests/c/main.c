@@ -22,6 +22,8 @@ static void run_all(enum memory_kind kind)
     test_dialogue();
     test_master_sweeps();
     test_master_dialogue();
+    test_turning();
+    test_state_words();
     test_caller_memory();
     test_duties();
 }

@@ -1,313 +1,15 @@
-/* The master and the station of the archive over a line in memory, which keeps order in each direction
- * and loses and damages units. After every act the statement of document 02, request 3, is looked at:
- * the blocks that the station accepted are the first of those that the master sent, each once, the
- * master's count is theirs or one less, and the messages that came out are the first ones started. */
-#include "harness.h"
-
-#include <string.h>
-
-enum { LONGEST_MESSAGE = 48, LONGEST_BLOCK = 8, UNITS = 64, ALL_BLOCKS = 64, SENDS_OF_BLOCK = 6 };
-
-/* The messages of every dialogue: blocks before a rest, an empty message, a multiple, one byte more, a
- * size over the length, blocks of one byte. 48 blocks in all. */
-static const struct {
-    size_t length, block_size;
-} messages[] = {{39, 4}, {0, 4}, {16, 4}, {17, 4}, {5, 99}, {1, 1}, {23, 1}, {9, 8}, {8, 8}};
-
-enum { MESSAGES = sizeof messages / sizeof messages[0], BLOCKS = 48 };
-
-typedef struct {
-    uint64_t number, ending;
-    size_t length;
-    uint8_t text[LONGEST_BLOCK];
-} block;
-
-/* What is on the line: a block or EOT to the station, a reply to the master. */
-typedef struct {
-    uint64_t kind; /* GMV_MASTER_SEND_.. or GMV_REPLY_.. */
-    int damaged;
-    block block; /* of a reply its number alone */
-} unit;
-
-typedef struct {
-    unit units[UNITS];
-    size_t count;
-} direction;
-
-/* What a line does to units: a letter for each send of a block and for each ACK of it, and the last
- * letter for all further ones. l loses, d damages, p passes on, t passes it on twice. */
-typedef struct {
-    const char *blocks, *acknowledgments;
-} recipe;
-
-typedef struct {
-    recipe recipe;
-    guarded master, master_report, station, station_report, buffer;
-    direction forward, back;
-    size_t started, done, taken, acknowledgments;
-    block sent[ALL_BLOCKS], accepted[ALL_BLOCKS];
-    size_t sent_count, accepted_count, sends[ALL_BLOCKS];
-    uint64_t end;
-    int right_texts;
-} dialogue;
-
-static uint8_t byte_of(size_t message, size_t offset)
-{
-    return (uint8_t)('A' + (7 * message + offset) % 26);
-}
-
-/* ---- the line */
-
-static void put(direction *d, const unit *u)
-{
-    CHECK(d->count < UNITS);
-    if (d->count < UNITS)
-        d->units[d->count++] = *u;
-}
-
-static unit take_at(direction *d, size_t index)
-{
-    unit taken = d->units[index];
-
-    d->count--;
-    memmove(&d->units[index], &d->units[index + 1], (d->count - index) * sizeof taken);
-    return taken;
-}
-
-static void put_by_recipe(direction *d, unit u, const char *letters, size_t index)
-{
-    char letter = letters[index < strlen(letters) ? index : strlen(letters) - 1];
-
-    u.damaged = letter == 'd';
-    if (letter != 'l')
-        put(d, &u);
-    if (letter == 't')
-        put(d, &u);
-}
-
-/* ---- the master's side */
-
-#define MASTER(d) words_of(&(d)->master), word_count(&(d)->master), \
-    words_of(&(d)->master_report), word_count(&(d)->master_report)
-#define STATION(d) words_of(&(d)->station), word_count(&(d)->station), \
-    words_of(&(d)->station_report), word_count(&(d)->station_report)
-
-static uint64_t phase_of(const dialogue *d)
-{
-    return words_of(&d->master)[GMV_MASTER_PHASE];
-}
-
-/* The block that the report names, with its text out of the message. */
-static block named_block(dialogue *d)
-{
-    const uint64_t *report = words_of(&d->master_report);
-    block named = {report[GMV_MASTER_REPORT_NUMBER], report[GMV_MASTER_REPORT_ENDING],
-                   report[GMV_MASTER_REPORT_LENGTH], {0}};
-    const size_t offset = report[GMV_MASTER_REPORT_OFFSET];
-
-    if (named.length > LONGEST_BLOCK || offset > messages[d->started - 1].length ||
-        named.length > messages[d->started - 1].length - offset) {
-        d->right_texts = 0;
-        named.length = 0;
-    }
-    for (size_t i = 0; i < named.length; i++)
-        named.text[i] = byte_of(d->started - 1, offset + i);
-    return named;
-}
-
-/* Does what the report says: the block, first sent or again, or EOT goes on the line. */
-static void act_on_report(dialogue *d)
-{
-    const uint64_t *report = words_of(&d->master_report);
-    unit u = {report[GMV_MASTER_REPORT_SEND], 0, {0, 0, 0, {0}}};
-
-    d->done += report[GMV_MASTER_REPORT_DONE];
-    if (report[GMV_MASTER_REPORT_END] != GMV_MASTER_END_NONE)
-        d->end = report[GMV_MASTER_REPORT_END];
-    if (u.kind == GMV_MASTER_SEND_EOT)
-        put(&d->forward, &u);
-    if (u.kind != GMV_MASTER_SEND_BLOCK || d->sent_count == ALL_BLOCKS)
-        return;
-    u.block = named_block(d);
-    if (report[GMV_MASTER_REPORT_RESENDS] == 0) {
-        d->sent[d->sent_count++] = u.block;
-        d->acknowledgments = 0;
-    }
-    put_by_recipe(&d->forward, u, d->recipe.blocks, d->sends[d->sent_count - 1]++);
-}
-
-static void start_message(dialogue *d)
-{
-    const size_t next = d->started++;
-
-    CHECK(gmv_master_start(messages[next].length, messages[next].block_size, MASTER(d)) == GMV_OK);
-    act_on_report(d);
-}
-
-static void close_master(dialogue *d)
-{
-    CHECK(gmv_master_close(MASTER(d)) == GMV_OK);
-    act_on_report(d);
-}
-
-static void run_timer(dialogue *d)
-{
-    CHECK(gmv_master_timer(MASTER(d)) == GMV_OK);
-    act_on_report(d);
-}
-
-static void take_reply(dialogue *d)
-{
-    unit u = take_at(&d->back, 0);
-    uint64_t reply = u.damaged ? (uint64_t)GMV_REPLY_DAMAGED : u.kind;
-
-    CHECK(gmv_master_reply(reply, u.block.number, MASTER(d)) == GMV_OK);
-    act_on_report(d);
-}
-
-/* ---- the station's side */
-
-static void take_message(dialogue *d)
-{
-    const uint64_t *report = words_of(&d->station_report);
-    const size_t length = report[GMV_STATION_MESSAGE_LENGTH], message = d->taken;
-
-    if (report[GMV_STATION_COMPLETE] != 1)
-        return;
-    d->right_texts &= message < d->started && length == messages[message].length;
-    for (size_t i = 0; d->right_texts && i < length; i++)
-        d->right_texts &= d->buffer.at[i] == byte_of(message, i);
-    d->taken++;
-}
-
-static void reply_by_report(dialogue *d)
-{
-    const uint64_t *report = words_of(&d->station_report);
-    unit u = {report[GMV_STATION_REPLY], 0, {report[GMV_STATION_REPLY_NUMBER], 0, 0, {0}}};
-
-    if (u.kind == GMV_REPLY_ACK)
-        put_by_recipe(&d->back, u, d->recipe.acknowledgments, d->acknowledgments++);
-    else if (u.kind != GMV_REPLY_NONE)
-        put(&d->back, &u);
-}
-
-static void take_block(dialogue *d, const block *b)
-{
-    const uint64_t expected = words_of(&d->station)[GMV_STATION_EXPECTED];
-    guarded text = guard_copy(b->text, b->length);
-
-    CHECK(gmv_station_block(b->number, b->ending, text.at, text.size, d->buffer.at, d->buffer.size,
-                            STATION(d)) == GMV_OK);
-    CHECK(unchanged(&text));
-    give_back(&text);
-    if (words_of(&d->station_report)[GMV_STATION_REPLY] == GMV_REPLY_ACK && b->number == expected &&
-        d->accepted_count < ALL_BLOCKS)
-        d->accepted[d->accepted_count++] = *b;
-    take_message(d);
-}
-
-static void take_unit(dialogue *d)
-{
-    unit u = take_at(&d->forward, 0);
-
-    if (u.damaged)
-        CHECK(gmv_station_bad(STATION(d)) == GMV_OK);
-    else if (u.kind == GMV_MASTER_SEND_EOT)
-        CHECK(gmv_station_end(STATION(d)) == GMV_OK);
-    else
-        take_block(d, &u.block);
-    reply_by_report(d);
-}
-
-/* ---- the statement */
-
-static int same_block(const block *a, const block *b)
-{
-    return a->number == b->number && a->ending == b->ending && a->length == b->length &&
-           memcmp(a->text, b->text, a->length) == 0;
-}
-
-static int statement_holds(const dialogue *d)
-{
-    const uint64_t count = words_of(&d->master)[GMV_MASTER_COUNT];
-
-    if (d->accepted_count > d->sent_count || !d->right_texts)
-        return 0;
-    for (size_t i = 0; i < d->accepted_count; i++)
-        if (!same_block(&d->accepted[i], &d->sent[i]))
-            return 0;
-    for (size_t i = 0; i < d->sent_count; i++)
-        if (d->sends[i] < 1 || d->sends[i] > SENDS_OF_BLOCK)
-            return 0;
-    return (count == d->accepted_count || count + 1 == d->accepted_count) &&
-           (d->taken == d->done || d->taken == d->done + 1);
-}
+/* Dialogues of the master and the station: document 02, request 3. After every act the statement of it is
+ * looked at (two_stations.h). Those with RINT and enquiries are in turning.c. */
+#include "two_stations.h"
 
 /* ---- dialogues */
-
-static dialogue begin_dialogue(recipe line, size_t buffer_length)
-{
-    dialogue d;
-
-    memset(&d, 0, sizeof d);
-    d.recipe = line;
-    d.master = guard(GMV_MASTER_WORDS * sizeof(uint64_t), 0xEE);
-    d.master_report = guard(GMV_MASTER_REPORT_WORDS * sizeof(uint64_t), 0xEE);
-    d.station = guard(GMV_STATION_WORDS * sizeof(uint64_t), 0xEE);
-    d.station_report = guard(GMV_STATION_REPORT_WORDS * sizeof(uint64_t), 0xEE);
-    d.buffer = guard(buffer_length, 0x55);
-    d.right_texts = 1;
-    CHECK(gmv_station_open(STATION(&d)) == GMV_OK);
-    CHECK(gmv_master_open(MASTER(&d)) == GMV_OK);
-    return d;
-}
-
-static void end_dialogue(dialogue *d)
-{
-    CHECK(same_from(&d->master, d->master.size) && same_from(&d->station, d->station.size));
-    give_back(&d->master);
-    give_back(&d->master_report);
-    give_back(&d->station);
-    give_back(&d->station_report);
-    give_back(&d->buffer);
-}
-
-/* The next act of two patient drivers: what is on the line comes first, Timer A runs out when nothing
- * is, and an idle master starts the next message at once. 0: all is over. */
-static int next_act(dialogue *d)
-{
-    if (phase_of(d) == GMV_MASTER_IDLE && d->started < MESSAGES)
-        start_message(d);
-    else if (phase_of(d) == GMV_MASTER_IDLE)
-        close_master(d);
-    else if (d->forward.count > 0)
-        take_unit(d);
-    else if (d->back.count > 0)
-        take_reply(d);
-    else if (phase_of(d) == GMV_MASTER_WAITING)
-        run_timer(d);
-    else
-        return 0;
-    return 1;
-}
 
 /* All messages over such a line, each block sent so often. */
 static void delivers_all(recipe line, size_t sends)
 {
     dialogue d = begin_dialogue(line, LONGEST_MESSAGE);
-    int holds = 1;
 
-    while (next_act(&d))
-        holds &= statement_holds(&d);
-    CHECK(holds);
-    CHECK(d.end == GMV_MASTER_END_BY_DRIVER && words_of(&d.station)[GMV_STATION_OPEN] == 0);
-    CHECK(d.taken == MESSAGES && d.done == MESSAGES);
-    CHECK(d.sent_count == BLOCKS && d.accepted_count == BLOCKS);
-    CHECK(words_of(&d.master)[GMV_MASTER_COUNT] == BLOCKS);
-    for (size_t i = 0; i < d.sent_count; i++) {
-        CHECK(d.sends[i] == sends);
-        CHECK(d.sent[i].number == (i + 1) % 8);
-    }
+    deliver_all(&d, sends);
     end_dialogue(&d);
 }
 
@@ -327,7 +29,7 @@ static void fails(recipe line, size_t accepted)
 /* The message of 39 bytes does not fit: EOT ends the opening, and the count is exact. */
 static void ended_by_the_station(void)
 {
-    recipe perfect = {"p", "p"};
+    recipe perfect = {"p", "p", "", 0};
     dialogue d = begin_dialogue(perfect, 17);
 
     while (next_act(&d))
@@ -341,7 +43,7 @@ static void ended_by_the_station(void)
  * sixth time ends the opening. Each time leaves one more copy of every later block on the line. */
 static void early_timers(int times, uint64_t end)
 {
-    recipe perfect = {"p", "p"};
+    recipe perfect = {"p", "p", "", 0};
     dialogue d = begin_dialogue(perfect, LONGEST_MESSAGE);
     size_t seen = 0;
 
@@ -392,7 +94,7 @@ static int random_act(dialogue *d)
 /* Units are lost and damaged anywhere on the line, Timer A is often early, and buffers may be short. */
 static void any_line(void)
 {
-    recipe perfect = {"p", "p"};
+    recipe perfect = {"p", "p", "", 0};
     size_t ends[4] = {0, 0, 0, 0};
     int holds = 1;
 
@@ -416,7 +118,7 @@ static void any_line(void)
 /* An ACK 1 of earlier is on the line, and block 1 is lost. */
 static void old_acknowledgment(void)
 {
-    recipe lost = {"l", "p"};
+    recipe lost = {"l", "p", "", 0};
     unit old = {GMV_REPLY_ACK, 0, {1, 0, 0, {0}}};
     dialogue d = begin_dialogue(lost, LONGEST_MESSAGE);
 
@@ -431,16 +133,14 @@ static void old_acknowledgment(void)
 /* A copy of block 1 comes in behind block 8: it is taken for block 9. */
 static void order_not_kept(void)
 {
-    recipe perfect = {"p", "p"};
+    recipe perfect = {"p", "p", "", 0};
     dialogue d = begin_dialogue(perfect, LONGEST_MESSAGE);
     unit copy;
 
     start_message(&d);
     copy = d.forward.units[0];
-    while (d.accepted_count < 8) {
-        next_act(&d);
+    while (d.accepted_count < 8 && next_act(&d))
         CHECK(statement_holds(&d));
-    }
     put(&d.forward, &copy);
     take_unit(&d);
     CHECK(d.accepted_count == 9 && !statement_holds(&d));
@@ -451,7 +151,7 @@ static void order_not_kept(void)
  * acknowledged and dropped. So it would be if numbers began anew with each message. */
 static void opened_on_one_side(void)
 {
-    recipe perfect = {"p", "p"};
+    recipe perfect = {"p", "p", "", 0};
     dialogue d = begin_dialogue(perfect, LONGEST_MESSAGE);
 
     d.started = 4; /* the next two have one block each */
@@ -473,8 +173,9 @@ static void opened_on_one_side(void)
 
 static void lines_by_recipe(void)
 {
-    const recipe perfect = {"p", "p"}, each_once = {"ldp", "lp"}, worst = {"lldp", "ldt"};
-    const recipe deaf = {"l", "p"}, mute = {"p", "l"}, noisy = {"d", "p"};
+    const recipe perfect = {"p", "p", "", 0}, each_once = {"ldp", "lp", "", 0};
+    const recipe worst = {"lldp", "ldt", "", 0}, deaf = {"l", "p", "", 0}, mute = {"p", "l", "", 0};
+    const recipe noisy = {"d", "p", "", 0};
 
     begin_test("master and station: 48 blocks in 9 messages, each sent once");
     delivers_all(perfect, 1);

@@ -20,6 +20,20 @@ static void name_block(char *text, uint64_t length, uint64_t block_size, uint64_
              (wide)(rest > block_size ? block_size : rest));
 }
 
+/* The last four words where the blocks so far were acknowledged by ACKs. */
+static const char *noted(uint64_t count)
+{
+    return count == 0 ? "0 0 0 0" : "1 0 0 0";
+}
+
+/* The block out is sent again once. */
+static void goes_again(const char *state, const char *named, uint64_t offset, uint64_t count)
+{
+    CASE("master_timer state=(%s %llu 0 %llu %s) -> 0 state=(%s %llu 1 %llu %s) "
+         "report=(1 %s 0 0 0 %llu 1)", state, (wide)offset, (wide)count, noted(count), state,
+         (wide)offset, (wide)count, noted(count), named, (wide)count);
+}
+
 /* The message goes out block by block, by one ACK each; before it every block is sent again once. */
 static void goes_out(uint64_t length, uint64_t block_size, uint64_t count)
 {
@@ -27,25 +41,25 @@ static void goes_out(uint64_t length, uint64_t block_size, uint64_t count)
     char state[LONGEST], named[LONGEST], next[LONGEST];
 
     name_block(named, length, block_size, 0, count);
-    CASE("master_start message_length=%llu block_size=%llu state=(1 0 0 0 0 %llu) -> 0 "
-         "state=(2 %llu %llu 0 0 %llu) report=(1 %s 0 0 0 %llu 0)", (wide)length, (wide)block_size,
-         (wide)count, (wide)length, (wide)block_size, (wide)count, named, (wide)count);
+    CASE("master_start message_length=%llu block_size=%llu state=(1 0 0 0 0 %llu %s) -> 0 "
+         "state=(2 %llu %llu 0 0 %llu %s) report=(1 %s 0 0 0 %llu 0)", (wide)length, (wide)block_size,
+         (wide)count, noted(count), (wide)length, (wide)block_size, (wide)count, noted(count), named,
+         (wide)count);
+    snprintf(state, sizeof state, "2 %llu %llu", (wide)length, (wide)block_size);
     for (;; offset += block_size, count++) {
-        snprintf(state, sizeof state, "2 %llu %llu", (wide)length, (wide)block_size);
         name_block(named, length, block_size, offset, count);
-        CASE("master_timer state=(%s %llu 0 %llu) -> 0 state=(%s %llu 1 %llu) "
-             "report=(1 %s 0 0 0 %llu 1)", state, (wide)offset, (wide)count, state, (wide)offset,
-             (wide)count, named, (wide)count);
+        goes_again(state, named, offset, count);
         if (length - offset <= block_size)
             break;
         name_block(next, length, block_size, offset + block_size, count + 1);
-        CASE("master_reply reply=1 number=%llu state=(%s %llu 1 %llu) -> 0 state=(%s %llu 0 %llu) "
-             "report=(1 %s 1 0 0 %llu 0)", (wide)((count + 1) % 8), state, (wide)offset, (wide)count,
-             state, (wide)(offset + block_size), (wide)(count + 1), next, (wide)(count + 1));
+        CASE("master_reply reply=1 number=%llu state=(%s %llu 1 %llu %s) -> 0 "
+             "state=(%s %llu 0 %llu 1 0 0 0) report=(1 %s 1 0 0 %llu 0)", (wide)((count + 1) % 8), state,
+             (wide)offset, (wide)count, noted(count), state, (wide)(offset + block_size),
+             (wide)(count + 1), next, (wide)(count + 1));
     }
-    CASE("master_reply reply=1 number=%llu state=(%s %llu 1 %llu) -> 0 state=(1 0 0 0 0 %llu) "
-         "report=(0 0 0 0 0 1 1 0 %llu 0)", (wide)((count + 1) % 8), state, (wide)offset, (wide)count,
-         (wide)(count + 1), (wide)(count + 1));
+    CASE("master_reply reply=1 number=%llu state=(%s %llu 1 %llu %s) -> 0 "
+         "state=(1 0 0 0 0 %llu 1 0 0 0) report=(0 0 0 0 0 1 1 0 %llu 0)", (wide)((count + 1) % 8), state,
+         (wide)offset, (wide)count, noted(count), (wide)(count + 1), (wide)(count + 1));
 }
 
 static void every_length_and_size(void)
@@ -74,40 +88,85 @@ static void numbers_go_round(void)
 
 /* ---- which words are a state */
 
+/* The header's rule on the words 6 and 7. */
+static int go_together(const uint64_t *w)
+{
+    const uint64_t interrupted = w[GMV_MASTER_INTERRUPTED];
+
+    switch (w[GMV_MASTER_LAST_REPLY]) {
+    case GMV_REPLY_NONE:
+        return interrupted == 0 && w[GMV_MASTER_COUNT] == 0 && w[GMV_MASTER_OFFSET] == 0;
+    case GMV_REPLY_ACK:
+    case GMV_REPLY_NAK:
+        return interrupted <= 1;
+    default:
+        return w[GMV_MASTER_LAST_REPLY] == GMV_REPLY_RINT && interrupted == 1;
+    }
+}
+
 /* The header's rule. */
 static int encodes_state(const uint64_t *w)
 {
-    const int waits = w[GMV_MASTER_PHASE] == GMV_MASTER_WAITING;
     const uint64_t length = w[GMV_MASTER_MESSAGE_LENGTH], offset = w[GMV_MASTER_OFFSET];
+    const int no_block = length == 0 && w[GMV_MASTER_BLOCK_SIZE] == 0 && offset == 0 &&
+                         w[GMV_MASTER_RESENDS] == 0 && w[GMV_MASTER_ENQUIRED] == 0 &&
+                         w[GMV_MASTER_MAY_RECEIVE] == 0;
 
-    if (w[GMV_MASTER_PHASE] > GMV_MASTER_WAITING)
+    switch (w[GMV_MASTER_PHASE]) {
+    case GMV_MASTER_CLOSED:
+        return no_block && w[GMV_MASTER_LAST_REPLY] == 0 && w[GMV_MASTER_INTERRUPTED] == 0;
+    case GMV_MASTER_IDLE:
+        return no_block && go_together(w);
+    case GMV_MASTER_WAITING:
+        return w[GMV_MASTER_BLOCK_SIZE] >= 1 && w[GMV_MASTER_RESENDS] <= 5 &&
+               (offset < length || offset == 0) && go_together(w) && w[GMV_MASTER_ENQUIRED] <= 1 &&
+               w[GMV_MASTER_MAY_RECEIVE] <= w[GMV_MASTER_INTERRUPTED];
+    default:
         return 0;
-    if (!waits)
-        return length == 0 && w[GMV_MASTER_BLOCK_SIZE] == 0 && offset == 0 && w[GMV_MASTER_RESENDS] == 0;
-    return w[GMV_MASTER_BLOCK_SIZE] >= 1 && w[GMV_MASTER_RESENDS] <= 5 &&
-           (offset < length || (offset == 0 && length == 0));
+    }
 }
 
-/* An act that changes nothing where the words encode a state, and one that applies to idle ones only. */
+static void write_words(char *text, const uint64_t *w)
+{
+    size_t length = 0;
+
+    for (size_t i = 0; i < GMV_MASTER_WORDS; i++)
+        length += (size_t)snprintf(text + length, LONGEST - length, i ? " %llu" : "%llu", (wide)w[i]);
+}
+
+/* Words that encode no state: every act but the opening is refused. */
+static void no_state(const char *words)
+{
+    static const char *const acts[] = {"master_start message_length=13 block_size=5",
+                                       "master_reply reply={1..5} number={0 1}", "master_timer",
+                                       "master_close", "master_enquire", "master_may_receive"};
+
+    for (size_t i = 0; i < sizeof acts / sizeof acts[0]; i++)
+        CASE("%s state=(%s) -> 11 same", acts[i], words);
+    CASE("master_start message_length=13 block_size=0 state=(%s) -> 1 same", words);
+}
+
+/* An act that changes nothing where the words encode a state, and those that do not apply to it. */
 static void try_words(const uint64_t *w)
 {
     char words[LONGEST];
 
-    snprintf(words, sizeof words, "%llu %llu %llu %llu %llu %llu", (wide)w[0], (wide)w[1], (wide)w[2],
-             (wide)w[3], (wide)w[4], (wide)w[5]);
-    if (encodes_state(w))
-        CASE("master_reply reply=4 number=0 state=(%s) -> 0 state=same "
-             "report=(0 0 0 0 0 0 0 0 %llu %llu)", words, (wide)w[5], (wide)w[4]);
-    else
-        CASE("master_reply reply={1..4} number={0 1} state=(%s) -> 11 same", words);
-    if (!encodes_state(w))
-        CASE("master_timer state=(%s) -> 11 same", words);
-    if (!encodes_state(w) || w[GMV_MASTER_PHASE] != GMV_MASTER_IDLE) {
+    write_words(words, w);
+    CASE("master_open state=(%s) -> 0 state=(1 0 0 0 0 0 0 0 0 0) report=(0 0 0 0 0 0 0 0 0 0)", words);
+    if (!encodes_state(w)) {
+        no_state(words);
+        return;
+    }
+    CASE("master_reply reply=4 number=0 state=(%s) -> 0 state=same report=(0 0 0 0 0 0 0 0 %llu %llu)",
+         words, (wide)w[GMV_MASTER_COUNT], (wide)w[GMV_MASTER_RESENDS]);
+    if (w[GMV_MASTER_PHASE] != GMV_MASTER_IDLE) {
         CASE("master_close state=(%s) -> 11 same", words);
         CASE("master_start message_length=13 block_size=5 state=(%s) -> 11 same", words);
-        CASE("master_start message_length=13 block_size=0 state=(%s) -> 1 same", words);
     }
-    CASE("master_open state=(%s) -> 0 state=(1 0 0 0 0 0) report=(0 0 0 0 0 0 0 0 0 0)", words);
+    if (w[GMV_MASTER_PHASE] != GMV_MASTER_WAITING)
+        CASE("master_enquire state=(%s) -> 11 same", words);
+    if (w[GMV_MASTER_INTERRUPTED] == 0)
+        CASE("master_may_receive state=(%s) -> 11 same", words);
 }
 
 /* A state with one word changed, for every word. */
@@ -129,10 +188,16 @@ static void changed_words(const uint64_t *from)
 
 static void words_of_no_state(void)
 {
+    const uint64_t most = UINT64_MAX;
     const uint64_t states[][GMV_MASTER_WORDS] = {
-        {GMV_MASTER_CLOSED, 0, 0, 0, 0, 3},  {GMV_MASTER_IDLE, 0, 0, 0, 0, 3},
-        {GMV_MASTER_WAITING, 10, 4, 4, 2, 3}, {GMV_MASTER_WAITING, 10, 1, 9, 5, 0},
-        {GMV_MASTER_WAITING, 0, 4, 0, 0, 3},  {GMV_MASTER_WAITING, UINT64_MAX, 1, UINT64_MAX - 1, 0, 3}};
+        {GMV_MASTER_CLOSED, 0, 0, 0, 0, 3, GMV_REPLY_NONE, 0, 0, 0},
+        {GMV_MASTER_IDLE, 0, 0, 0, 0, 3, GMV_REPLY_ACK, 0, 0, 0},
+        {GMV_MASTER_IDLE, 0, 0, 0, 0, 0, GMV_REPLY_NONE, 0, 0, 0},
+        {GMV_MASTER_WAITING, 10, 4, 4, 2, 3, GMV_REPLY_NAK, 0, 1, 0},
+        {GMV_MASTER_WAITING, 10, 1, 9, 5, 0, GMV_REPLY_ACK, 1, 0, 1},
+        {GMV_MASTER_WAITING, 0, 4, 0, 0, 3, GMV_REPLY_RINT, 1, 0, 0},
+        {GMV_MASTER_WAITING, 10, 4, 0, 0, 0, GMV_REPLY_NONE, 0, 0, 0},
+        {GMV_MASTER_WAITING, most, 1, most - 1, 0, 3, GMV_REPLY_RINT, 1, 1, 1}};
 
     for (size_t i = 0; i < sizeof states / sizeof states[0]; i++)
         changed_words(states[i]);

@@ -224,6 +224,18 @@ static void station_end(void)
     gmv_station_end(station, GMV_STATION_WORDS, station_report, GMV_STATION_REPORT_WORDS);
 }
 
+static void station_bare_enq(void)
+{
+    memcpy(station, station_before, sizeof station);
+    gmv_station_bare_enq(station, GMV_STATION_WORDS, station_report, GMV_STATION_REPORT_WORDS);
+}
+
+static void station_interrupt(void)
+{
+    memcpy(station, station_before, sizeof station);
+    gmv_station_interrupt(station, GMV_STATION_WORDS, station_report, GMV_STATION_REPORT_WORDS);
+}
+
 /* The master; the reply is block_type with the number block_number. */
 static uint64_t master[GMV_MASTER_WORDS], master_before[GMV_MASTER_WORDS];
 static uint64_t master_report[GMV_MASTER_REPORT_WORDS];
@@ -263,6 +275,18 @@ static void master_close(void)
 {
     memcpy(master, master_before, sizeof master);
     gmv_master_close(master, GMV_MASTER_WORDS, master_report, GMV_MASTER_REPORT_WORDS);
+}
+
+static void master_enquire(void)
+{
+    memcpy(master, master_before, sizeof master);
+    gmv_master_enquire(master, GMV_MASTER_WORDS, master_report, GMV_MASTER_REPORT_WORDS);
+}
+
+static void master_may_receive(void)
+{
+    memcpy(master, master_before, sizeof master);
+    gmv_master_may_receive(master, GMV_MASTER_WORDS, master_report, GMV_MASTER_REPORT_WORDS);
 }
 
 /* The bytes of the stack that were touched while the call ran. */
@@ -502,14 +526,24 @@ static void station_takes_little_stack(void)
     takes_little_stack(station_bad);
     takes_little_stack(station_enquiry);
     takes_little_stack(station_end);
+    takes_little_stack(station_bare_enq);
+    takes_little_stack(station_interrupt);
 }
 
-/* Closed, open, full, and words that encode no state; each block expected, just before that, another
- * and over 7, with a text that fits or does not. */
+/* Closed, open, full, with a RINT pending and given, and words that encode no state; each block
+ * expected, just before that, another and over 7, with a text that fits or does not. */
 static void every_kind_of_station(void)
 {
     const uint64_t states[][GMV_STATION_WORDS] = {
-        {0, 0, 0}, {1, 1, 0}, {1, 3, 96}, {1, 0, LIMIT}, {1, 3, LIMIT + 1}, {1, 8, 0}, {2, 0, 0}};
+        {0, 0, 0, GMV_REPLY_NONE, GMV_INTERRUPT_NONE},
+        {1, 1, 0, GMV_REPLY_NONE, GMV_INTERRUPT_PENDING},
+        {1, 3, 96, GMV_REPLY_ACK, GMV_INTERRUPT_NONE},
+        {1, 3, 96, GMV_REPLY_NAK, GMV_INTERRUPT_PENDING},
+        {1, 3, 96, GMV_REPLY_RINT, GMV_INTERRUPT_GIVEN},
+        {1, 0, LIMIT, GMV_REPLY_ACK, GMV_INTERRUPT_PENDING},
+        {1, 3, LIMIT + 1, GMV_REPLY_NAK, GMV_INTERRUPT_GIVEN},
+        {1, 3, 96, GMV_REPLY_RINT, GMV_INTERRUPT_NONE},
+        {2, 0, 0, GMV_REPLY_ACK, GMV_INTERRUPT_NONE}};
     const size_t lengths[] = {0, LIMIT - 96, LIMIT};
 
     memset(content, 'A', sizeof content);
@@ -520,12 +554,25 @@ static void every_kind_of_station(void)
                 text_length = lengths[j];
                 station_takes_little_stack();
             }
-    memcpy(station_before, states[2], sizeof station_before);
+}
+
+/* What is measured does its work: a RINT is asked for, given with a complete message, and given again. */
+static void station_does_its_work(void)
+{
+    const uint64_t before[] = {1, 3, 96, GMV_REPLY_ACK, GMV_INTERRUPT_NONE};
+
+    memcpy(station_before, before, sizeof station_before);
+    station_interrupt();
+    memcpy(station_before, station, sizeof station_before);
     block_number = 3;
     text_length = LIMIT - 96;
     station_block();
+    CHECK(station_report[GMV_STATION_REPLY] == GMV_REPLY_RINT);
     CHECK(station_report[GMV_STATION_COMPLETE] == 1);
     CHECK(station_report[GMV_STATION_MESSAGE_LENGTH] == LIMIT);
+    memcpy(station_before, station, sizeof station_before);
+    station_bare_enq();
+    CHECK(station_report[GMV_STATION_REPLY] == GMV_REPLY_RINT);
 }
 
 static void master_takes_little_stack(void)
@@ -541,33 +588,55 @@ static void master_takes_little_stack(void)
     takes_little_stack(master_reply);
     takes_little_stack(master_timer);
     takes_little_stack(master_close);
+    takes_little_stack(master_enquire);
+    takes_little_stack(master_may_receive);
 }
 
 /* Closed, idle, waiting with a block before the last, with the last one, after five resends and with
- * the last count, and words that encode no state; each reply, and codes that are none. */
+ * the last count, with RINT and the leave to receive, and words that encode no state; each reply, and
+ * codes that are none. */
 static void every_kind_of_master(void)
 {
     const uint64_t states[][GMV_MASTER_WORDS] = {
-        {GMV_MASTER_CLOSED, 0, 0, 0, 0, 3},
-        {GMV_MASTER_IDLE, 0, 0, 0, 0, 3},
-        {GMV_MASTER_WAITING, 10, 4, 0, 0, 3},
-        {GMV_MASTER_WAITING, 10, 4, 8, 5, 3},
-        {GMV_MASTER_WAITING, UINT64_MAX, 1, 7, 5, UINT64_MAX},
-        {GMV_MASTER_WAITING, 10, 4, 10, 0, 3},
-        {GMV_MASTER_WAITING + 1, 0, 0, 0, 0, 0}};
+        {GMV_MASTER_CLOSED, 0, 0, 0, 0, 3, GMV_REPLY_NONE, 0, 0, 0},
+        {GMV_MASTER_IDLE, 0, 0, 0, 0, 3, GMV_REPLY_RINT, 1, 0, 0},
+        {GMV_MASTER_WAITING, 10, 4, 0, 0, 3, GMV_REPLY_ACK, 0, 0, 0},
+        {GMV_MASTER_WAITING, 10, 4, 8, 5, 3, GMV_REPLY_NAK, 1, 1, 0},
+        {GMV_MASTER_WAITING, UINT64_MAX, 1, 7, 5, UINT64_MAX, GMV_REPLY_RINT, 1, 0, 0},
+        {GMV_MASTER_WAITING, 10, 4, 0, 0, 3, GMV_REPLY_RINT, 1, 1, 1},
+        {GMV_MASTER_WAITING, 10, 4, 8, 5, 3, GMV_REPLY_ACK, 1, 0, 1},
+        {GMV_MASTER_WAITING, 10, 4, 10, 0, 3, GMV_REPLY_ACK, 0, 0, 0},
+        {GMV_MASTER_WAITING, 10, 4, 4, 0, 3, GMV_REPLY_RINT, 0, 0, 0},
+        {GMV_MASTER_WAITING + 1, 0, 0, 0, 0, 0, GMV_REPLY_NONE, 0, 0, 0}};
 
     for (size_t i = 0; i < sizeof states / sizeof states[0]; i++)
-        for (block_type = GMV_REPLY_NONE; block_type <= GMV_REPLY_DAMAGED + 1; block_type++)
+        for (block_type = GMV_REPLY_NONE; block_type <= GMV_REPLY_RINT + 1; block_type++)
             for (block_number = 0; block_number < 9; block_number++) {
                 memcpy(master_before, states[i], sizeof master_before);
                 master_takes_little_stack();
             }
-    memcpy(master_before, states[2], sizeof master_before);
-    block_type = GMV_REPLY_ACK;
-    block_number = 4;
+}
+
+/* A RINT is taken, ENQ sent, and the opening reversed by the next ACK. */
+static void master_does_its_work(void)
+{
+    const uint64_t before[] = {GMV_MASTER_WAITING, 10, 4, 0, 0, 3, GMV_REPLY_ACK, 0, 0, 0};
+
+    memcpy(master_before, before, sizeof master_before);
+    block_type = GMV_REPLY_RINT;
     master_reply();
     CHECK(master_report[GMV_MASTER_REPORT_ACKNOWLEDGED] == 1);
     CHECK(master_report[GMV_MASTER_REPORT_OFFSET] == 4);
+    memcpy(master_before, master, sizeof master_before);
+    master_enquire();
+    CHECK(master_report[GMV_MASTER_REPORT_SEND] == GMV_MASTER_SEND_ENQ);
+    memcpy(master_before, master, sizeof master_before);
+    master_may_receive();
+    memcpy(master_before, master, sizeof master_before);
+    block_type = GMV_REPLY_ACK;
+    block_number = 5;
+    master_reply();
+    CHECK(master_report[GMV_MASTER_REPORT_END] == GMV_MASTER_END_REVERSED);
 }
 
 void test_stack(void)
@@ -577,7 +646,9 @@ void test_stack(void)
     good_and_damaged_messages();
     good_and_damaged_ends();
     every_kind_of_station();
+    station_does_its_work();
     every_kind_of_master();
+    master_does_its_work();
 }
 
 #endif

@@ -538,27 +538,28 @@ static void control_blocks(void)
 /* Forty blocks: after 7 comes 0, and after 0 comes 1. */
 static void numbers_go_round(void)
 {
-    CASE("station_open state=(0 0 0) -> 0 state=(1 1 0) report=(0 0 0 0)");
+    CASE("station_open state=(0 0 0 0 0) -> 0 state=(1 1 0 0 0) report=(0 0 0 0)");
     for (int block = 1; block <= 40; block++)
-        CASE("station_block number=%d ending=23 text=\"A\" buffer=%d*\"A\"%d*\"U\" state=(1 %d %d) "
-             "-> 0 buffer=%d:\"A\" state=(1 %d %d) report=(1 %d 0 0)", block % 8, block - 1,
-             41 - block, block % 8, block - 1, block - 1, (block + 1) % 8, block, block % 8);
-    CASE("station_block number=1 ending=3 text=\"\" buffer=40*\"A\" state=(1 1 40) -> 0 buffer=same "
-         "state=(1 2 0) report=(1 1 1 40)");
+        CASE("station_block number=%d ending=23 text=\"A\" buffer=%d*\"A\"%d*\"U\" "
+             "state=(1 %d %d %d 0) -> 0 buffer=%d:\"A\" state=(1 %d %d 1 0) report=(1 %d 0 0)", block % 8,
+             block - 1, 41 - block, block % 8, block - 1, block > 1, block - 1, (block + 1) % 8, block,
+             block % 8);
+    CASE("station_block number=1 ending=3 text=\"\" buffer=40*\"A\" state=(1 1 40 1 0) -> 0 buffer=same "
+         "state=(1 2 0 1 0) report=(1 1 1 40)");
 }
 
 /* A message in each block, so that the numbers go round while no text is held. */
 static void messages_go_round(void)
 {
-    CASE("station_open state=(0 0 0) -> 0 state=(1 1 0) report=(0 0 0 0)");
+    CASE("station_open state=(0 0 0 0 0) -> 0 state=(1 1 0 0 0) report=(0 0 0 0)");
     for (int block = 1; block <= 24; block++) {
         char before[8] = "UU";
 
         if (block > 1)
             snprintf(before, sizeof before, "%cz", '@' + block - 1);
-        CASE("station_block number=%d ending=3 text=\"%cz\" buffer=\"%sU\" state=(1 %d 0) -> 0 "
-             "buffer=0:\"%cz\" state=(1 %d 0) report=(1 %d 1 2)", block % 8, '@' + block, before,
-             block % 8, '@' + block, (block + 1) % 8, block % 8);
+        CASE("station_block number=%d ending=3 text=\"%cz\" buffer=\"%sU\" state=(1 %d 0 %d 0) -> 0 "
+             "buffer=0:\"%cz\" state=(1 %d 0 1 0) report=(1 %d 1 2)", block % 8, '@' + block, before,
+             block % 8, block > 1, '@' + block, (block + 1) % 8, block % 8);
     }
 }
 
@@ -570,15 +571,15 @@ static void text_fits(unsigned ending, size_t space, size_t held, size_t length,
     char call[LONGEST];
 
     snprintf(call, sizeof call,
-             "station_block number=4 ending=%u text=\"%.*s\" buffer=\"%s\" state=(1 4 %zu)", ending,
+             "station_block number=4 ending=%u text=\"%.*s\" buffer=\"%s\" state=(1 4 %zu {1 2} 0)", ending,
              (int)length, text, buffer, held);
     if (all > space)
-        CASE("%s -> 0 buffer=same state=(0 0 0) report=(3 0 0 0)", call);
+        CASE("%s -> 0 buffer=same state=(0 0 0 0 0) report=(3 0 0 0)", call);
     else if (ending == GMV_ETX)
-        CASE("%s -> 0 buffer=%zu:\"%.*s\" state=(1 5 0) report=(1 4 1 %zu)", call, held, (int)length,
+        CASE("%s -> 0 buffer=%zu:\"%.*s\" state=(1 5 0 1 0) report=(1 4 1 %zu)", call, held, (int)length,
              text, all);
     else
-        CASE("%s -> 0 buffer=%zu:\"%.*s\" state=(1 5 %zu) report=(1 4 0 0)", call, held, (int)length,
+        CASE("%s -> 0 buffer=%zu:\"%.*s\" state=(1 5 %zu 1 0) report=(1 4 0 0)", call, held, (int)length,
              text, all);
 }
 

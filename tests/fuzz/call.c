@@ -114,8 +114,12 @@ static uint64_t invoke_station(call *c)
         return gmv_station_bad(STATE, RESULT);
     case call_station_enquiry:
         return gmv_station_enquiry(STATE, RESULT);
-    default:
+    case call_station_end:
         return gmv_station_end(STATE, RESULT);
+    case call_station_bare_enq:
+        return gmv_station_bare_enq(STATE, RESULT);
+    default:
+        return gmv_station_interrupt(STATE, RESULT);
     }
 }
 
@@ -132,8 +136,12 @@ static uint64_t invoke_master(call *c)
         return gmv_master_reply(c->code, c->number, STATE, RESULT);
     case call_master_timer:
         return gmv_master_timer(STATE, RESULT);
-    default:
+    case call_master_close:
         return gmv_master_close(STATE, RESULT);
+    case call_master_enquire:
+        return gmv_master_enquire(STATE, RESULT);
+    default:
+        return gmv_master_may_receive(STATE, RESULT);
     }
 }
 
@@ -152,7 +160,7 @@ static enum family family_of(enum function function)
         return SENDER;
     if (function <= call_minimal_control_block)
         return MESSAGES;
-    return function <= call_station_end ? STATION : MASTER;
+    return function <= call_station_interrupt ? STATION : MASTER;
 }
 
 static uint64_t invoke(call *c)
@@ -280,8 +288,8 @@ void write_counts(void)
 {
     static const char *const kinds[] = {"read_block",   "field_delimiter", "received_block",
                                         "sender_event", "sender_send",     "station_reply",
-                                        "station_duplicate", "master_send", "master_end",
-                                        "master_number", "master_resends"};
+                                        "station_duplicate", "station_enquired", "master_send",
+                                        "master_end", "master_number", "master_resends", "master_rint"};
     const char *path = getenv("FUZZ_COUNTS");
     FILE *file = path ? fopen(path, "w") : NULL;
 

@@ -90,6 +90,7 @@ static uint64_t read_one_byte_more(const call *c)
 }
 
 #include "faults_master.h"
+#include "faults_station.h"
 
 static uint64_t word_of_state(const call *c, size_t index)
 {
@@ -106,7 +107,7 @@ static uint64_t invoke_library(call *c)
         return read_one_byte_more(c);
     if (c->function == call_station_block && is_planted("promise"))
         planted_sum(c->number);
-    number = invoke(c);
+    number = family_of(c->function) == STATION ? invoke_station_library(c) : invoke(c);
     if (c->function == call_hybrid_read && is_planted("read"))
         break_read(c, phase, number);
     if (c->function == call_minimal_write && is_planted("write"))

@@ -1,4 +1,5 @@
-/* The master's faults (faults.h). Each is a master that breaks one sentence of document 02, request 3. */
+/* The master's faults (faults.h). Each is a master that breaks one sentence of document 02, request 3 or
+ * 14. */
 #ifndef FAULTS_MASTER_H
 #define FAULTS_MASTER_H
 
@@ -156,13 +157,94 @@ static uint64_t invoke_damaged(call *c)
     return number;
 }
 
+/* ---- request 14 */
+
+/* A RINT after a RINT is taken. */
+static uint64_t invoke_twice(call *c, const master_before *b)
+{
+    const int is_doubtful = b->is_waiting && b->words[GMV_MASTER_LAST_REPLY] == GMV_REPLY_RINT &&
+                            c->function == call_master_reply && c->code == GMV_REPLY_RINT;
+    uint64_t number;
+
+    if (is_doubtful)
+        set_word(&c->state, GMV_MASTER_LAST_REPLY, GMV_REPLY_ACK);
+    number = invoke(c);
+    if (is_doubtful && number != GMV_OK)
+        set_word(&c->state, GMV_MASTER_LAST_REPLY, GMV_REPLY_RINT);
+    return number;
+}
+
+/* A RINT after a NAK is taken, though what was sent last is ENQ. */
+static uint64_t invoke_after_nak(call *c, const master_before *b)
+{
+    const int is_doubtful = b->is_waiting && b->words[GMV_MASTER_LAST_REPLY] == GMV_REPLY_NAK &&
+                            b->words[GMV_MASTER_ENQUIRED] == 1 && c->function == call_master_reply &&
+                            c->code == GMV_REPLY_RINT;
+    uint64_t number;
+
+    if (is_doubtful)
+        set_word(&c->state, GMV_MASTER_ENQUIRED, 0);
+    number = invoke(c);
+    if (is_doubtful && number != GMV_OK)
+        set_word(&c->state, GMV_MASTER_ENQUIRED, 1);
+    return number;
+}
+
+/* A damaged reply is noted. */
+static void break_noted(call *c, const master_before *b)
+{
+    if (c->function == call_master_reply && c->code == GMV_REPLY_DAMAGED && b->is_waiting)
+        set_word(&c->state, GMV_MASTER_LAST_REPLY, GMV_REPLY_ACK);
+}
+
+/* A reply that comes with no block out is not noted. */
+static void break_unnoted(call *c, const master_before *b)
+{
+    if (c->function == call_master_reply && b->words[GMV_MASTER_PHASE] == GMV_MASTER_IDLE &&
+        get_word(&c->state, GMV_MASTER_PHASE) == GMV_MASTER_IDLE)
+        set_word(&c->state, GMV_MASTER_LAST_REPLY, b->words[GMV_MASTER_LAST_REPLY]);
+}
+
+/* A refused RINT is not counted as a resend. */
+static void break_refused(call *c, const master_before *b)
+{
+    if (c->function == call_master_reply && c->code == GMV_REPLY_RINT)
+        break_uncounted(c, b);
+}
+
+/* The leave ends the opening with the block still out. */
+static void break_leave(call *c, const master_before *b)
+{
+    if (c->function != call_master_may_receive || !b->is_waiting)
+        return;
+    fail_master(c);
+    set_word(&c->result, GMV_MASTER_REPORT_END, GMV_MASTER_END_REVERSED);
+}
+
+/* An enquiry counts as a resend. */
+static void break_enquiry(call *c, const master_before *b)
+{
+    if (c->function == call_master_enquire && b->words[GMV_MASTER_RESENDS] < 5)
+        set_both(c, GMV_MASTER_RESENDS, GMV_MASTER_REPORT_RESENDS, b->words[GMV_MASTER_RESENDS] + 1);
+}
+
+/* A reversal with the message's last block does not tell that it is done. */
+static void break_undone(call *c, const master_before *b)
+{
+    (void)b;
+    if (told_by_master(c, GMV_MASTER_REPORT_END) == GMV_MASTER_END_REVERSED)
+        set_word(&c->result, GMV_MASTER_REPORT_DONE, 0);
+}
+
 static uint64_t invoke_master_broken(call *c, const master_before *b)
 {
     static const struct {
         const char *name;
         void (*break_report)(call *, const master_before *);
     } faults[] = {{"uncounted", break_uncounted}, {"early", break_early}, {"unraised", break_unraised},
-                  {"ending", break_ending}, {"eot", break_eot}};
+                  {"ending", break_ending}, {"eot", break_eot}, {"noted", break_noted},
+                  {"unnoted", break_unnoted}, {"refused", break_refused}, {"leave", break_leave},
+                  {"enquiry", break_enquiry}, {"undone", break_undone}};
     uint64_t number;
 
     if (is_planted("late"))
@@ -173,6 +255,10 @@ static uint64_t invoke_master_broken(call *c, const master_before *b)
         return invoke_before(c, b);
     if (is_planted("damaged"))
         return invoke_damaged(c);
+    if (is_planted("twice"))
+        return invoke_twice(c, b);
+    if (is_planted("after_nak"))
+        return invoke_after_nak(c, b);
     number = invoke(c);
     for (size_t i = 0; number == GMV_OK && i < sizeof faults / sizeof faults[0]; i++)
         if (is_planted(faults[i].name))

@@ -57,7 +57,9 @@ memory take_buffer(input *in, size_t need, size_t *start);
     X(sender_submit) X(sender_open) X(sender_ended) X(sender_reset) X(sender_timer) \
     X(sender_block) X(hybrid_control_block) X(minimal_control_block) X(station_fresh) \
     X(station_open) X(station_block) X(station_bad) X(station_enquiry) X(station_end) \
-    X(master_fresh) X(master_open) X(master_start) X(master_reply) X(master_timer) X(master_close)
+    X(station_bare_enq) X(station_interrupt) \
+    X(master_fresh) X(master_open) X(master_start) X(master_reply) X(master_timer) X(master_close) \
+    X(master_enquire) X(master_may_receive)
 
 #define NAME_FUNCTION(name) call_##name,
 enum function { FUNCTIONS(NAME_FUNCTION) FUNCTION_COUNT };
@@ -159,10 +161,12 @@ enum outcome {
     SENDER_SEND,
     STATION_REPLY,
     STATION_DUPLICATE,
+    STATION_ENQUIRED,
     MASTER_SEND,
     MASTER_END,
     MASTER_NUMBER,
     MASTER_RESENDS,
+    MASTER_RINT,
     OUTCOME_COUNT
 };
 void count_outcome(enum outcome kind, uint64_t number);

@@ -25,10 +25,10 @@ ROWS = [
     ("receiver's reply buffer", "D + 15 bytes; minimal D + 3", {"hybrid-reply": D + 15, "minimal-reply": D + 3}),
     ("sender's state", "7 words", {"sender-state": 7}),
     ("sender's report", "8 words", {"sender-report": 8}),
-    ("station's state", "3 words", {"station-state": 3}),
+    ("station's state", "5 words", {"station-state": 5}),
     ("station's report", "4 words", {"station-report": 4}),
     ("station's message buffer", "none", {"station-buffer": 0}),
-    ("master's state", "6 words", {"master-state": 6}),
+    ("master's state", "10 words", {"master-state": 10}),
     ("master's report", "10 words", {"master-report": 10}),
 ]
 

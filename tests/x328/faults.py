@@ -8,22 +8,42 @@ import subprocess
 
 ROOT = os.path.dirname(os.path.dirname(os.path.dirname(os.path.abspath(__file__))))
 SOURCES, SHARED = os.path.join(ROOT, 'examples', 'x328'), os.path.join(ROOT, 'examples', 'driver')
-SHARED_FILES = ('common.c', 'store.c', 'spool.c')
+SHARED_FILES = ('common.c', 'store.c')
 INCLUDE = os.environ.get('INCLUDE', os.path.join(ROOT, 'include'))
 ARCHIVE = os.environ.get('ARCHIVE', os.path.join(ROOT, 'target', 'staticlib', 'libgiamuvich.a'))
-COMPILER = ['gcc', '-std=c99', '-D_XOPEN_SOURCE=700', '-O1', '-w', '-I', INCLUDE, '-I', SHARED]
+COMPILER = ['nice', 'gcc', '-std=c99', '-D_XOPEN_SOURCE=700', '-O1', '-w', '-I', INCLUDE, '-I', SHARED]
 
 # The finder is a link (by its index), a script (by its name), a talk (by its name) or a test of the framing (by its
 # name), and what it finds has these words. The edits are (file, text that is there once, text instead).
 Fault = collections.namedtuple('Fault', 'name finder words edits')
 LOST, NEVER_SENT, TWICE = 'reported done, and not stored', 'stored, and never sent', 'stored twice in one opening'
+NOT_FIRST = 'the report was stored before the stat message'
 BAD_LINE, SLAVE_KILLED = 0, 5
 
 GRANTS_ALWAYS = ('slave.c', '''\
-    if (slave->state[GMV_STATION_OPEN] == 1 && slave->any_accepted) {
+    if (!slave->any_accepted) {
 ''', '''\
-    if (0) {
+    if (1) {
 ''')
+NO_SILENCE = ('station.c', '''\
+    return line_is_silent(&station->line, silence_before_bid(station));
+''', '''\
+    return 1;
+''')
+NO_EOT = ('frame.c', '''\
+    const size_t length = frame_eot(frame);
+
+    return length + frame_enq(frame + length);
+''', '''\
+    return frame_enq(frame);
+''')
+
+
+def enquires(when):
+    """A master that enquires with other blocks out."""
+    return [('master.c', '(number >= 2 && number <= 6)', when)]
+
+
 NOT_OPENED = [GRANTS_ALWAYS, ('slave.c', '''\
     require_done(gmv_station_open(slave->state,''', '''\
     if (slave->state[GMV_STATION_OPEN] == 0)
@@ -38,18 +58,14 @@ FAULTS = (
 '''), ('slave.c', '''\
     if (report[GMV_STATION_COMPLETE] == 1 &&
 ''', '''\
-    write_reply(slave, frame,
-                frame_ack(frame, slave->settings->prefix, (unsigned)report[GMV_STATION_REPLY_NUMBER]));
+    write_reply(slave);
     poll(NULL, 0, 20);
     if (report[GMV_STATION_COMPLETE] == 1 &&
 '''), ('slave.c', '''\
-    }
-    write_reply(slave, frame,
-                frame_ack(frame, slave->settings->prefix, (unsigned)report[GMV_STATION_REPLY_NUMBER]));
-    return 1;
+        say_interrupt_given();
+    write_reply(slave);
 ''', '''\
-    }
-    return 1;
+        say_interrupt_given();
 ''')]),
     Fault('a master without a bid', 'a lost closing EOT', 'never came', [('station.c', '''\
     write_bid(station);
@@ -58,7 +74,7 @@ FAULTS = (
 /* Said after a while''', '''\
     station->mode = MASTER;
     if (!master_open(&station->master))
-        return_to_control(station);
+        leave_master(station);
 }
 
 /* Said after a while''')]),
@@ -71,7 +87,7 @@ FAULTS = (
     if (granted_before++) {
         station->mode = MASTER;
         if (!master_open(&station->master))
-            return_to_control(station);
+            leave_master(station);
     } else {
         write_bid(station);
     }
@@ -88,23 +104,135 @@ FAULTS = (
     splitter_reset(splitter);
     return unit->kind != UNIT_NONE;
 ''')]),
-    Fault('a line that is not silent at the start', 'old replies on the way', LOST, [('station.c', '''\
-    if (!line_is_silent(&station->line))
+    Fault('a line that is not silent at the start', 'old replies on the way', LOST, [NO_SILENCE]),
+    Fault('a station that counts on over a bid', 'a lost closing EOT, and those of the next bids', LOST, NOT_OPENED),
+    Fault('a bid that is always granted', 'an ENQ of noise before an eighth block', LOST, [GRANTS_ALWAYS]),
+    Fault('an eighth block that noise acknowledges', 'an ENQ of noise in place of an eighth block', LOST, [GRANTS_ALWAYS]),
+    Fault('a ninth block that noise makes the first', 'an ENQ of noise before a ninth block', NEVER_SENT, [GRANTS_ALWAYS]),
+    Fault('a station that is handed every ENQ', 'a lost ACK 0', ' bids, ', [('slave.c', '''\
+    if (!slave->any_accepted) {
 ''', '''\
-    if (0)
-'''), ('station.c', ' && line_is_silent(&station->line))', ')')]),
-    Fault('a station that counts on over a bid', 'a lost closing EOT', LOST, NOT_OPENED),
-    Fault('a bid that is always granted', 'a bid of noise before an eighth block', LOST, [GRANTS_ALWAYS]),
-    Fault('an eighth block that noise acknowledges', 'a bid of noise in place of an eighth block', LOST, [GRANTS_ALWAYS]),
-    Fault('a ninth block that noise makes the first', 'a bid of noise before a ninth block', NEVER_SENT, [GRANTS_ALWAYS]),
-    Fault('a station that holds text over a bid', 'a kill after an eighth block', NEVER_SENT, NOT_OPENED),
+    if (0) {
+''')]),
+    Fault('a master that bids at once after a kill', 'a kill after an eighth block', NEVER_SENT, [NO_SILENCE, NO_EOT]),
+    Fault('a start without Timer D', 'a kill after an eighth block, and lost EOTs', NEVER_SENT, [('station.c', '''\
+    station->other_may_hold_text = 1; /* a predecessor''', '''\
+    station->other_may_hold_text = 0; /* a predecessor''')]),
+    Fault('a failure without Timer D', 'a failure after an eighth block', NEVER_SENT, [('station.c', '''\
+ = end == GMV_MASTER_END_FAILED || end == GMV_MASTER_END_REVERSED;
+''', '''\
+ = end == GMV_MASTER_END_REVERSED;
+''')]),
+    Fault('a reversal without Timer D', 'a reversal after an eighth block', NEVER_SENT, [('station.c', '''\
+ = end == GMV_MASTER_END_FAILED || end == GMV_MASTER_END_REVERSED;
+''', '''\
+ = end == GMV_MASTER_END_FAILED;
+''')]),
+    Fault('an enquiry that holds the station open', 'timer d', 'it said', [('slave.c', '''\
+    say_enquiry();
+''', '''\
+    say_enquiry();
+    restart_timer_d(slave);
+''')]),
+    Fault('an enquiry that acknowledges block 0', 'an enquiry with an eighth block out', LOST, enquires('number != 1')),
+    Fault('an enquiry that makes block 1 the first', 'an enquiry with a ninth block out', NEVER_SENT,
+          enquires('number != 0')),
+    Fault('an enquiry before block 0', 'an enquiry on the way when an eighth block is out', LOST, enquires('number >= 2')),
+    Fault('a RINT that is asked for once', 'two lost RINTs', NOT_FIRST, [('station.c', '''\
+    if (station->vain < MOST_VAIN && slave_may_interrupt(&station->slave) && outbox_take_urgent(outbox))
+''', '''\
+    static int asked;
+    if (!asked && slave_may_interrupt(&station->slave) && outbox_take_urgent(outbox) && ++asked)
+''')]),
+    Fault('a reversed message that is taken for done', 'a stat message while a report comes in', LOST, [('master.c', '''\
+    if (master->report[GMV_MASTER_REPORT_DONE] == 1) {
+''', '''\
+    if (master->report[GMV_MASTER_REPORT_DONE] == 1 ||
+        master->report[GMV_MASTER_REPORT_END] == GMV_MASTER_END_REVERSED) {
+''')]),
+    Fault('stat messages that break off each other', 'stat messages on both sides', 'never came', [('master.c', '''\
+ == 0 &&
+           !(master->is_under_way && master->outbox.urgent);
+''', '''\
+ == 0;
+''')]),
+    Fault('a bid without EOT', 'a master sends', 'should bid', [NO_EOT]),
+    Fault('a hang-up without Timer D', 'a line that hangs up with a block out', 'it bid after', [('station.c', '''\
+    line_close(&station->line);
+    station->other_may_hold_text = 1;
+''', '''\
+    line_close(&station->line);
+''')]),
+    Fault('a bid at once where no block came', 'no bid at once where no block came', 'it bid after', [('station.c', '''\
+    if (station->slave.any_accepted && outbox_take_urgent''', '''\
+    if (outbox_take_urgent''')]),
+    Fault('a slave that waits when it may bid', 'a slave interrupts', 'it waited', [('station.c', '''\
+    if (unit->kind == UNIT_EOT)
+        bid_for_urgent(station);
+''', '')]),
+    Fault('a master that waits though it was slave since', 'a master is interrupted', 'it bid after', [('station.c', '''\
+    if (station->slave.any_accepted)
+        station->other_may_hold_text = 0;
+''', '')]),
+    Fault('a stat message that interrupts for ever', 'a stat message that is never taken', 'it said', [('station.c', '''\
+    if (station->vain < MOST_VAIN && slave_may''', '''\
+    if (slave_may''')]),
+    Fault('a stat message that never interrupts again', 'a stat message that is never taken', 'it said', [('station.c', '''\
+        station->vain = 0;
+''', '''\
+        ;
+''')]),
+    Fault('a RINT before storing', 'where storing fails there is no rint', 'it said', [('slave.c', '''\
+    if (report[GMV_STATION_COMPLETE] == 1 &&
+''', '''\
+    if (report[GMV_STATION_COMPLETE] == 1 && report[GMV_STATION_REPLY] == GMV_REPLY_ACK &&
+''')]),
+    Fault('a message that is done and reversed', 'done and reversed at once', 'done are', [('master.c', '''\
+    if (master->report[GMV_MASTER_REPORT_DONE] == 1) {
+''', '''\
+    if (master->report[GMV_MASTER_REPORT_DONE] == 1 &&
+        master->report[GMV_MASTER_REPORT_END] == GMV_MASTER_END_NONE) {
+''')]),
+    Fault('a next message after a RINT', 'a rint for the last block', 'it said', [('master.c', '''\
+    if (may_receive(master)) {
+''', '''\
+    if (may_receive(master) && !is_done) {
+''')]),
+    Fault('ordinary messages first', 'stat messages go first', 'it said', [('outbox.c', '''\
+    return outbox_take_urgent(outbox) || take_first(outbox, ORDINARY);
+''', '''\
+    return take_first(outbox, ORDINARY) || outbox_take_urgent(outbox);
+''')]),
+    Fault('enquiries and no block', 'an enquiry on timer a', 'it said', [('master.c', '''\
+           master->state[GMV_MASTER_ENQUIRED] == 0 && (''', '''\
+           (''')]),
+    Fault('a RINT that is taken for an ACK', 'cases', 'by units.py', [('splitter.c', '''\
+        splitter->kind = UNIT_RINT;
+''', '''\
+        splitter->number = 4;
+''')]),
+    Fault('a link that is taken for a message', 'what is no message', 'it said', [('waiting.c', '''\
+    return lstat(path''', '''\
+    return stat(path''')]),
+    Fault("the host's next file goes with the last one", 'a file that is replaced meanwhile', 'it said', [('waiting.c', '''\
+    if (is_seen_file(path, &file->seen) && unlink(path) != 0''', '''\
+    if (unlink(path) != 0''')]),
+    Fault('a long name that is not moved', 'names that are refused', 'never came', [('waiting.c', '''\
+        else if (error == ENAMETOOLONG && kept > 0)
+            kept--;
+''', '')]),
+    Fault('an ordinary message that interrupts', 'an ordinary message does not interrupt', 'it said', [('station.c', '''\
+ && outbox_take_urgent(outbox))
+        slave_interrupt''', '''\
+ && outbox_take(outbox))
+        slave_interrupt''')]),
     Fault('check characters that are not compared', 'single_damage', 'is taken for', [('splitter.c', '''\
     return memcmp(digits, splitter->checks, sizeof digits) == 0 &&
 ''', '''\
     return
 ''')]),
     Fault('a message that is not recorded as done', BAD_LINE, TWICE, [('outbox.c', '''\
-    spool_remove(outbox->folder, &outbox->file);
+    waiting_remove(outbox->folder, &outbox->file);
 ''', '')]),
     Fault('an ACK where storing fails', 'where storing fails eot goes out', 'it said', [('slave.c', '''\
         say_not_stored(strerror(errno));
@@ -115,10 +243,10 @@ FAULTS = (
 ''')]),
     Fault('a station that stays open after its own EOT', 'where storing fails eot goes out', 'should say nothing', [('slave.c', '''\
     close_station(slave);
-    write_reply(slave, frame, frame_eot(frame));
+    line_write(slave->line, frame, frame_eot(frame));
     return 0;
 ''', '''\
-    write_reply(slave, frame, frame_eot(frame));
+    line_write(slave->line, frame, frame_eot(frame));
     return 1;
 ''')]),
     Fault('a message that is not synced', 'a message is durable before its ack', '/received/.new', [('durable.c', '''\
@@ -132,9 +260,9 @@ FAULTS = (
     sync_folder(received->folder);
 ''', '')]),
     Fault('a primary that grants while it bids', 'the primary goes on with its bid', 'should bid', [('station.c', '''\
-           (station->mode == BIDDING && !station->settings->primary);
+(station->mode == BIDDING && !station->settings->primary);
 ''', '''\
-           station->mode == BIDDING;
+station->mode == BIDDING;
 ''')]),
     Fault('a length that is believed', 'cases', 'by units.py', [('splitter.c', '''\
     if (byte == ENQ) {
@@ -185,7 +313,7 @@ static void take_in_block(''')]),
     if (0)
 ''')]),
     Fault('a silence that is looked at too early', 'a disk that takes long', 'it bid too early', [
-        ('station.c', ' && line_is_silent(&station->line))', ')')]),
+        ('station.c', 'outbox_take(outbox) && line_is_free(station))', 'outbox_take(outbox))')]),
     Fault('a parity that is not there', 'a device without parity', 'it did not end', [('line.c', '''\
     require_modes(line, &modes);
 ''', '')]),
@@ -228,5 +356,5 @@ def build(fault, objects, folder):
     for name in edit(fault, sources):
         parts[name[:-1] + 'o'] = os.path.join(folder, name[:-1] + 'o')
         compile_file(os.path.join(sources, name), parts[name[:-1] + 'o'], sources)
-    subprocess.run(['gcc', '-o', program, *parts.values(), ARCHIVE], check=True)
+    subprocess.run(['nice', 'gcc', '-o', program, *parts.values(), ARCHIVE], check=True)
     return program

@@ -14,6 +14,7 @@ NONE, DEVICE, SOFTWARE = range(3)
 # 000, C.3.1.7, with its two misprints put right: STX is 02 (not 01), and the i of `is` is 69 (not I, 49)
 EXAMPLE = bytes.fromhex('02 31 30 30 30 31 33 48 4C 37 20 69 73 20 67 72 65 61 74 21 03 36 44 0D')
 SEGMENTS = units.block(3, b'MSH|^~\\&|LAB\rA\rPID|100003abc\r', ETB)
+RINT = bytes.fromhex('10 3C 0D')  # 000, C.3.1.4
 # a text that would be a block if the byte before it were STX
 ALIKE = units.block(1, b'x' + units.block(1, b'abc')[1:-4] + b'\r')
 
@@ -61,7 +62,7 @@ def example(framing):
     if framing.units([EXAMPLE]) != [['block:1:3:' + b'HL7 is great!'.hex()]]:
         return 'it reads %s' % framing.units([EXAMPLE])
     written = framing.ask(['w1XHL7 is great!'])[0].split()
-    wanted = [EXAMPLE, ENQ + CR, EOT + CR, b'WARD' + NAK + CR, DLE + b'7' + CR]
+    wanted = [EXAMPLE, ENQ + CR, EOT + CR, b'WARD' + NAK + CR, DLE + b'7' + CR, RINT, b'WARD' + RINT, EOT + CR + ENQ + CR]
     if [bytes.fromhex(each) for each in written] != wanted or units.block(1, b'HL7 is great!') != EXAMPLE:
         return 'it writes %s' % written
     return None if framing.units([EXAMPLE.replace(b'6D', b'6d')]) == [['bad']] else 'small letters pass'
@@ -83,17 +84,32 @@ def single_damage(framing):
 
 
 def single_bits(framing):
-    """With parity no unit with one bit changed is taken, an ACK neither."""
+    """With parity no unit with one bit changed is taken, an ACK neither, nor RINT, which differs from ACK 4 in one."""
     streams = []
-    for unit in (EXAMPLE, units.ack(4), units.ack(2, b'WARD'), units.BID, units.END, units.REFUSAL):
+    for unit in (EXAMPLE, units.ack(4), units.ack(2, b'WARD'), RINT, b'WARD' + RINT, units.ENQUIRY, units.END,
+                 units.REFUSAL):
         data = units.with_parity(unit)
         streams += [data[:at] + bytes([data[at] ^ 1 << bit]) + data[at + 1:]
                     for at in range(len(data)) for bit in range(8)]
     for stream, said in zip(streams, framing.units(streams, SOFTWARE)):
         if set(said) - {'bad', 'abandoned', 'damaged', '..'}:
             return '%s is taken for %s' % (stream, said)
-    whole = framing.units([units.with_parity(EXAMPLE + units.ack(2, b'WARD') + units.BID)], SOFTWARE)
-    return None if whole == [['block:1:3:' + b'HL7 is great!'.hex(), 'ack:2', 'bid']] else whole
+    whole = framing.units([units.with_parity(EXAMPLE + units.ack(2, b'WARD') + RINT + units.ENQUIRY)], SOFTWARE)
+    return None if whole == [['block:1:3:' + b'HL7 is great!'.hex(), 'ack:2', 'rint', 'enq']] else whole
+
+
+def damaged_rint(framing):
+    """A RINT with one byte changed, lost or doubled is not acted upon; but where its second byte becomes a digit it is an
+    ACK, and nothing but parity can tell."""
+    streams = [RINT[:at] + bytes([byte]) + RINT[at + 1:] for at in range(3) for byte in range(256) if byte != RINT[at]]
+    streams += [RINT[:at] + RINT[at + 1:] for at in range(3)] + [RINT[:at] + RINT[at:at + 1] + RINT[at:] for at in (0, 1)]
+    acks, taken = {units.ack(number): ['ack:%d' % number] for number in range(8)}, 0
+    for stream, said in zip(streams, framing.units(streams)):
+        taken += said == acks.get(stream)
+        if said != acks.get(stream) and set(said) - {'bad', 'abandoned', 'damaged', '..'}:
+            return '%s is taken for %s' % (stream, said)
+    notes.note('%d damaged, %d of them an ACK', len(streams), taken)
+    return None if taken == 8 else '%d are an ACK' % taken
 
 
 def device_parity(framing):
@@ -109,7 +125,7 @@ def device_parity(framing):
 
 def every_split(framing):
     """Wherever the stream is parted, the units are the same."""
-    stream = b'noise\r' + EXAMPLE + units.ack(0, b'WARD') + SEGMENTS + b'\xff\x00' + units.BID + units.END
+    stream = b'noise\r' + EXAMPLE + units.ack(0, b'WARD') + SEGMENTS + b'\xff\x00' + units.ENQUIRY + RINT + units.BID
     for parity in (NONE, DEVICE):
         said = framing.ask(['%d %s %s' % (parity, stream[:at].hex(), stream[at:].hex()) for at in range(1, len(stream))])
         if len(set(said)) != 1 or 'block' not in said[0]:
@@ -122,8 +138,8 @@ CASES = [
     (units.block(1, b'a' + STX + b'b' + EOT + CR + NAK + DLE + b'1' + CR), ['block:1:3:6102620' + '40d1510310d']),
     (units.block(1, b'ab' + ETX + b'cd') + units.END, ['bad', 'eot']),
     (STX + b'199999abc' + ENQ + CR + units.END, ['abandoned', 'eot']),
-    (STX + ENQ + CR + units.BID, ['abandoned', 'bid']),
-    (STX + b'1000' + ENQ + b'x' + units.BID, ['bad', 'bid']),
+    (STX + ENQ + CR + units.ENQUIRY, ['abandoned', 'enq']),
+    (STX + b'1000' + ENQ + b'x' + units.ENQUIRY, ['bad', 'enq']),
     # a length that is believed would wait for bytes that never come
     (STX + b'199999abc' + ETX + b'00' + CR + EXAMPLE, ['bad', 'block:1:3:' + b'HL7 is great!'.hex()]),
     # a check character or a digit is never a unit of its own
@@ -131,17 +147,24 @@ CASES = [
     (STX + b'100001a' + ETX + ENQ + CR + STX + units.ack(1), ['bad', 'ack:1']),
     (DLE + EOT + CR + units.END, ['damaged', 'eot']),
     (DLE + ENQ + CR, ['damaged']), (DLE + NAK + CR, ['damaged']), (DLE + STX + CR, ['damaged']),
-    (DLE + b'<' + CR, ['damaged']), (DLE + b'8' + CR, ['damaged']),
+    (DLE + b'8' + CR, ['damaged']), (DLE + b'=' + CR, ['damaged']), (DLE + b'|' + CR, ['damaged']),
+    # RINT, and what is none
+    (RINT, ['rint']), (b'x' * 15 + RINT, ['rint']), (b'x' * 16 + RINT, ['damaged']), (b'a\tb' + RINT, ['damaged']),
+    (DLE + b'<' + EOT + units.END, ['damaged', 'eot']), (DLE + b'<' + RINT, ['damaged']), (b'<' + CR, []),
+    (RINT + units.ack(4) + RINT, ['rint', 'ack:4', 'rint']),
+    # a bid is an EOT and an ENQ
+    (units.BID, ['eot', 'enq']), (EOT + units.ENQUIRY, ['damaged']),
     (DLE + DLE + b'1' + units.ack(2), ['damaged', 'ack:2']),
     (ETX + EOT + CR + CR + units.END, ['eot']), (ETB + ENQ + NAK + CR + units.REFUSAL, ['nak']),
     # where TERM belongs
-    (NAK + EOT + units.END, ['damaged', 'eot']), (EOT + ENQ + units.BID, ['damaged', 'bid']),
+    (NAK + EOT + units.END, ['damaged', 'eot']), (EOT + ENQ + units.ENQUIRY, ['damaged', 'enq']),
     (EXAMPLE[:-1] + EOT + units.END, ['bad', 'eot']),
     # prefixes
     (units.ack(5, b'x' * 15), ['ack:5']), (units.ack(5, b'x' * 16), ['damaged']),
     (b'x' * 15 + units.REFUSAL, ['nak']), (b'x' * 16 + units.REFUSAL, ['damaged']),
     (b'x' * 40 + CR + b'x' * 15 + units.ack(1), ['ack:1']), (b'a\tb' + units.ack(1), ['damaged']),
-    (b'\x06' + units.ack(1), ['damaged']), (b'x' + units.END, ['damaged']), (b'x' + units.BID, ['damaged']),
+    (b'\x06' + units.ack(1), ['damaged']), (b'x' + units.END, ['damaged']),
+    (b'x' + units.ENQUIRY, ['damaged']),
     (b'x' + CR + units.END, ['eot']), (b'noise' + EXAMPLE, ['block:1:3:' + b'HL7 is great!'.hex()]),
     # a heading is not agreed
     (SOH + EXAMPLE[1:], ['bad']),
@@ -165,7 +188,8 @@ def drawn_stream(source):
     for _ in range(source.randrange(1, 6)):
         text = bytes(source.choice(b'abc|19\r\r<\x01\x02\x03\x04\x05\x10\x15\x17\xff') for _ in range(source.randrange(8)))
         part = source.choice((units.block(source.randrange(9), text, source.choice((ETX, ETB))), text, units.BID, units.END,
-                              units.REFUSAL, units.ack(source.randrange(8), text[:4]), STX + text, DLE + text))
+                              units.REFUSAL, units.ENQUIRY, units.rint(text[:4]), units.ack(source.randrange(8), text[:4]),
+                              STX + text, DLE + text))
         if source.random() < 0.4:
             at = source.randrange(len(part) + 1)
             part = part[:at] + bytes([source.randrange(24)]) * source.randrange(3) + part[at + source.randrange(2):]

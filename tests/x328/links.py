@@ -18,8 +18,9 @@ Scenario = collections.namedtuple(
 
 SIZES = (0, 1, 244, 245, 246, 490, 3000)
 EVERY, MASTERS, SLAVES, NOBODY = (0, 1), (0,), (1,), ()
-# With these, no reply may be on the way for longer than 210 milliseconds: the line's longest delay is 50 each way.
-SHORT = {'timer_a': 120, 'timer_b': 90}
+# With these, no reply may be on the way for longer than 210 milliseconds: the line's longest delay is 50 each way. Timer D
+# runs out before six sends, as 000's defaults have it.
+SHORT = {'timer_a': 120, 'timer_b': 90, 'timer_d': 600}
 SCENARIOS = (
     Scenario('a bad line', 0.06, 0.06, 0.10, 0.09, 0, 0, NOBODY, False, 245, {}, SIZES),
     Scenario('a bad line, and the master is killed', 0.03, 0.03, 0.06, 0.05, 0.12, 0.3, MASTERS, False, 245, SHORT, SIZES),
@@ -27,10 +28,22 @@ SCENARIOS = (
     Scenario('both send over a bad line, and both are killed', 0.03, 0.03, 0.06, 0.05, 0.08, 0.3, EVERY, True, 60, SHORT,
              (0, 1, 60, 61, 700)),
     Scenario('parity, and single bits are changed', 0.02, 0.12, 0.05, 0.09, 0.05, 0.3, EVERY, False, 40,
-             {'parity': 'software', 'prefix': 'WARD 7'}, (0, 1, 40, 41, 500)),
+             {'parity': 'software', 'prefix': 'WARD 7', 'timer_d': 700}, (0, 1, 40, 41, 500)),
     Scenario('the slave is killed when it replies', 0, 0, 0, 0, 0.25, 0.002, SLAVES, False, 245, SHORT, SIZES),
     Scenario('early timers', 0.02, 0.02, 0.30, 0.16, 0.03, 0.3, MASTERS, False, 30,
-             {'timer_a': 120, 'timer_b': 350}, (0, 1, 29, 30, 31, 400)),
+             {'timer_a': 120, 'timer_b': 350, 'timer_d': 600}, (0, 1, 29, 30, 31, 400)),
+    Scenario('enquiries over a bad line, and both are killed', 0.06, 0.04, 0.10, 0.05, 0.06, 0.3, EVERY, False, 30,
+             dict(SHORT, enquiry='yes'), (0, 1, 29, 30, 31, 600)),
+)
+# For Turned. Who is killed, and how likely, is drawn there.
+TURNED = (
+    Scenario('a stat message over a bad line', 0.04, 0.04, 0.06, 0.05, 0, 0, NOBODY, True, 60, SHORT, ()),
+    Scenario('a stat message over a bad line, and both are killed', 0.03, 0.03, 0.06, 0.05, 0.06, 0.3, EVERY, True, 60,
+             SHORT, ()),
+    Scenario('a stat message with parity, and both are killed', 0.01, 0.05, 0.06, 0.05, 0.06, 0.3, EVERY, True, 60,
+             dict(SHORT, parity='software', prefix='WARD 7'), ()),
+    Scenario('a stat message with enquiries, and both are killed', 0.04, 0.02, 0.06, 0.05, 0.06, 0.3, EVERY, True, 60,
+             dict(SHORT, enquiry='yes'), ()),
 )
 
 
@@ -44,6 +57,7 @@ def message(number, size, source):
 
 MOST_WAITING, MOST_MESSAGES = 3, 400
 BETWEEN_CHECKS = 0.5  # seconds, besides those at each kill
+UNSURE = 0.15  # seconds within which a timer may be late
 
 
 class Way:
@@ -55,9 +69,12 @@ class Way:
         self.parity, self.splitter, self.queue = parity, units.Splitter(parity), collections.deque()
         self.last, self.slave = 0.0, model.Slave()
         self.delivered, self.delivered_at = units.Splitter(parity), 0.0
+        self.restarts, self.restarted_at = False, 0.0  # Timer D of the slave: by what was delivered last; and when
 
     def read(self):
         for unit in self.splitter.take(self.source.terminal.read()):
+            if unit.kind in ('ack', 'nak', 'rint'):
+                self.link.back(self).target_replies()
             self.link.passes(self, unit)
 
     def plain(self, unit):
@@ -68,21 +85,33 @@ class Way:
         self.last = max(self.last, time.monotonic() + delay)  # the order is kept
         self.queue.append((self.last, data))
 
+    def is_due(self):
+        """Nothing is delivered at about the moment at which the slave's Timer D runs out: nobody could tell which came
+        first."""
+        since = time.monotonic() - self.restarted_at - self.link.timer_d
+        return bool(self.queue) and self.queue[0][0] <= time.monotonic() and not (
+            self.slave.expected is not None and -UNSURE < since < UNSURE)
+
     def deliver(self):
         """To a station that is dead too: what the terminal holds then, the next one flushes. One that starts is waited
         for, so that it is known what it has heard."""
-        while self.queue and self.queue[0][0] <= time.monotonic() and (self.target.process is None or self.target.is_ready()):
+        while self.is_due() and (self.target.process is None or self.target.is_ready()):
             data = self.queue.popleft()[1]
             self.target.terminal.write(data)
             if self.target.process is None:
                 continue
             if time.monotonic() > self.delivered_at + self.link.timer_b:
                 self.delivered.rest = b''  # Timer B: what is not whole is discarded
-            if time.monotonic() > self.delivered_at + self.link.timer_d:
+            if time.monotonic() > self.restarted_at + self.link.timer_d:
                 self.slave.timed_out()
             self.delivered_at = time.monotonic()
             for unit in self.delivered.take(data):
-                self.slave.take(self.plain(unit))
+                self.restarts = self.slave.take(self.plain(unit))
+                self.target_replies()
+
+    def target_replies(self):
+        if self.restarts:
+            self.restarted_at = time.monotonic()
 
     def target_died(self):
         self.slave.died(self.target.received())
@@ -108,10 +137,14 @@ class Link:
 
     # ---- the line
 
+    def back(self, way):
+        return self.ways[1 - self.ways.index(way)]
+
     def passes(self, way, unit):
         """A unit came to the line: what becomes of it is drawn."""
         scenario, drawn, delay = self.scenario, self.random.random(), 0.0
         self.counts['units'] += 1
+        self.counts['interrupts'] += unit.kind == 'rint'
         self.draw_kill(unit)
         if self.good:
             way.put(unit.raw, 0)
@@ -127,9 +160,13 @@ class Link:
         else:
             way.put(unit.raw, delay)
 
+    def likely_kill(self, unit):
+        """Most likely when a reply is seen: a message may just have been stored."""
+        return self.scenario.kills * (2 if unit.kind == 'ack' else 1)
+
     def draw_kill(self, unit):
-        """At once, or some time after any unit; most of all when a reply is seen: a message may just have been stored."""
-        likely = self.scenario.kills * (2 if unit.kind == 'ack' else 1)
+        """At once, or some time after any unit."""
+        likely = self.likely_kill(unit)
         if self.kill_at is None and not self.good and self.scenario.victims and self.random.random() < likely:
             self.victim = self.random.choice(self.scenario.victims)
             self.kill_at = time.monotonic() + self.random.random() * min(
@@ -142,7 +179,7 @@ class Link:
         dues = [way.queue[0][0] for way in self.ways if way.queue] + [moment + 0.02]
         if self.kill_at is not None:
             dues.append(self.kill_at)
-        self.poll.poll(max(0, min(dues) - moment) * 1000)
+        self.poll.poll(max(0.001, min(dues) - moment) * 1000)
         for way in self.ways:
             way.read()
         self.kill_and_start()
@@ -193,7 +230,7 @@ class Link:
                 station.put('%05d' % number, message(number, size, self.random))
 
     def is_done(self):
-        return all(not way.source.names('spool') for way in self.senders())
+        return all(not way.source.names('spool') + way.source.names('stat') for way in self.senders())
 
     def run(self, seconds, patience=12):
         """So long the line is bad. Then it is good, and nobody is killed: all has to arrive."""
@@ -216,7 +253,7 @@ class Link:
         self.check()
         for way in self.senders():
             stored, openings = way.target.received(), way.slave.opening
-            hold(sorted(set(stored)) == sorted(way.source.given), 'not all is stored')
+            hold(set(stored) == set(way.source.given), 'not all is stored')
             self.counts['messages'] += len(way.source.given)
             self.counts['stored again'] += len(stored) - len(way.source.given)
             self.counts['openings'] += openings
@@ -224,3 +261,61 @@ class Link:
     def close(self):
         for station in self.stations:
             station.close()
+
+
+class Turned(Link):
+    """Each round one station has a report to send, and when a part of it has come in, the other gets a stat message. That
+    one is stored before the report is, whatever becomes of units and stations; and the report later, whole."""
+
+    BLOCKS, LATEST, STAT_SIZES = 45, 25, (40, 60, 61, 400, 700)
+    LONGEST_ROUND = 20  # seconds
+
+    def __init__(self, *words):
+        super().__init__(*words)
+        self.likely, self.kills_left, self.rounds = 0.0, 0, 0
+
+    def likely_kill(self, unit):
+        return self.likely if self.kills_left > 0 else 0.0
+
+    def kill(self, index):
+        self.kills_left -= 1
+        self.counts['kills in such rounds'] += 1
+        super().kill(index)
+
+    def turn_until(self, fact, words, each_turn=lambda: None):
+        limit = time.monotonic() + self.LONGEST_ROUND
+        while not fact():
+            self.turn()
+            each_turn()
+            hold(time.monotonic() < limit, 'never came: %s', words)
+
+    def round(self, number):
+        sender, ward = self.stations[number % 2], self.stations[1 - number % 2]
+        slave = self.ways[number % 2].slave
+        report = message(10000 + number, self.BLOCKS * self.scenario.block_size, self.random)
+        stat = message(20000 + number, self.random.choice(self.STAT_SIZES), self.random)
+        part = self.random.randrange(1, self.LATEST) * self.scenario.block_size
+        self.likely, self.kills_left = self.scenario.kills / 10, 1
+        sender.put('%05d' % number, report)
+        self.turn_until(lambda: slave.expected is not None and len(slave.text) >= part, 'a part of the report')
+        ward.put('%05d' % number, stat, 'stat')
+        self.likely, self.kills_left = self.scenario.kills, 2
+
+        def check_first():
+            came = report in ward.received()  # in this order: it goes on meanwhile
+            hold(not came or stat in sender.received(), 'the report was stored before the stat message')
+        self.turn_until(lambda: stat in sender.received(), 'the stat message', check_first)
+        hold(report not in ward.received(), 'the report was not interrupted')
+        self.likely = self.scenario.kills / 10
+        self.turn_until(lambda: report in ward.received(), 'the report', check_first)
+        self.check()
+        self.rounds += 1
+        self.counts['stat messages'] += 1
+
+    def run(self, seconds, patience=12):
+        begin = time.monotonic()
+        while time.monotonic() < begin + seconds:
+            self.round(self.rounds)
+        self.good = True
+        self.turn_until(self.is_done, 'all is done')
+        self.settle()

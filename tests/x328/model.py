@@ -1,5 +1,5 @@
-"""The receiving station, from the words of 000 (C.3.3.2) and of document 02, §2: what it has to store of the units that
-were delivered to it, and in which opening. And what may be stored at all."""
+"""The receiving station, from the words of 000 (C.3.3.2) and of document 02, §2 and §14: what it has to store of the units
+that were delivered to it, and in which opening. And what may be stored at all."""
 
 from stations import hold
 from units import ETX
@@ -12,9 +12,10 @@ class Slave:
         self.stored = []  # (opening, message)
 
     def take(self, unit):
-        if unit.kind == 'bid' and self.expected is not None and self.accepted:
-            self.expected = None  # ended by EOT; the next bid is granted
-        elif unit.kind == 'bid':
+        """Whether Timer D begins anew."""
+        if unit.kind == 'enq' and self.expected is not None and self.accepted:
+            return False  # an enquiry
+        if unit.kind == 'enq':
             self.opening, self.expected, self.text, self.accepted = self.opening + 1, 1, b'', False
         elif unit.kind == 'eot':
             self.expected = None
@@ -23,6 +24,7 @@ class Slave:
             if unit.ending == ETX:
                 self.stored.append((self.opening, self.text))
                 self.text = b''
+        return True
 
     def timed_out(self):
         """Timer D."""
@@ -48,11 +50,11 @@ def check_stored(done, stored, given):
         hold(message in stored, 'reported done, and not stored: %r', message[:60])
 
 
-def check_order(stored, given):
-    """In one opening in order and once."""
-    order = {message: index for index, message in enumerate(given)}
-    for (opening, message), (later, after) in zip(stored, stored[1:]):
-        if opening == later:
-            hold(message != after, 'stored twice in one opening: %r', message[:60])
-            hold(order[message] < order[after], 'stored out of order: %r before %r', message[:60], after[:60])
-
+def check_order(stored, names):
+    """In one opening each once, and those of one folder in order. names: of each message its folder and its name there."""
+    for urgent in (False, True):
+        group = [each for each in stored if (names[each[1]][0] == 'stat') == urgent]
+        for (opening, message), (later, after) in zip(group, group[1:]):
+            if opening == later:
+                hold(message != after, 'stored twice in one opening: %r', message[:60])
+                hold(names[message] < names[after], 'stored out of order: %r before %r', message[:60], after[:60])

@@ -1,6 +1,5 @@
 """The program under test: a station's folder, its pseudo-terminal, and its process while it runs."""
 
-import bisect
 import os
 import pty
 import signal
@@ -9,8 +8,8 @@ import termios
 import time
 import tty
 
-# Short timers: A, B, D, retry and recovery, in milliseconds
-TIMERS = {'--timer-a': 200, '--timer-b': 150, '--timer-d': 2500, '--retry': 10, '--recovery': 100}
+# Short timers: A, B, D, retry and recovery, in milliseconds. At a start the line is silent for A, B and D together.
+TIMERS = {'--timer-a': 200, '--timer-b': 150, '--timer-d': 1000, '--retry': 10, '--recovery': 100}
 
 
 class Violation(Exception):
@@ -66,8 +65,7 @@ class Station:
         self.options = dict(TIMERS, **{'--' + name.replace('_', '-'): value for name, value in options.items()})
         self.terminal, self.process, self.lives = Terminal(), None, 0
         self.said_before, self.ready = 0, False
-        self.given = []  # what the host put into the spool, in the order of the names
-        self.given_names = []
+        self.given = {}  # what the host put there: of each message its folder and its name
         subprocess.run([program, 'init', folder], check=True)
         self.errors = open(folder + '.errors', 'ab')  # pylint: disable=consider-using-with
 
@@ -123,14 +121,12 @@ class Station:
 
     # ---- its folder
 
-    def put(self, name, message):
+    def put(self, name, message, folder='spool'):
         new = os.path.join(self.folder, 'new')
         with open(new, 'wb') as file:
             file.write(message)
-        os.rename(new, os.path.join(self.folder, 'spool', name))
-        at = bisect.bisect(self.given_names, name)
-        self.given_names.insert(at, name)
-        self.given.insert(at, message)
+        os.rename(new, os.path.join(self.folder, folder, name))
+        self.given[message] = (folder, name)
 
     def names(self, folder):
         return sorted(name for name in os.listdir(os.path.join(self.folder, folder)) if not name.startswith('.'))

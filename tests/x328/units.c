@@ -7,7 +7,7 @@
 #include "parity.h"
 #include "splitter.h"
 
-static const char *const kinds[] = {"none", "block", "bad", "abandoned", "bid", "ack", "nak", "eot", "damaged"};
+static const char *const kinds[] = {"none", "block", "bad", "abandoned", "enq", "ack", "nak", "eot", "rint", "damaged"};
 static splitter reader;
 static parity_reader parity;
 static char input[4000000];
@@ -34,22 +34,27 @@ static void take(unsigned read)
         print_unit(&unit);
 }
 
-/* The block and the replies that the example writes, for the text of a line that begins with w. */
+static void print_bytes(const uint8_t *bytes, size_t length)
+{
+    for (size_t i = 0; i < length; i++)
+        printf("%02x", bytes[i]);
+    putchar(' ');
+}
+
+/* The block and the other units that the example writes, for the text of a line that begins with w. */
 static void write_units(const char *text)
 {
     static uint8_t frame[MOST_BLOCK];
-    size_t length = frame_block(frame, (unsigned)(text[0] - '0'), text[1] == 'B' ? GMV_ETB : GMV_ETX,
-                                (const uint8_t *)text + 2, strlen(text + 2));
 
-    for (size_t i = 0; i < length; i++)
-        printf("%02x", frame[i]);
-    for (unsigned i = 0; i < 4; i++) {
-        length = i == 0 ? frame_bid(frame) : i == 1 ? frame_eot(frame) : i == 2 ? frame_nak(frame, "WARD")
-                                                                                : frame_ack(frame, "", 7);
-        putchar(' ');
-        for (size_t at = 0; at < length; at++)
-            printf("%02x", frame[at]);
-    }
+    print_bytes(frame, frame_block(frame, (unsigned)(text[0] - '0'), text[1] == 'B' ? GMV_ETB : GMV_ETX,
+                                   (const uint8_t *)text + 2, strlen(text + 2)));
+    print_bytes(frame, frame_enq(frame));
+    print_bytes(frame, frame_eot(frame));
+    print_bytes(frame, frame_nak(frame, "WARD"));
+    print_bytes(frame, frame_ack(frame, "", 7));
+    print_bytes(frame, frame_rint(frame, ""));
+    print_bytes(frame, frame_rint(frame, "WARD"));
+    print_bytes(frame, frame_bid(frame));
 }
 
 int main(void)

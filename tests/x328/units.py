@@ -7,11 +7,13 @@ import operator
 import re
 
 SOH, STX, ETX, EOT, ENQ, CR, DLE, NAK, ETB = (bytes([code]) for code in (1, 2, 3, 4, 5, 13, 16, 21, 23))
-BID, END, REFUSAL = ENQ + CR, EOT + CR, NAK + CR
+ENQUIRY, END, REFUSAL = ENQ + CR, EOT + CR, NAK + CR
+BID = END + ENQUIRY  # to a slave in an opening ENQ alone is an enquiry
+INTERRUPT = b'<'  # behind DLE: RINT
 BEGINNINGS = re.compile(b'[' + SOH + STX + ETX + EOT + ENQ + DLE + NAK + ETB + b']')
 BLOCK_ENDS = re.compile(b'[' + ETB + ETX + ENQ + b']')
 CONTROLS = re.compile(b'[\x00-\x1f\x7f]')
-NAMES = {DLE: 'ack', NAK: 'nak', EOT: 'eot', ENQ: 'bid'}
+NAMES = {DLE: 'ack', NAK: 'nak', EOT: 'eot', ENQ: 'enq'}
 
 # raw: all bytes up to the unit's end, with what stood before it
 Unit = collections.namedtuple('Unit', 'kind raw number ending text', defaults=(0, b'', b''))
@@ -28,6 +30,10 @@ def block(number, text, ending=ETX):
 
 def ack(number, prefix=b''):
     return prefix + DLE + b'%d' % number + CR
+
+
+def rint(prefix=b''):
+    return prefix + DLE + INTERRUPT + CR
 
 
 def with_parity(data):
@@ -55,6 +61,8 @@ def read_short(raw, data, prefix):
     most = 15 if kind in ('ack', 'nak') else 0
     if data[-1:] != CR or len(prefix) > most or CONTROLS.search(prefix):
         return Unit('damaged', raw)
+    if kind == 'ack' and data[1:2] == INTERRUPT:
+        return Unit('rint', raw)
     if kind == 'ack':
         return Unit('ack', raw, data[1] - 48) if data[1:2] in b'01234567' else Unit('damaged', raw)
     return Unit(kind, raw)
@@ -126,7 +134,8 @@ class Splitter:
 
 def damaged(unit, random, parity):
     """The unit's bytes with detectable damage: one byte or bit changed, or one byte lost, so that nothing in them is a
-    unit that may be acted upon. Replies have no check characters: an ACK that becomes another one is not detectable."""
+    unit that may be acted upon. Replies have no check characters: an ACK that becomes another one, or a RINT, is not
+    detectable."""
     while True:
         data, at = bytearray(unit.raw), random.randrange(len(unit.raw))
         if parity:

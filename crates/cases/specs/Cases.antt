@@ -27,10 +27,15 @@ use Rattle.sender.specs.declared.Event.the-variants.{Abandoned}
 use Rattle.sender.specs.declared.Acted.{Acted}
 use Rattle.message_theorems.specs.Examples.{AnswerFor17, ControlFor0, ControlForMinusOne}
 use Rattle.whole_block.specs.Whole.{checkOf}
-use Rattle.station.specs.Station.{goodBlockOf, dropped}
+use Rattle.station.specs.Station.{dropped}
+use Rattle.station.specs.Interrupt.{turn, stationState, stationAnswer, goodBlockAnswer}
 use Rattle.station.specs.declared.Station.the-variants.{Open}
 use Rattle.station.specs.declared.Ending.the-variants.{Etb}
 use Rattle.station.specs.declared.Reply.the-variants.{Ack, Nak}
+use Rattle.station.specs.declared.ReplyKind.{ReplyKind}
+use Rattle.station.specs.declared.ReplyKind.the-variants.{Ack as AckKind, Nak as NakKind}
+use Rattle.station.specs.declared.Interrupt.the-variants.{Unasked}
+use Rattle.station.specs.declared.Reply.{Reply}
 
 infixr 2 _and_
 -- "with default settings and D of 4,096"
@@ -97,6 +102,12 @@ pub data Each : List (Type 0) → Type 1 where
   none : Each []
   _and_ : {P : Type 0} {l : List (Type 0)} → P → Each l → Each (P ∷ l)
 
+-- an open station that has acknowledged its last block drops a block with this reply, and no byte of the buffer changes
+abbrev pub DropsWith : ℕ → ℕ → Reply → ReplyKind → Type 0
+DropsWith expected n w k =
+    goodBlockAnswer (stationState (Open expected 0) (turn AckKind Unasked)) n Etb (bytes "A") (bytes "U")
+    ≡ outcome (stationAnswer (dropped (Open expected 0) w) (turn k Unasked)) (bytes "U")
+
 abbrev pub cases : List (Type 0)
 cases =
     -- P1
@@ -144,12 +155,12 @@ cases =
     ∷ (receives5 (Next 6) ≡ replies "\u{b}D23\rMSH|^~\\&|||||||ACK|5|P|2.3.1\rMSA|AR|5||6\r00046096\u{1c}\r" NoTransaction (Next 6))
     -- "P11 r = 0, one timer: gives up, count 1.": on a circuit that has just been opened
     ∷ (timerActOf (record { first = 1; resends = 0 }) (openOf (freshSender 1) .sender) ≡ gaveUp 1)
-    -- "P12 station expects 3, gets 2: ACK 2; gets 4: NAK.": dropped, no byte of the buffer changes
-    ∷ (goodBlockOf (Open 3 0) 2 Etb (bytes "A") (bytes "U") ≡ outcome (dropped (Open 3 0) (Ack 2)) (bytes "U"))
-    ∷ (goodBlockOf (Open 3 0) 4 Etb (bytes "A") (bytes "U") ≡ outcome (dropped (Open 3 0) Nak) (bytes "U"))
+    -- "P12 station expects 3, gets 2: ACK 2; gets 4: NAK."
+    ∷ DropsWith 3 2 (Ack 2) AckKind
+    ∷ DropsWith 3 4 Nak NakKind
     -- 02, §2: "expects 0, gets 7: ACK 7, and expects 3, gets 1: NAK."
-    ∷ (goodBlockOf (Open 0 0) 7 Etb (bytes "A") (bytes "U") ≡ outcome (dropped (Open 0 0) (Ack 7)) (bytes "U"))
-    ∷ (goodBlockOf (Open 3 0) 1 Etb (bytes "A") (bytes "U") ≡ outcome (dropped (Open 3 0) Nak) (bytes "U"))
+    ∷ DropsWith 0 7 (Ack 7) AckKind
+    ∷ DropsWith 3 1 Nak NakKind
     -- 'Header fields': the answer for request 17 and the control messages for 0 and -1, byte for byte
     ∷ AnswerFor17
     ∷ ControlFor0

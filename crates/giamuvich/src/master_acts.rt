@@ -2,14 +2,14 @@
 ghost use mathlib.Core.Path.{_≡_};
 ghost use mathlib.Core.List.{[]};
 ghost use Rattle.lists.specs.Outcome.{called};
-ghost use Rattle.master.specs.MasterCalls.{freshMasterCall, openMasterCall, startCall, masterReplyCall, timerACall, closeCall};
+ghost use Rattle.master.specs.MasterCalls.{freshMasterCall, openMasterCall, startCall, masterReplyCall, timerACall, closeCall, enquireCall, mayReceiveCall};
 
 // A master before its first opening.
 #[no_mangle]
 pub extern "C" fn gmv_master_fresh(state: &mut [u64]) -> u64
     ensures { λ r. ⌜ called r (now (state .exit)) [] [] ≡ freshMasterCall (now (state .entry)) ⌝ }
 {
-    master::fresh_master_words(state)
+    master_calls::fresh_master_words(state)
 }
 
 // The driver opened the master.
@@ -17,7 +17,7 @@ pub extern "C" fn gmv_master_fresh(state: &mut [u64]) -> u64
 pub extern "C" fn gmv_master_open(state: &mut [u64], report: &mut [u64]) -> u64
     ensures { λ r. ⌜ called r (now (state .exit)) [] (now (report .exit)) ≡ openMasterCall (now (state .entry)) (now (report .entry)) ⌝ }
 {
-    master::opened_master_words(state, report)
+    master_calls::opened_master_words(state, report)
 }
 
 // The driver starts a message.
@@ -30,7 +30,7 @@ pub extern "C" fn gmv_master_start(
 ) -> u64
     ensures { λ r. ⌜ called r (now (state .exit)) [] (now (report .exit)) ≡ startCall «message_length» «block_size» (now (state .entry)) (now (report .entry)) ⌝ }
 {
-    master::start_words(message_length, block_size, state, report)
+    master_calls::start_words(message_length, block_size, state, report)
 }
 
 // A reply arrived.
@@ -43,7 +43,7 @@ pub extern "C" fn gmv_master_reply(
 ) -> u64
     ensures { λ r. ⌜ called r (now (state .exit)) [] (now (report .exit)) ≡ masterReplyCall reply number (now (state .entry)) (now (report .entry)) ⌝ }
 {
-    master::reply_words(reply, number, state, report)
+    master_calls::reply_words(reply, number, state, report)
 }
 
 // Timer A ran out.
@@ -51,7 +51,7 @@ pub extern "C" fn gmv_master_reply(
 pub extern "C" fn gmv_master_timer(state: &mut [u64], report: &mut [u64]) -> u64
     ensures { λ r. ⌜ called r (now (state .exit)) [] (now (report .exit)) ≡ timerACall (now (state .entry)) (now (report .entry)) ⌝ }
 {
-    master::timer_words(state, report)
+    master_calls::timer_words(state, report)
 }
 
 // The driver closes the master.
@@ -59,5 +59,21 @@ pub extern "C" fn gmv_master_timer(state: &mut [u64], report: &mut [u64]) -> u64
 pub extern "C" fn gmv_master_close(state: &mut [u64], report: &mut [u64]) -> u64
     ensures { λ r. ⌜ called r (now (state .exit)) [] (now (report .exit)) ≡ closeCall (now (state .entry)) (now (report .entry)) ⌝ }
 {
-    master::close_words(state, report)
+    master_calls::close_words(state, report)
+}
+
+// The driver enquires.
+#[no_mangle]
+pub extern "C" fn gmv_master_enquire(state: &mut [u64], report: &mut [u64]) -> u64
+    ensures { λ r. ⌜ called r (now (state .exit)) [] (now (report .exit)) ≡ enquireCall (now (state .entry)) (now (report .entry)) ⌝ }
+{
+    master_calls::enquire_words(state, report)
+}
+
+// The driver may receive.
+#[no_mangle]
+pub extern "C" fn gmv_master_may_receive(state: &mut [u64], report: &mut [u64]) -> u64
+    ensures { λ r. ⌜ called r (now (state .exit)) [] (now (report .exit)) ≡ mayReceiveCall (now (state .entry)) (now (report .entry)) ⌝ }
+{
+    master_calls::may_receive_words(state, report)
 }

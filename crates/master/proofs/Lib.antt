@@ -1,4 +1,5 @@
-pub mod CallLaws
 pub mod Valid
 pub mod History
 pub mod ReadBack
+pub mod Reversing
+pub mod Heard

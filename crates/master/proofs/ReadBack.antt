@@ -1,8 +1,8 @@
 -- The words stand for the master and its answer: what is written is read back.
 use mathlib.Core.Path.{_≡_, refl, ap, _∙_}
 use mathlib.Core.List.{List, _∷_, _++_}
-use mathlib.Core.Bool.{cond}
-use lib.Dec.{eqb}
+use mathlib.Core.Bool.{Bool, true, false, cond}
+use lib.Dec.{leb, eqb}
 use Prim.Native.Nat.{ℕ, zero, suc, _≤_, _<_}
 use native.Mathlib.Omega.{arith}
 use lib.ListN.{length, drop, getD}
@@ -11,29 +11,84 @@ use Rattle.lists.proofs.Calls.{over-is}
 use Rattle.lists.proofs.Append.{append-assoc}
 use Rattle.station.specs.declared.Ending.{Ending}
 use Rattle.station.specs.declared.Ending.the-variants.{Etb, Etx}
+use Rattle.station.specs.declared.ReplyKind.{ReplyKind}
+use Rattle.station.specs.declared.ReplyKind.the-variants.{NoneYet, Ack as AckKind, Nak as NakKind, Rint as RintKind}
+use Rattle.station.specs.StationCalls.{kindWord, isKind, kindIn}
 use Rattle.master.specs.declared.Master.{Master}
 use Rattle.master.specs.declared.Master.the-variants.{Closed, Idle, Waiting}
 use Rattle.master.specs.declared.Transmission.{Transmission}
-use Rattle.master.specs.declared.Transmission.the-variants.{Nothing, SendBlock, SendEot}
+use Rattle.master.specs.declared.Transmission.the-variants.{Nothing, SendBlock, SendEot, SendEnq}
 use Rattle.master.specs.declared.Progress.{Progress}
 use Rattle.master.specs.declared.Progress.the-variants.{NoProgress, Acknowledged, Done}
 use Rattle.master.specs.declared.End.{End}
-use Rattle.master.specs.declared.End.the-variants.{NotEnded, Failed, BySlave, ByDriver}
+use Rattle.master.specs.declared.End.the-variants.{NotEnded, Failed, BySlave, ByDriver, Reversed}
+use Rattle.master.specs.declared.Reversal.{Reversal}
 use Rattle.master.specs.declared.MasterActed.{MasterActed}
 use Rattle.master.specs.declared.DecodedMaster.the-variants.{Known}
-use Rattle.master.specs.MasterCalls.{masterWords, masterIn, transmissionWords, progressWords, endWord, countWords, masterReport, endingWord, endingIn, transmissionIn, progressIn, endIn, resendsIn}
+use Rattle.master.specs.Reversal.{masterState, reversalFits}
+use Rattle.master.specs.MasterHistory.{MasterAct, masterAfter}
+use Rattle.master.proofs.Valid.{fits-after}
+use Rattle.master.specs.MasterCalls.{flagWord, stateWords, knownIf, masterIn, transmissionWords, progressWords, endWord, countWords, masterReport, endingWord, endingIn, transmissionIn, progressIn, endIn, resendsIn}
 
-words-read : (m : Master) (rest : List ℕ) → masterIn (masterWords m ++ rest) ≡ Known m
-unfolding masterIn
-words-read (Closed count) rest = refl
-words-read (Idle count) rest = refl
-words-read (Waiting o) rest = refl
+kind-read : (k : ReplyKind) → kindIn (kindWord k) ≡ k
+kind-read NoneYet = refl
+kind-read AckKind = refl
+kind-read NakKind = refl
+kind-read RintKind = refl
 
--- every master, a corrupt one too
-pub words-back : (st : List ℕ) (m : Master) → 6 ≤ length st → masterIn (over st (masterWords m)) ≡ Known m
-words-back st (Closed count) h = ap masterIn (over-is st (masterWords (Closed count)) h) ∙ words-read (Closed count) (drop 6 st)
-words-back st (Idle count) h = ap masterIn (over-is st (masterWords (Idle count)) h) ∙ words-read (Idle count) (drop 6 st)
-words-back st (Waiting o) h = ap masterIn (over-is st (masterWords (Waiting o)) h) ∙ words-read (Waiting o) (drop 6 st)
+kind-known : (k : ReplyKind) → isKind (kindWord k) ≡ true
+kind-known NoneYet = refl
+kind-known AckKind = refl
+kind-known NakKind = refl
+kind-known RintKind = refl
+
+flag-read : (b : Bool) → eqb (flagWord b) 1 ≡ b
+flag-read true = refl
+flag-read false = refl
+
+flag-known : (b : Bool) → leb (flagWord b) 1 ≡ true
+flag-known true = refl
+flag-known false = refl
+
+module _ (v : Reversal) where
+  -- the four words are known, and stand for v
+  known-if : (m : Master) (ws : List ℕ) → getD ws 6 0 ≡ kindWord (v .last) → getD ws 7 0 ≡ flagWord (v .interrupted)
+      → getD ws 8 0 ≡ flagWord (v .enquired) → getD ws 9 0 ≡ flagWord (v .«may_receive») → reversalFits m v ≡ true → knownIf ws m ≡ Known (masterState m v)
+  known-if m ws e f g i h =
+      rw (
+        e,
+        f,
+        g,
+        i,
+        kind-known (v .last),
+        flag-known (v .interrupted),
+        flag-known (v .enquired),
+        flag-known (v .«may_receive»),
+        kind-read (v .last),
+        flag-read (v .interrupted),
+        flag-read (v .enquired),
+        flag-read (v .«may_receive»),
+        h,
+      )
+
+  words-read : (m : Master) (rest : List ℕ) → reversalFits m v ≡ true → masterIn (stateWords m v ++ rest) ≡ Known (masterState m v)
+  unfolding masterIn
+  words-read (Closed count) rest h = known-if (Closed count) (stateWords (Closed count) v ++ rest) refl refl refl refl h
+  words-read (Idle count) rest h = known-if (Idle count) (stateWords (Idle count) v ++ rest) refl refl refl refl h
+  words-read (Waiting o) rest h = known-if (Waiting o) (stateWords (Waiting o) v ++ rest) refl refl refl refl h
+
+-- every master, a corrupt one too, with what goes with it
+pub words-back : (st : List ℕ) (m : Master) (v : Reversal) → 10 ≤ length st → reversalFits m v ≡ true → masterIn (over st (stateWords m v)) ≡ Known (masterState m v)
+words-back st m v h f = ap masterIn (over-is st (stateWords m v) (let n = ten-words m v in omega (arith, n))) ∙ words-read v m (drop (length (stateWords m v)) st) f
+  where
+    ten-words : (m : Master) (v : Reversal) → length (stateWords m v) ≡ 10
+    ten-words (Closed count) v = refl
+    ten-words (Idle count) v = refl
+    ten-words (Waiting o) v = refl
+
+-- so the words after every run from an opening are read as its state
+pub run-back : (st : List ℕ) (xs : List MasterAct) → 10 ≤ length st → masterIn (over st (stateWords (masterAfter xs .master) (masterAfter xs .reversal))) ≡ Known (masterAfter xs)
+run-back st xs h = words-back st (masterAfter xs .master) (masterAfter xs .reversal) h (fits-after xs)
 
 -- ---- the report
 ending-read : (e : Ending) → endingIn (endingWord e) ≡ e
@@ -44,6 +99,7 @@ transmission-read : (t : Transmission) (ws : List ℕ) → transmissionIn (trans
 transmission-read Nothing ws = refl
 transmission-read (SendBlock b) ws = ap (λ (e : Ending). SendBlock (record { number = b .number; ending = e; offset = b .offset; length = b .length })) (ending-read (b .ending))
 transmission-read SendEot ws = refl
+transmission-read SendEnq ws = refl
 
 progress-read : (t : Transmission) (p : Progress) (ws : List ℕ) → progressIn (transmissionWords t ++ (progressWords p ++ ws)) ≡ p
 progress-read Nothing NoProgress ws = refl
@@ -55,6 +111,9 @@ progress-read (SendBlock b) Done ws = refl
 progress-read SendEot NoProgress ws = refl
 progress-read SendEot Acknowledged ws = refl
 progress-read SendEot Done ws = refl
+progress-read SendEnq NoProgress ws = refl
+progress-read SendEnq Acknowledged ws = refl
+progress-read SendEnq Done ws = refl
 
 -- the words from the eighth on
 pub record LastWords (t : Transmission) (p : Progress) (ws : List ℕ) : Type 0 where
@@ -73,12 +132,17 @@ last-words (SendBlock b) Done ws = record { seventh = refl; eighth = refl; ninth
 last-words SendEot NoProgress ws = record { seventh = refl; eighth = refl; ninth = refl; long = refl }
 last-words SendEot Acknowledged ws = record { seventh = refl; eighth = refl; ninth = refl; long = refl }
 last-words SendEot Done ws = record { seventh = refl; eighth = refl; ninth = refl; long = refl }
+last-words SendEnq NoProgress ws = record { seventh = refl; eighth = refl; ninth = refl; long = refl }
+last-words SendEnq Acknowledged ws = record { seventh = refl; eighth = refl; ninth = refl; long = refl }
+last-words SendEnq Done ws = record { seventh = refl; eighth = refl; ninth = refl; long = refl }
 
-end-read : (e : End) → cond (eqb (endWord e) 1) Failed (cond (eqb (endWord e) 2) BySlave (cond (eqb (endWord e) 3) ByDriver NotEnded)) ≡ e
+end-read : (e : End)
+    → cond (eqb (endWord e) 1) Failed (cond (eqb (endWord e) 2) BySlave (cond (eqb (endWord e) 3) ByDriver (cond (eqb (endWord e) 4) Reversed NotEnded))) ≡ e
 end-read NotEnded = refl
 end-read Failed = refl
 end-read BySlave = refl
 end-read ByDriver = refl
+end-read Reversed = refl
 
 count-words : (m : Master) → length (countWords m) ≡ 2
 count-words (Closed count) = refl

@@ -1,3 +1,4 @@
 pub mod Master
+pub mod Reversal
 pub mod MasterCalls
 pub mod MasterHistory

@@ -13,7 +13,7 @@ use Rattle.master.specs.declared.Outstanding.{Outstanding}
 use Rattle.master.specs.declared.Master.{Master}
 use Rattle.master.specs.declared.Master.the-variants.{Closed, Idle, Waiting}
 use Rattle.master.specs.declared.Response.{Response}
-use Rattle.master.specs.declared.Response.the-variants.{Ack, Nak, Eot, Damaged}
+use Rattle.master.specs.declared.Response.the-variants.{Ack, Nak, Eot, Damaged, Rint}
 use Rattle.master.specs.declared.BlockPart.{BlockPart}
 use Rattle.master.specs.declared.Transmission.{Transmission}
 use Rattle.master.specs.declared.Transmission.the-variants.{Nothing, SendBlock, SendEot}
@@ -88,22 +88,27 @@ nextOut o = outstanding (o .«message_length») (o .«block_size») (o .offset +
 unfoldable pub acknowledgedOf : Outstanding → MasterActed
 acknowledgedOf o = cond (isLast o) (masterActed (Idle (o .count + 1)) Nothing Done NotEnded) (sendsOut Acknowledged (nextOut o))
 
--- "resends .. on ACK with the number just before (0 for 1)"; "Other ACK numbers .. change nothing". An ACK that could not be counted is not taken.
+-- one that could not be counted is not taken
+unfoldable pub acceptedOf : Outstanding → MasterActed
+acceptedOf o = cond (eqb (o .count) greatestWord) (unchanged (Waiting o)) (acknowledgedOf o)
+
+-- "resends .. on ACK with the number just before (0 for 1)"; "Other ACK numbers .. change nothing"
 unfoldable pub ackOf : ℕ → Outstanding → MasterActed
 ackOf n o =
-    cond (eqb n (blockNumber (o .count))) (cond (eqb (o .count) greatestWord) (unchanged (Waiting o)) (acknowledgedOf o))
+    cond (eqb n (blockNumber (o .count))) (acceptedOf o)
     (cond (precedes n (blockNumber (o .count))) (resendOf o) (unchanged (Waiting o)))
 
 -- "An EOT from the slave ends it at once, that block counted as not accepted."
 abbrev pub endedBySlave : ℕ → MasterActed
 endedBySlave count = masterActed (Closed count) Nothing NoProgress BySlave
 
--- with a block out: "resends on NAK"; "damaged replies change nothing"
-abbrev pub waitingReply : Response → Outstanding → MasterActed
-waitingReply (Ack n) o = ackOf n o
-waitingReply Nak o = resendOf o
-waitingReply Eot o = endedBySlave (o .count)
-waitingReply Damaged o = unchanged (Waiting o)
+-- with a block out: "resends on NAK"; "damaged replies change nothing"; 02, §14: RINT "as acceptance", or "no acceptance": "the block out .. is sent again"
+abbrev pub waitingReply : Bool → Response → Outstanding → MasterActed
+waitingReply refuses (Ack n) o = ackOf n o
+waitingReply refuses Nak o = resendOf o
+waitingReply refuses Eot o = endedBySlave (o .count)
+waitingReply refuses Damaged o = unchanged (Waiting o)
+waitingReply refuses Rint o = cond refuses (resendOf o) (acceptedOf o)
 
 -- "with no block out only EOT acts"
 abbrev pub idleReply : Response → ℕ → MasterActed
@@ -111,6 +116,7 @@ idleReply (Ack n) count = unchanged (Idle count)
 idleReply Nak count = unchanged (Idle count)
 idleReply Eot count = endedBySlave count
 idleReply Damaged count = unchanged (Idle count)
+idleReply Rint count = unchanged (Idle count)
 
 -- ---- the acts
 -- the driver opens, at any time: block 1 is next, and nothing is sent
@@ -126,11 +132,11 @@ startNow n size (Waiting o) = refusedMaster STATE (Waiting o)
 unfoldable pub startOf : ℕ → ℕ → Master → MasterActed
 startOf n size m = need (leb 1 size) (refusedMaster SETTING m) (startNow n size m)
 
--- a reply arrived
-unfoldable pub masterReplyOf : Response → Master → MasterActed
-masterReplyOf r (Closed count) = unchanged (Closed count)
-masterReplyOf r (Idle count) = idleReply r count
-masterReplyOf r (Waiting o) = need (validOutstanding o) (refusedMaster STATE (Waiting o)) (waitingReply r o)
+-- a reply arrived; whether a RINT is no acceptance now is 02, §14's (`Reversal.refusesRint`)
+unfoldable pub masterReplyOf : Bool → Response → Master → MasterActed
+masterReplyOf refuses r (Closed count) = unchanged (Closed count)
+masterReplyOf refuses r (Idle count) = idleReply r count
+masterReplyOf refuses r (Waiting o) = need (validOutstanding o) (refusedMaster STATE (Waiting o)) (waitingReply refuses r o)
 
 -- "or on Timer A"
 unfoldable pub timerAOf : Master → MasterActed

@@ -1,17 +1,5 @@
-// The X3.28 sending station, the master (000, C.3; 02, §3). The line driver keeps the message, frames the blocks and reports the
-// replies. What its C functions do, on slices: the words are looked at, and the answer is written into the words.
-mod acts;
-mod blocks;
-mod calls;
-mod words;
-
-pub use calls::close_words;
-pub use calls::fresh_master_words;
-pub use calls::opened_master_words;
-pub use calls::reply_words;
-pub use calls::start_words;
-pub use calls::timer_words;
-
+// The X3.28 sending station, the master (000, C.3; 02, §3 and §14): what it is, and what it answers. The line driver keeps the message,
+// frames the blocks and reports the replies.
 // A block is out: it was sent, and its ACK is awaited.
 pub struct Outstanding {
     pub message_length: u64,
@@ -31,10 +19,27 @@ pub enum Master {
     Waiting(Outstanding),
 }
 
+// How an open master stands with RINT and its enquiry. Closed: no reply, and no to all.
+pub struct Reversal {
+    // The last undamaged reply, its number aside.
+    pub last: station::ReplyKind,
+    // A RINT came in this opening.
+    pub interrupted: bool,
+    // What was sent last is ENQ.
+    pub enquired: bool,
+    // The driver may receive: it ends when the block out is acknowledged.
+    pub may_receive: bool,
+}
+
+pub struct MasterState {
+    pub master: Master,
+    pub reversal: Reversal,
+}
+
 // What a master's words encode.
 pub enum DecodedMaster {
     Unknown,
-    Known(Master),
+    Known(MasterState),
 }
 
 // A reply as it arrived.
@@ -43,6 +48,7 @@ pub enum Response {
     Nak,
     Eot,
     Damaged,
+    Rint,
 }
 
 // What a number from C stands for.
@@ -64,6 +70,7 @@ pub enum Transmission {
     Nothing,
     SendBlock(BlockPart),
     SendEot,
+    SendEnq,
 }
 
 // What an ACK brought.
@@ -80,6 +87,8 @@ pub enum End {
     Failed,
     BySlave,
     ByDriver,
+    // The driver may receive, and no block is out.
+    Reversed,
 }
 
 // What an act answers.
@@ -90,4 +99,10 @@ pub struct MasterActed {
     pub send: Transmission,
     pub progress: Progress,
     pub end: End,
+}
+
+// The same, with how it stands with RINT then.
+pub struct MasterAnswer {
+    pub acted: MasterActed,
+    pub reversal: Reversal,
 }

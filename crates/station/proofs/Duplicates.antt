@@ -7,6 +7,7 @@ use lib.Dec.{leb, eqb}
 use borrow.Author.Tests.{leb-false, eqb-true, eqb-false, eq-eqb, ne-eqb}
 use Rattle.lists.proofs.Tests.{cond-ind}
 use Rattle.station.specs.Station.{nextNumber, precedes, isDuplicate}
+use Rattle.station.specs.Interrupt.{numberBefore}
 use Rattle.station.specs.Retransmission.{OneDuplicate}
 
 -- what holds of 0 after 7, and of n + 1 after any other, holds of the next number
@@ -16,6 +17,11 @@ next-ind P n f g = cond-ind P (eqb n 7) 0 (n + 1) (λ h. f (eqb-true n 7 h)) (λ
 
 pub next-differs : (n : ℕ) → nextNumber n ≡ n → ⊥
 next-differs n = next-ind (λ (m : ℕ). m ≡ n → ⊥) n (λ f e. omega (arith, f, e)) (λ f e. omega (arith, e))
+
+pub number-before : (n : ℕ) → numberBefore (nextNumber n) ≡ n
+unfolding numberBefore
+number-before n =
+    next-ind (λ (m : ℕ). numberBefore m ≡ n) n sym (λ f. rw (ne-eqb (n + 1) 0 (λ e. omega (arith, e))) (omega arith))
 
 -- what comes before a number of 0 to 7 is 0 to 7 itself
 pub before-small : (n e : ℕ) → e ≤ 7 → nextNumber n ≡ e → n ≤ 7

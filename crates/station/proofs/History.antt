@@ -1,185 +1,238 @@
--- The station is what its history says.
-use mathlib.Core.Path.{_≡_, refl, sym, ap, _∙_, subst}
+-- The station is what its history says: document 01's part by Plain, and the last reply and RINT here.
+use mathlib.Core.Path.{_≡_, refl, ap, _∙_, subst}
 use mathlib.Core.List.{List, [], _∷_}
-use mathlib.Core.Bool.{Bool, true, false, cond}
+use mathlib.Core.Bool.{Bool, true, false, cond, not, _&&_, true≢false}
 use Prim.Native.Nat.{ℕ, _+_, _≤_}
 use native.Mathlib.Omega.{arith}
-use lib.ListN.{length, take, length-append}
+use lib.ListN.{length}
 use lib.Dec.{leb, eqb}
-use borrow.Author.Tests.{le-leb, leb-true, leb-false, eqb-true}
-use Rattle.lists.specs.Bytes.{put}
-use Rattle.lists.specs.Outcome.{Outcome, outcome}
-use Rattle.lists.proofs.Put.{length-put}
+use borrow.Author.Tests.{le-leb}
+use Rattle.lists.specs.Outcome.{need, Outcome}
 use Rattle.lists.proofs.Tests.{cond-ind, and-left}
-use Rattle.station.specs.Station.{nextNumber, isDuplicate, validStation, dropped, stationActed, appended, goodBlockOf, badBlockOf, eotOf}
+use Rattle.refusal.specs.Refusal.{STATE}
+use Rattle.station.specs.Station.{isDuplicate, validStation, dropped, stationActed, appended, goodBlockOf, badBlockOf, eotOf}
+use Rattle.station.specs.Interrupt.{turn, freshTurn, stationState, turnAfter, openGiven, replyGiven, turnThen, answeredOf, bareEnqOf, askedWhen, interruptOf}
 use Rattle.station.specs.declared.Station.{Station}
 use Rattle.station.specs.declared.Station.the-variants.{Closed, Open}
 use Rattle.station.specs.declared.Ending.{Ending}
 use Rattle.station.specs.declared.Ending.the-variants.{Etb, Etx}
 use Rattle.station.specs.declared.Acted.{Acted}
+use Rattle.station.specs.declared.StationAnswer.{StationAnswer}
 use Rattle.station.specs.declared.Reply.{Reply}
 use Rattle.station.specs.declared.Reply.the-variants.{NoReply, Ack, Nak, Eot}
+use Rattle.station.specs.declared.ReplyKind.{ReplyKind}
+use Rattle.station.specs.declared.Interrupt.{Interrupt}
+use Rattle.station.specs.declared.Interrupt.the-variants.{Unasked, Pending, Given}
+use Rattle.station.specs.declared.Turn.{Turn}
 use Rattle.station.specs.declared.Message.the-variants.{Incomplete}
-use Rattle.station.specs.History.{Unit, good, bad, enquiry, eot, Block, block, expectedAfter, textHeld, messagesOf}
-use Rattle.station.specs.History.{Past, past, fits, unitAfter, pastOf, stationOf, soundStation, openReply, replyOf, Run, unitOutcome, runAfter, stationRun}
-use Rattle.station.proofs.Texts.{goes-round, appended-text}
+use Rattle.station.specs.History.{Unit, good, bad, enquiry, eot, bareEnq, asks, Block, expectedAfter, textHeld, messagesOf, Past, past, pastOf, stationOf, isUnasked, holdsAtMost, soundState, plainReply, openReply, asked, turnBy, turnOf, replyOf, Opening, stateOf, unitOutcome, openingAfter, stationRun}
+use Rattle.station.proofs.Texts.{goes-round}
+use Rattle.station.proofs.Turns.{isAsks, turn-fits}
+use Rattle.station.proofs.Plain.{Stands, run, plainOutcome, runAfter, either-answers, unit-answers}
 
--- a run r stands where the history p says, with a buffer of c bytes
-pub record Stands (c : ℕ) (r : Run) (p : Past) : Type 0 where
-  pub station : r .station ≡ stationOf p
-  pub messages : r .messages ≡ messagesOf (p .blocks)
-  pub size : length (r .buffer) ≡ c
-  pub held : take (length (textHeld (p .blocks))) (r .buffer) ≡ textHeld (p .blocks)
-  pub most : length (textHeld (p .blocks)) ≤ c
+-- ---- a unit's part of a run is document 01's
+-- an act by which the station stays as it is and no message is complete
+record Keeps (s : Station) (a : StationAnswer) : Type 0 where
+  station : a .acted .station ≡ s
+  incomplete : a .acted .message ≡ Incomplete
 
-abbrev pub run : Station → List ℕ → List (List ℕ) → Run
-run s b ms = record { station = s; buffer = b; messages = ms }
+enq-keeps : (s : Station) (v : Turn) → Keeps s (bareEnqOf (stationState s v))
+unfolding bareEnqOf
+enq-keeps Closed v = record { station = refl; incomplete = refl }
+enq-keeps (Open e h) v =
+    cond-ind (Keeps (Open e h)) (leb e 7) _ _ (λ z. record { station = refl; incomplete = refl }) (λ z. record { station = refl; incomplete = refl })
 
--- an act's answer to a unit, and where the run stands then
-record Answers (c : ℕ) (ms : List (List ℕ)) (o : Outcome Acted) (w : Reply) (p : Past) : Type 0 where
-  reply : o .answer .reply ≡ w
-  stands : Stands c (runAfter o ms) p
+asked-keeps : (s : Station) (k : ReplyKind) (i : Interrupt) → Keeps s (askedWhen s k i)
+asked-keeps s k Unasked = record { station = refl; incomplete = refl }
+asked-keeps s k Pending = record { station = refl; incomplete = refl }
+asked-keeps s k Given = record { station = refl; incomplete = refl }
 
--- ---- the open station
-module _ (bs : List Block) (b : List ℕ) (held : take (length (textHeld bs)) b ≡ textHeld bs) (most : length (textHeld bs) ≤ length b) where
-  abbrev now-open : Station
-  now-open = Open (expectedAfter bs) (length (textHeld bs))
+interrupt-keeps : (s : Station) (v : Turn) → Keeps s (interruptOf (stationState s v))
+unfolding interruptOf
+interrupt-keeps Closed v = record { station = refl; incomplete = refl }
+interrupt-keeps (Open e h) v =
+    cond-ind (Keeps (Open e h)) (leb e 7) _ _ (λ z. asked-keeps (Open e h) (v .last) (v .interrupt)) (λ z. record { station = refl; incomplete = refl })
 
-  number-valid : leb (expectedAfter bs) 7 ≡ true
-  number-valid = le-leb (expectedAfter bs) 7 (goes-round bs .most)
+unit-run : (o : Opening) (u : Unit) → openingAfter (unitOutcome o u) (o .run .messages) .run ≡ runAfter (plainOutcome (o .run) u) (o .run .messages)
+unfolding answeredOf
+unit-run o (good n x t) = refl
+unit-run o bad = refl
+unit-run o enquiry = refl
+unit-run o eot = refl
+unit-run o bareEnq = let k = enq-keeps (o .run .station) (o .turn) in rw (k .station, k .incomplete)
+unit-run o asks = let k = interrupt-keeps (o .run .station) (o .turn) in rw (k .station, k .incomplete)
 
-  stays : (w : Reply) → Answers (length b) (messagesOf bs) (outcome (dropped now-open w) b) w (past bs false)
-  stays w = record { reply = refl; stands = record { station = refl; messages = refl; size = refl; held = held; most = most } }
-
-  closes : (w : Reply) → Answers (length b) (messagesOf bs) (outcome (stationActed Closed w Incomplete) b) w (past bs true)
-  closes w = record { reply = refl; stands = record { station = refl; messages = refl; size = refl; held = held; most = most } }
-
-  module _ (n : ℕ) (t : List ℕ) where
-    appends : (x : Ending) → eqb n (expectedAfter bs) ≡ true → fits (length b) bs t ≡ true
-        → Answers (length b) (messagesOf bs)
-        (outcome (appended (expectedAfter bs) x (length (textHeld bs) + length t)) (put b (length (textHeld bs)) t)) (Ack n) (past (block x t ∷ bs) false)
-    unfolding textHeld messagesOf expectedAfter
-    appends Etb e f =
-        let l = leb-true (length (textHeld bs) + length t) (length b) f in
-        record {
-          reply = ap Ack (sym (eqb-true n (expectedAfter bs) e));
-          stands = record {
-            station = ap (λ (k : ℕ). Open (nextNumber (expectedAfter bs)) k) (sym (length-append (textHeld bs) t));
-            messages = refl;
-            size = length-put b t (length (textHeld bs)) l;
-            held = ap (λ (k : ℕ). take k (put b (length (textHeld bs)) t)) (length-append (textHeld bs) t) ∙ appended-text b (textHeld bs) t held;
-            most = let z = length-append (textHeld bs) t in omega (arith, z);
-          };
-        }
-    appends Etx e f =
-        let l = leb-true (length (textHeld bs) + length t) (length b) f in
-        record {
-          reply = ap Ack (sym (eqb-true n (expectedAfter bs) e));
-          stands = record {
-            station = refl;
-            messages = ap (λ (z : List ℕ). z ∷ messagesOf bs) (appended-text b (textHeld bs) t held);
-            size = length-put b t (length (textHeld bs)) l;
-            held = refl;
-            most = omega arith;
-          };
-        }
-
-    -- by what each test says
-    good-answers : (x : Ending) (v u f d : Bool) → leb n 7 ≡ v → eqb n (expectedAfter bs) ≡ u → fits (length b) bs t ≡ f → isDuplicate (expectedAfter bs) n ≡ d
-        → Answers (length b) (messagesOf bs) (goodBlockOf now-open n x t b) (openReply (length b) bs (good n x t)) (unitAfter (length b) bs (good n x t))
-    unfolding goodBlockOf
-    good-answers x false true f d p q r s =
-        let above = leb-false n 7 p in
-        let same = eqb-true n (expectedAfter bs) q in
-        let small = goes-round bs .most in
-        absurd (omega (arith, above, same, small))
-    good-answers x false false f d p q r s = rw (number-valid, p, q) (stays Nak)
-    good-answers x true true true d p q r s = rw (number-valid, p, q, r) (appends x q r)
-    good-answers x true true false d p q r s = rw (number-valid, p, q, r) (closes Eot)
-    good-answers x true false f true p q r s = rw (number-valid, p, q, s) (stays (Ack n))
-    good-answers x true false f false p q r s = rw (number-valid, p, q, s) (stays Nak)
-
-  open-answers : (u : Unit)
-      → Answers (length b) (messagesOf bs) (unitOutcome (run now-open b (messagesOf bs)) u) (openReply (length b) bs u) (unitAfter (length b) bs u)
-  unfolding badBlockOf eotOf
-  open-answers (good n x t) =
-      good-answers n t x (leb n 7) (eqb n (expectedAfter bs)) (fits (length b) bs t) (isDuplicate (expectedAfter bs) n) refl refl refl refl
-  open-answers bad = rw number-valid (stays Nak)
-  open-answers enquiry = rw number-valid (stays Nak)
-  open-answers eot = rw number-valid (closes NoReply)
-
-  -- ---- the closed station
-  closed-answers : (u : Unit) → Answers (length b) (messagesOf bs) (unitOutcome (run Closed b (messagesOf bs)) u) NoReply (past bs true)
-  unfolding goodBlockOf badBlockOf eotOf
-  closed-answers (good n x t) = closes NoReply
-  closed-answers bad = closes NoReply
-  closed-answers enquiry = closes NoReply
-  closed-answers eot = closes NoReply
-
-  either-answers : (k : Bool) (u : Unit)
-      → Answers (length b) (messagesOf bs) (unitOutcome (run (stationOf (past bs k)) b (messagesOf bs)) u) (replyOf (length b) (past bs k) u)
-      (cond k (past bs k) (unitAfter (length b) bs u))
-  either-answers true u = closed-answers u
-  either-answers false u = open-answers u
-
-unit-answers : (c : ℕ) (r : Run) (p : Past) → Stands c r p → (u : Unit)
-    → Answers c (r .messages) (unitOutcome r u) (replyOf c p u) (cond (p .closed) p (unitAfter c (p .blocks) u))
-unit-answers c r p i u =
-    let ms = messagesOf (p .blocks) in
-    let most : length (textHeld (p .blocks)) ≤ length (r .buffer) = let s = i .size in let m = i .most in omega (arith, s, m) in
-    rw (i .station, i .messages)
-    (subst
-    (λ (k : ℕ). Answers k ms (unitOutcome (run (stationOf p) (r .buffer) ms) u) (replyOf k p u) (cond (p .closed) p (unitAfter k (p .blocks) u)))
-    (i .size) (either-answers (p .blocks) (r .buffer) (i .held) most (p .closed) u))
+pub run-after : (b : List ℕ) (us : List Unit) (u : Unit)
+    → stationRun b (u ∷ us) .run ≡ runAfter (plainOutcome (stationRun b us .run) u) (stationRun b us .run .messages)
+unfolding stationRun
+run-after b us u = unit-run (stationRun b us) u
 
 -- The station, its buffer and the messages handed over are functions of what was reported since opening: the messages are exactly those whose blocks came in order.
-pub stands : (b : List ℕ) (us : List Unit) → Stands (length b) (stationRun b us) (pastOf (length b) us)
+pub stands : (b : List ℕ) (us : List Unit) → Stands (length b) (stationRun b us .run) (pastOf (length b) us)
 unfolding stationRun pastOf textHeld messagesOf expectedAfter
 stands b [] = record { station = refl; messages = refl; size = refl; held = refl; most = omega arith }
-stands b (u ∷ us) = unit-answers (length b) (stationRun b us) (pastOf (length b) us) (stands b us) u .stands
+stands b (u ∷ us) =
+    rw (unit-run (stationRun b us) u) (unit-answers (length b) (stationRun b us .run) (pastOf (length b) us) (stands b us) u .stands)
+
+-- ---- what a good block can be answered with by a station that is one: what holds of each, holds of its answer
+appended-ind : (P : Acted → Type 0) (e : ℕ) (x : Ending) (n : ℕ) → P (appended e Etb n) → P (appended e Etx n) → P (appended e x n)
+appended-ind P e Etb n f g = f
+appended-ind P e Etx n f g = g
+
+module _ (P : Acted → Type 0) (e h n : ℕ) (x : Ending) (t b : List ℕ) (valid : leb e 7 ≡ true) where
+  good-ind : P (dropped (Open e h) Nak) → P (dropped (Open e h) (Ack n)) → P (stationActed Closed Eot Incomplete)
+      → P (appended e Etb (h + length t)) → P (appended e Etx (h + length t)) → P (goodBlockOf (Open e h) n x t b .answer)
+  unfolding goodBlockOf
+  good-ind nak ack eots etb etx =
+      let Q : Outcome Acted → Type 0 = λ o. P (o .answer) in
+      rw valid
+      (cond-ind Q (leb n 7) _ _
+      (λ z. cond-ind Q (eqb n e) _ _
+      (λ y. cond-ind Q (leb (h + length t) (length b)) _ _ (λ w. appended-ind P e x (h + length t) etb etx) (λ w. eots))
+      (λ y. cond-ind Q (isDuplicate e n) _ _ (λ w. ack) (λ w. nak)))
+      (λ z. nak))
+
+-- ---- its replies, and what it keeps of them
+record Replies (a : StationAnswer) (w : Reply) (v : Turn) : Type 0 where
+  reply : a .acted .reply ≡ w
+  turn : a .turn ≡ v
+
+-- a closed station gives none and keeps none
+closed-replies : (b : List ℕ) (ms : List (List ℕ)) (v : Turn) (u : Unit)
+    → Replies (unitOutcome (record { run = run Closed b ms; turn = v }) u .answer) NoReply freshTurn
+unfolding answeredOf replyGiven turnThen goodBlockOf badBlockOf eotOf bareEnqOf interruptOf
+closed-replies b ms v (good n x t) = record { reply = refl; turn = refl }
+closed-replies b ms v bad = record { reply = refl; turn = refl }
+closed-replies b ms v enquiry = record { reply = refl; turn = refl }
+closed-replies b ms v eot = record { reply = refl; turn = refl }
+closed-replies b ms v bareEnq = record { reply = refl; turn = refl }
+closed-replies b ms v asks = record { reply = refl; turn = refl }
+
+-- an open one gives document 01's, or what stands in for it, and keeps it
+asked-turn : (s : Station) (k : ReplyKind) (i : Interrupt) → Replies (askedWhen s k i) NoReply (asked k i)
+asked-turn s k Unasked = record { reply = refl; turn = refl }
+asked-turn s k Pending = record { reply = refl; turn = refl }
+asked-turn s k Given = record { reply = refl; turn = refl }
+
+module _ (bs : List Block) (b : List ℕ) (v : Turn) where
+  abbrev expected : ℕ
+  expected = expectedAfter bs
+
+  abbrev now-open : Opening
+  now-open = record { run = run (Open expected (length (textHeld bs))) b (messagesOf bs); turn = v }
+
+  number-valid : leb expected 7 ≡ true
+  number-valid = le-leb expected 7 (goes-round bs .most)
+
+  good-replies : (n : ℕ) (x : Ending) (t : List ℕ) (w : Reply) → plainOutcome (now-open .run) (good n x t) .answer .reply ≡ w
+      → Replies (unitOutcome now-open (good n x t) .answer) (openGiven expected w (v .interrupt)) (turnAfter (openGiven expected w (v .interrupt)) v)
+  unfolding answeredOf replyGiven turnThen turnAfter
+  good-replies n x t w p =
+      let given : Reply → Reply = λ z. openGiven expected z (v .interrupt) in
+      record {
+        reply = ap given p;
+        turn =
+            good-ind (λ (a : Acted). turnThen (a .station) (given (a .reply)) v ≡ turnAfter (given (a .reply)) v) expected (length (textHeld bs)) n x t b number-valid
+            refl refl refl refl refl
+            ∙ ap (λ (z : Reply). turnAfter (given z) v) p;
+      }
+
+  open-replies : (u : Unit) → plainOutcome (now-open .run) u .answer .reply ≡ plainReply (length b) bs u
+      → Replies (unitOutcome now-open u .answer) (openReply (length b) bs v u) (turnBy (length b) bs v u)
+  unfolding answeredOf replyGiven turnThen badBlockOf eotOf bareEnqOf interruptOf
+  open-replies (good n x t) p = good-replies n x t _ p
+  open-replies bad p = rw number-valid record { reply = refl; turn = refl }
+  open-replies enquiry p = rw number-valid record { reply = refl; turn = refl }
+  open-replies eot p = rw number-valid record { reply = refl; turn = refl }
+  open-replies bareEnq p = rw number-valid record { reply = refl; turn = refl }
+  open-replies asks p = rw number-valid (asked-turn (Open expected (length (textHeld bs))) (v .last) (v .interrupt))
+
+  either-replies : (k : Bool) (u : Unit)
+      → plainOutcome (run (stationOf (past bs k)) b (messagesOf bs)) u .answer .reply ≡ cond k NoReply (plainReply (length b) bs u)
+      → Replies (unitOutcome (record { run = run (stationOf (past bs k)) b (messagesOf bs); turn = v }) u .answer) (replyOf (length b) (past bs k) v u)
+      (cond k freshTurn (turnBy (length b) bs v u))
+  either-replies true u p = closed-replies b (messagesOf bs) v u
+  either-replies false u p = open-replies u p
+
+unit-replies : (c : ℕ) (o : Opening) (p : Past) → Stands c (o .run) p → (u : Unit)
+    → Replies (unitOutcome o u .answer) (replyOf c p (o .turn) u) (cond (p .closed) freshTurn (turnBy c (p .blocks) (o .turn) u))
+unit-replies c o p i u =
+    let most : length (textHeld (p .blocks)) ≤ length (o .run .buffer) = let s = i .size in let m = i .most in omega (arith, s, m) in
+    let same : Opening = record { run = run (stationOf p) (o .run .buffer) (messagesOf (p .blocks)); turn = o .turn } in
+    rw (i .station, i .messages)
+    (subst (λ (k : ℕ). Replies (unitOutcome same u .answer) (replyOf k p (o .turn) u) (cond (p .closed) freshTurn (turnBy k (p .blocks) (o .turn) u))) (i .size)
+    (either-replies (p .blocks) (o .run .buffer) (o .turn) (p .closed) u
+    (either-answers (p .blocks) (o .run .buffer) (i .held) most (p .closed) u .reply)))
+
+-- The last reply and RINT are functions of what was reported and asked.
+pub turn-stands : (b : List ℕ) (us : List Unit) → stationRun b us .turn ≡ turnOf (length b) us
+unfolding stationRun turnOf
+turn-stands b [] = refl
+turn-stands b (u ∷ us) =
+    let c = length b in
+    unit-replies c (stationRun b us) (pastOf c us) (stands b us) u .turn
+    ∙ ap (λ (v : Turn). cond (pastOf c us .closed) freshTurn (turnBy c (pastOf c us .blocks) v u)) (turn-stands b us)
 
 -- and so is its reply
-pub replies : (b : List ℕ) (us : List Unit) (u : Unit) → unitOutcome (stationRun b us) u .answer .reply ≡ replyOf (length b) (pastOf (length b) us) u
-replies b us u = unit-answers (length b) (stationRun b us) (pastOf (length b) us) (stands b us) u .reply
+pub replies : (b : List ℕ) (us : List Unit) (u : Unit)
+    → unitOutcome (stationRun b us) u .answer .acted .reply ≡ replyOf (length b) (pastOf (length b) us) (turnOf (length b) us) u
+replies b us u =
+    let c = length b in
+    unit-replies c (stationRun b us) (pastOf c us) (stands b us) u .reply ∙ ap (λ (v : Turn). replyOf c (pastOf c us) v u) (turn-stands b us)
 
--- the expected number is 0 to 7, and the text held fits the buffer, after every run
-pub reachable : (b : List ℕ) (us : List Unit) → soundStation (length b) (stationRun b us .station) ≡ true
-reachable b us = ap (soundStation (length b)) (stands b us .station) ∙ go (pastOf (length b) us) (stands b us)
+-- After every history the words encode a state: the expected number is 0 to 7, the text held fits the buffer, and the last reply and RINT go with them.
+pub reachable : (b : List ℕ) (us : List Unit) → soundState (length b) (stateOf (stationRun b us)) ≡ true
+reachable b us =
+    rw (stands b us .station, turn-stands b us, turn-fits (length b) us) (go (pastOf (length b) us) (stands b us))
   where
-    go : (p : Past) → Stands (length b) (stationRun b us) p → soundStation (length b) (stationOf p) ≡ true
+    go : (p : Past) → Stands (length b) (stationRun b us .run) p → ((validStation (stationOf p) && holdsAtMost (length b) (stationOf p)) && true) ≡ true
     go p i =
-        cond-ind (λ (s : Station). soundStation (length b) s ≡ true) (p .closed) Closed (Open (expectedAfter (p .blocks)) (length (textHeld (p .blocks))))
+        cond-ind (λ (s : Station). ((validStation s && holdsAtMost (length b) s) && true) ≡ true) (p .closed) Closed
+        (Open (expectedAfter (p .blocks)) (length (textHeld (p .blocks))))
         (λ e. refl)
         (λ e. rw (le-leb (expectedAfter (p .blocks)) 7 (goes-round (p .blocks) .most), le-leb (length (textHeld (p .blocks))) (length b) (i .most)))
 
--- ---- no act on such a station is refused, whatever buffer is lent
-appended-done : (e : ℕ) (x : Ending) (n : ℕ) → appended e x n .refusal ≡ 0
-appended-done e Etb n = refl
-appended-done e Etx n = refl
+-- ---- refusals, on the state that a run leaves and any buffer
+abbrev pub withBuffer : List ℕ → Opening → Opening
+withBuffer b o = record { run = run (o .run .station) b (o .run .messages); turn = o .turn }
 
-module _ (b : List ℕ) (ms : List (List ℕ)) where
-  abbrev done : Outcome Acted → Type 0
-  done o = o .answer .refusal ≡ 0
+module _ (b : List ℕ) (ms : List (List ℕ)) (v : Turn) where
+  not-refused : (s : Station) → validStation s ≡ true → (u : Unit) → isAsks u ≡ false
+      → unitOutcome (record { run = run s b ms; turn = v }) u .answer .acted .refusal ≡ 0
+  unfolding answeredOf goodBlockOf badBlockOf eotOf bareEnqOf
+  not-refused Closed f (good n x t) g = refl
+  not-refused Closed f bad g = refl
+  not-refused Closed f enquiry g = refl
+  not-refused Closed f eot g = refl
+  not-refused Closed f bareEnq g = refl
+  not-refused (Open e h) f (good n x t) g = good-ind (λ (a : Acted). a .refusal ≡ 0) e h n x t b f refl refl refl refl refl
+  not-refused (Open e h) f bad g = rw f
+  not-refused (Open e h) f enquiry g = rw f
+  not-refused (Open e h) f eot g = rw f
+  not-refused (Open e h) f bareEnq g = rw f
+  not-refused s f asks g = absurd (true≢false g)
 
-  not-refused : (s : Station) → validStation s ≡ true → (u : Unit) → done (unitOutcome (run s b ms) u)
-  unfolding goodBlockOf badBlockOf eotOf
-  not-refused Closed v (good n x t) = refl
-  not-refused Closed v bad = refl
-  not-refused Closed v enquiry = refl
-  not-refused Closed v eot = refl
-  not-refused (Open e h) v (good n x t) =
-      rw v
-      (cond-ind done (leb n 7) _ _
-      (λ z. cond-ind done (eqb n e) _ _
-      (λ y. cond-ind done (leb (h + length t) (length b)) _ _ (λ w. appended-done e x (h + length t)) (λ w. refl))
-      (λ y. cond-ind done (isDuplicate e n) _ _ (λ w. refl) (λ w. refl)))
-      (λ z. refl))
-  not-refused (Open e h) v bad = rw v
-  not-refused (Open e h) v enquiry = rw v
-  not-refused (Open e h) v eot = rw v
+valid-station : (b : List ℕ) (us : List Unit) → validStation (stationRun b us .run .station) ≡ true
+valid-station b us = and-left _ _ (and-left _ _ (reachable b us))
 
-pub never-refused : (b : List ℕ) (us : List Unit) (c : List ℕ) (u : Unit)
-    → unitOutcome (run (stationRun b us .station) c (stationRun b us .messages)) u .answer .refusal ≡ 0
-never-refused b us c u =
-    not-refused c (stationRun b us .messages) (stationRun b us .station)
-    (and-left (validStation (stationRun b us .station)) _ (reachable b us)) u
+-- No unit is refused, whatever buffer is lent.
+pub never-refused : (b : List ℕ) (us : List Unit) (c : List ℕ) (u : Unit) → isAsks u ≡ false → unitOutcome (withBuffer c (stationRun b us)) u .answer .acted .refusal ≡ 0
+never-refused b us c u = not-refused c (stationRun b us .run .messages) (stationRun b us .turn) (stationRun b us .run .station) (valid-station b us) u
+
+-- Asking is refused exactly if the station is closed, or a RINT is pending or given.
+pub asks-answered : (b : List ℕ) (us : List Unit) (c : List ℕ)
+    → unitOutcome (withBuffer c (stationRun b us)) asks .answer .acted .refusal
+    ≡ need (not (pastOf (length b) us .closed)) STATE (need (isUnasked (turnOf (length b) us .interrupt)) STATE 0)
+unfolding interruptOf
+asks-answered b us c =
+    rw (stands b us .station, turn-stands b us) (either (pastOf (length b) us .blocks) (pastOf (length b) us .closed) (turnOf (length b) us))
+  where
+    when-open : (s : Station) (k : ReplyKind) (i : Interrupt) → askedWhen s k i .acted .refusal ≡ need (isUnasked i) STATE 0
+    when-open s k Unasked = refl
+    when-open s k Pending = refl
+    when-open s k Given = refl
+
+    either : (bs : List Block) (k : Bool) (v : Turn)
+        → interruptOf (stationState (stationOf (past bs k)) v) .acted .refusal ≡ need (not k) STATE (need (isUnasked (v .interrupt)) STATE 0)
+    either bs true v = refl
+    either bs false v = rw (le-leb (expectedAfter bs) 7 (goes-round bs .most)) (when-open _ (v .last) (v .interrupt))

@@ -1,6 +1,8 @@
 pub mod Texts
 pub mod Duplicates
+pub mod Turns
+pub mod Plain
 pub mod History
 pub mod Retransmission
-pub mod CallLaws
+pub mod Replies
 pub mod ReadBack

@@ -1,27 +1,37 @@
--- Document 01, 'X3.28 receiving station': the station, its replies and its messages as functions of what the driver reported since opening.
+-- Document 01, 'X3.28 receiving station', and 02, §14: the station, its replies and its messages as functions of what the driver reported and asked since opening.
 use mathlib.Core.List.{List, [], _∷_, _++_}
 use mathlib.Core.Bool.{Bool, true, false, cond, _&&_}
 use Prim.Native.Nat.{ℕ, _+_}
 use lib.ListN.{length, take}
 use lib.Dec.{leb, eqb}
 use Rattle.lists.specs.Outcome.{need, Outcome, outcome}
-use Rattle.station.specs.Station.{openedStation, nextNumber, isDuplicate, validStation, goodBlockOf, badBlockOf, eotOf}
+use Rattle.station.specs.Station.{openedStation, nextNumber, isDuplicate, validStation}
+use Rattle.station.specs.Interrupt.{turn, freshTurn, stationState, turnAfter, openGiven, lastReply, goodBlockAnswer, badBlockAnswer, eotAnswer, bareEnqOf, interruptOf, agrees}
 use Rattle.station.specs.declared.Station.{Station}
 use Rattle.station.specs.declared.Station.the-variants.{Closed, Open}
 use Rattle.station.specs.declared.Ending.{Ending}
 use Rattle.station.specs.declared.Ending.the-variants.{Etb, Etx}
 use Rattle.station.specs.declared.Reply.{Reply}
 use Rattle.station.specs.declared.Reply.the-variants.{NoReply, Ack, Nak, Eot}
+use Rattle.station.specs.declared.ReplyKind.{ReplyKind}
+use Rattle.station.specs.declared.ReplyKind.the-variants.{NoneYet, Ack as AckKind, Nak as NakKind, Rint as RintKind}
+use Rattle.station.specs.declared.Interrupt.{Interrupt}
+use Rattle.station.specs.declared.Interrupt.the-variants.{Unasked, Pending, Given}
+use Rattle.station.specs.declared.Turn.{Turn}
+use Rattle.station.specs.declared.StationState.{StationState}
+use Rattle.station.specs.declared.StationAnswer.{StationAnswer}
 use Rattle.station.specs.declared.Message.{Message}
 use Rattle.station.specs.declared.Message.the-variants.{Incomplete, Complete}
-use Rattle.station.specs.declared.Acted.{Acted}
 
--- what the driver reports: a good block with number, ending and text, a bad block, one ended by ENQ, EOT
+-- what the driver reports: a good block with number, ending and text, a bad block, one ended by ENQ, EOT, a bare ENQ; and that it asks for a RINT, which is
+-- no unit of a line
 pub data Unit : Type 0 where
   good : ℕ → Ending → List ℕ → Unit
   bad : Unit
   enquiry : Unit
   eot : Unit
+  bareEnq : Unit
+  asks : Unit
 
 -- ---- blocks that came in order, the newest first
 pub data Block : Type 0 where
@@ -61,6 +71,8 @@ unitAfter c bs (good n x t) =
 unitAfter c bs bad = past bs false
 unitAfter c bs enquiry = past bs false
 unitAfter c bs eot = past bs true
+unitAfter c bs bareEnq = past bs false
+unitAfter c bs asks = past bs false
 
 -- the newest unit first
 unfoldable pub pastOf : ℕ → List Unit → Past
@@ -76,20 +88,65 @@ abbrev pub holdsAtMost : ℕ → Station → Bool
 holdsAtMost c Closed = true
 holdsAtMost c (Open e h) = leb h c
 
-abbrev pub soundStation : ℕ → Station → Bool
-soundStation c s = validStation s && holdsAtMost c s
+abbrev pub isUnasked : Interrupt → Bool
+isUnasked Unasked = true
+isUnasked Pending = false
+isUnasked Given = false
 
--- its reply to a unit
-abbrev pub openReply : ℕ → List Block → Unit → Reply
-openReply c bs (good n x t) =
+abbrev pub isFresh : ReplyKind → Interrupt → Bool
+isFresh NoneYet i = isUnasked i
+isFresh AckKind i = false
+isFresh NakKind i = false
+isFresh RintKind i = false
+
+-- and what it keeps of its replies goes with it
+abbrev pub turnFits : Station → Turn → Bool
+turnFits Closed v = isFresh (v .last) (v .interrupt)
+turnFits (Open e h) v = agrees e h (v .last) (v .interrupt)
+
+abbrev pub soundState : ℕ → StationState → Bool
+soundState c s = (validStation (s .station) && holdsAtMost c (s .station)) && turnFits (s .station) (s .turn)
+
+-- ---- its replies. Document 01's to a unit of an open station, RINT and the answer to a bare ENQ aside
+abbrev pub plainReply : ℕ → List Block → Unit → Reply
+plainReply c bs (good n x t) =
     need (leb n 7) Nak
     (cond (eqb n (expectedAfter bs)) (need (fits c bs t) Eot (Ack n)) (cond (isDuplicate (expectedAfter bs) n) (Ack n) Nak))
-openReply c bs bad = Nak
-openReply c bs enquiry = Nak
-openReply c bs eot = NoReply
+plainReply c bs bad = Nak
+plainReply c bs enquiry = Nak
+plainReply c bs eot = NoReply
+plainReply c bs bareEnq = NoReply
+plainReply c bs asks = NoReply
 
-abbrev pub replyOf : ℕ → Past → Unit → Reply
-replyOf c p u = cond (p .closed) NoReply (openReply c (p .blocks) u)
+-- with the last reply and RINT as they stand
+abbrev pub openReply : ℕ → List Block → Turn → Unit → Reply
+openReply c bs v (good n x t) = openGiven (expectedAfter bs) (plainReply c bs (good n x t)) (v .interrupt)
+openReply c bs v bad = Nak
+openReply c bs v enquiry = Nak
+openReply c bs v eot = NoReply
+openReply c bs v bareEnq = lastReply (expectedAfter bs) (v .last)
+openReply c bs v asks = NoReply
+
+-- ---- the last reply and RINT: what the driver asks for is pending, unless one is or no ACK came since the last; and each reply is the last one then
+abbrev pub asked : ReplyKind → Interrupt → Turn
+asked k Unasked = turn k Pending
+asked k Pending = turn k Pending
+asked k Given = turn k Given
+
+abbrev pub turnBy : ℕ → List Block → Turn → Unit → Turn
+turnBy c bs v (good n x t) = turnAfter (openReply c bs v (good n x t)) v
+turnBy c bs v bad = turnAfter (openReply c bs v bad) v
+turnBy c bs v enquiry = turnAfter (openReply c bs v enquiry) v
+turnBy c bs v eot = freshTurn
+turnBy c bs v bareEnq = turnAfter (openReply c bs v bareEnq) v
+turnBy c bs v asks = asked (v .last) (v .interrupt)
+
+unfoldable pub turnOf : ℕ → List Unit → Turn
+turnOf c [] = freshTurn
+turnOf c (u ∷ us) = cond (pastOf c us .closed) freshTurn (turnBy c (pastOf c us .blocks) (turnOf c us) u)
+
+abbrev pub replyOf : ℕ → Past → Turn → Unit → Reply
+replyOf c p v u = cond (p .closed) NoReply (openReply c (p .blocks) v u)
 
 -- ---- a run of the station's acts from its opening on: the station, the buffer, and the messages handed over, the newest first
 pub record Run : Type 0 where
@@ -97,20 +154,34 @@ pub record Run : Type 0 where
   pub buffer : List ℕ
   pub messages : List (List ℕ)
 
-abbrev pub unitOutcome : Run → Unit → Outcome Acted
-unitOutcome r (good n x t) = goodBlockOf (r .station) n x t (r .buffer)
-unitOutcome r bad = outcome (badBlockOf (r .station)) (r .buffer)
-unitOutcome r enquiry = outcome (badBlockOf (r .station)) (r .buffer)
-unitOutcome r eot = outcome (eotOf (r .station)) (r .buffer)
+-- with what it keeps of its replies
+pub record Opening : Type 0 where
+  pub run : Run
+  pub turn : Turn
+
+abbrev pub stateOf : Opening → StationState
+stateOf o = stationState (o .run .station) (o .turn)
+
+abbrev pub unitOutcome : Opening → Unit → Outcome StationAnswer
+unitOutcome o (good n x t) = goodBlockAnswer (stateOf o) n x t (o .run .buffer)
+unitOutcome o bad = outcome (badBlockAnswer (stateOf o)) (o .run .buffer)
+unitOutcome o enquiry = outcome (badBlockAnswer (stateOf o)) (o .run .buffer)
+unitOutcome o eot = outcome (eotAnswer (stateOf o)) (o .run .buffer)
+unitOutcome o bareEnq = outcome (bareEnqOf (stateOf o)) (o .run .buffer)
+unitOutcome o asks = outcome (interruptOf (stateOf o)) (o .run .buffer)
 
 -- where a message is complete, it is taken from the buffer's start
 abbrev pub handedOver : Message → List ℕ → List (List ℕ) → List (List ℕ)
 handedOver Incomplete b ms = ms
 handedOver (Complete n) b ms = take n b ∷ ms
 
-abbrev pub runAfter : Outcome Acted → List (List ℕ) → Run
-runAfter o ms = record { station = o .answer .station; buffer = o .buffer; messages = handedOver (o .answer .message) (o .buffer) ms }
+abbrev pub openingAfter : Outcome StationAnswer → List (List ℕ) → Opening
+openingAfter o ms =
+    record {
+      run = record { station = o .answer .acted .station; buffer = o .buffer; messages = handedOver (o .answer .acted .message) (o .buffer) ms };
+      turn = o .answer .turn;
+    }
 
-unfoldable pub stationRun : List ℕ → List Unit → Run
-stationRun b [] = record { station = openedStation; buffer = b; messages = [] }
-stationRun b (u ∷ us) = runAfter (unitOutcome (stationRun b us) u) (stationRun b us .messages)
+unfoldable pub stationRun : List ℕ → List Unit → Opening
+stationRun b [] = record { run = record { station = openedStation; buffer = b; messages = [] }; turn = freshTurn }
+stationRun b (u ∷ us) = openingAfter (unitOutcome (stationRun b us) u) (stationRun b us .run .messages)

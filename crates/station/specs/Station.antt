@@ -46,9 +46,9 @@ stationActed s r m = record { refusal = 0; station = s; reply = r; message = m }
 abbrev pub dropped : Station → Reply → Acted
 dropped s r = stationActed s r Incomplete
 
--- what is no station: 11
-abbrev pub noStation : Station → Acted
-noStation s = record { refusal = STATE; station = s; reply = NoReply; message = Incomplete }
+-- what is no station, and an act that does not apply: 11
+abbrev pub refusedStation : Station → Acted
+refusedStation s = record { refusal = STATE; station = s; reply = NoReply; message = Incomplete }
 
 -- "answered ACK with its number; ETX completes the message, and the next block starts a new one at the buffer's start": n bytes are held then
 abbrev pub appended : ℕ → Ending → ℕ → Acted
@@ -74,14 +74,14 @@ openBlock e h n x text b =
 unfoldable pub goodBlockOf : Station → ℕ → Ending → List ℕ → List ℕ → Outcome Acted
 goodBlockOf Closed n x text b = outcome (dropped Closed NoReply) b
 goodBlockOf (Open e h) n x text b =
-    need (validStation (Open e h)) (outcome (noStation (Open e h)) b) (openBlock e h n x text b)
+    need (validStation (Open e h)) (outcome (refusedStation (Open e h)) b) (openBlock e h n x text b)
 
 -- "A bad block, .. or one ended by ENQ: dropped, NAK."
 unfoldable pub badBlockOf : Station → Acted
 badBlockOf Closed = dropped Closed NoReply
-badBlockOf (Open e h) = need (validStation (Open e h)) (noStation (Open e h)) (dropped (Open e h) Nak)
+badBlockOf (Open e h) = need (validStation (Open e h)) (refusedStation (Open e h)) (dropped (Open e h) Nak)
 
 -- "A received EOT does the same without reply": station closed, held text forgotten
 unfoldable pub eotOf : Station → Acted
 eotOf Closed = dropped Closed NoReply
-eotOf (Open e h) = need (validStation (Open e h)) (noStation (Open e h)) (stationActed Closed NoReply Incomplete)
+eotOf (Open e h) = need (validStation (Open e h)) (refusedStation (Open e h)) (stationActed Closed NoReply Incomplete)

@@ -1,30 +1,40 @@
-// The X3.28 receiving station (000, C.3). The line driver frames the units and reports what arrived. What its C functions do, on
-// slices: the words are looked at, and the answer is written into the words.
-mod acts;
-mod blocks;
-mod units;
-mod words;
-
-pub use acts::bad_words;
-pub use acts::block_words;
-pub use acts::end_words;
-pub use acts::fresh_station_words;
-pub use acts::opened_words;
-pub use blocks::precedes;
-
-// The last block number: after it comes 0.
-pub(crate) const LAST_NUMBER: u64 = 7;
-
+// The X3.28 receiving station (000, C.3): what it is, and what it answers. The line driver frames the units and reports what arrived.
 pub enum Station {
     Closed,
     // The expected block number, and the length of the text held in the message buffer.
     Open(u64, usize),
 }
 
+// What a reply is, its number aside.
+pub enum ReplyKind {
+    NoneYet,
+    Ack,
+    Nak,
+    Rint,
+}
+
+// How a station stands with RINT: none is asked for, one is, or one was given and no ACK since.
+pub enum Interrupt {
+    Unasked,
+    Pending,
+    Given,
+}
+
+// What an open station keeps of its replies: the last one, and RINT. Closed: none, and unasked.
+pub struct Turn {
+    pub last: ReplyKind,
+    pub interrupt: Interrupt,
+}
+
+pub struct StationState {
+    pub station: Station,
+    pub turn: Turn,
+}
+
 // What a station's words encode.
 pub enum Decoded {
     Unknown,
-    Known(Station),
+    Known(StationState),
 }
 
 // How a good block ended.
@@ -45,6 +55,7 @@ pub enum Reply {
     Ack(u64),
     Nak,
     Eot,
+    Rint,
 }
 
 // Whether a message is complete: these many bytes from the buffer's start.
@@ -60,4 +71,10 @@ pub struct Acted {
     pub station: Station,
     pub reply: Reply,
     pub message: Message,
+}
+
+// The same, with what is kept of the replies then.
+pub struct StationAnswer {
+    pub acted: Acted,
+    pub turn: Turn,
 }

@@ -1,43 +1,53 @@
 -- Each call is the act of which the statement speaks, and leaves the words of the state after it.
-use mathlib.Core.Path.{_≡_, refl, sym, ap, _∙_}
+use mathlib.Core.Path.{_≡_, refl, sym, ap, _∙_, subst}
 use mathlib.Core.List.{List, [], _∷_, _++_}
-use mathlib.Core.Bool.{Bool, true, false, true≢false}
+use mathlib.Core.Bool.{Bool, true, false, _&&_, true≢false}
 use Prim.Native.Nat.{ℕ, _≤_}
 use native.Mathlib.Omega.{arith}
 use lib.ListN.{length, drop, length-append, length-drop}
 use lib.Seq.{drop-append-seam}
 use lib.Dec.{leb, eqb}
-use borrow.Author.Tests.{le-leb}
-use Rattle.lists.specs.Bytes.{greatestWord, over}
+use borrow.Author.Tests.{le-leb, eq-eqb, eqb-false}
+use Rattle.lists.specs.Bytes.{over}
 use Rattle.lists.specs.Outcome.{need, Outcome, outcome, Called, called}
 use Rattle.lists.proofs.Calls.{over-is}
-use Rattle.lists.proofs.Tests.{cond-ind}
-use Rattle.station.specs.Station.{precedes, stationActed, openedStation, goodBlockOf, badBlockOf, eotOf}
+use Rattle.lists.proofs.Tests.{cond-ind, and-right}
+use Rattle.station.specs.Interrupt.{turn, stationState, stationAnswer, openedStationAnswer, goodBlockAnswer, badBlockAnswer, eotAnswer, bareEnqOf, askedWhen, interruptAt, interruptOf}
+use Rattle.station.specs.Station.{validStation, refusedStation}
 use Rattle.station.specs.declared.Station.{Station}
 use Rattle.station.specs.declared.Station.the-variants.{Closed as ClosedStation, Open}
+use Rattle.station.specs.declared.ReplyKind.{ReplyKind}
+use Rattle.station.specs.declared.Interrupt.{Interrupt}
+use Rattle.station.specs.declared.Interrupt.the-variants.{Unasked, Pending, Given}
 use Rattle.station.specs.declared.Ending.{Ending}
 use Rattle.station.specs.declared.Ending.the-variants.{Etb, Etx}
-use Rattle.station.specs.declared.Reply.the-variants.{NoReply}
-use Rattle.station.specs.declared.Message.the-variants.{Incomplete}
 use Rattle.station.specs.declared.DecodedEnding.{DecodedEnding}
 use Rattle.station.specs.declared.DecodedEnding.the-variants.{Known as AnEnding}
-use Rattle.station.specs.declared.Acted.{Acted}
+use Rattle.station.specs.declared.Turn.{Turn}
+use Rattle.station.specs.declared.StationState.{StationState}
+use Rattle.station.specs.declared.StationAnswer.{StationAnswer}
 use Rattle.station.specs.declared.Decoded.{Decoded}
-use Rattle.station.specs.History.{Unit, good, bad, enquiry, eot, Run, unitOutcome, stationRun}
-use Rattle.station.specs.StationCalls.{stationWords, endingOf, actWritten, enoughWords, actOn, stationCall, blockEndedBy, openStationCall, goodBlockCall, badBlockCall, eotCall}
+use Rattle.station.specs.History.{Unit, good, bad, enquiry, eot, bareEnq, asks, holdsAtMost, turnFits, Opening, stateOf, unitOutcome, stationRun}
+use Rattle.station.specs.StationCalls.{stationWords, stationReport, endingOf, actWritten, enoughWords, actOn, stationCall, blockEndedBy, openStationCall, goodBlockCall, badBlockCall, eotCall, bareEnqCall, interruptCall}
 use Rattle.station.proofs.ReadBack.{words-back as station-words-back}
-use Rattle.station.proofs.History.{never-refused}
-use Rattle.master.specs.Master.{blockNumber, validOutstanding, isLast, refusedMaster, resendOf, acknowledgedOf, ackOf, waitingReply, idleReply, openedMaster, startNow, startOf, masterReplyOf, timerAOf, closeOf}
-use Rattle.master.specs.declared.Outstanding.{Outstanding}
+use Rattle.station.proofs.Turns.{fresh-only}
+use Rattle.station.proofs.History.{reachable as station-reachable, never-refused}
+use Rattle.master.specs.Master.{refusedMaster, startNow, startOf}
+use Rattle.master.specs.Reversal.{answerOf, masterState, openedMasterAnswer, startAnswer, replyAnswer, timerAnswer, closeAnswer, enquireAnswer, mayReceiveOf, reversalFits}
 use Rattle.master.specs.declared.Master.{Master}
 use Rattle.master.specs.declared.Master.the-variants.{Closed, Idle, Waiting}
 use Rattle.master.specs.declared.Response.{Response}
-use Rattle.master.specs.declared.Response.the-variants.{Ack, Nak, Eot, Damaged}
-use Rattle.master.specs.declared.MasterActed.{MasterActed}
+use Rattle.master.specs.declared.Response.the-variants.{Ack, Nak, Eot, Damaged, Rint}
+use Rattle.master.specs.declared.Reversal.{Reversal}
+use Rattle.master.specs.declared.MasterState.{MasterState}
+use Rattle.master.specs.declared.MasterAnswer.{MasterAnswer}
 use Rattle.master.specs.declared.DecodedMaster.{DecodedMaster}
-use Rattle.master.specs.MasterCalls.{masterWords, endingWord, masterReport, masterWritten, enoughMasterWords, masterActOn, masterCall, openMasterCall, startCall, masterReplyCall, timerACall, closeCall}
-use Rattle.master.specs.MasterHistory.{MasterAct, start, reply, timer, close, masterActOf, masterAfter}
+use Rattle.master.specs.MasterCalls.{stateWords, endingWord, masterReport, masterWritten, enoughMasterWords, masterActOn, masterCall, openMasterCall, startCall, masterReplyCall, timerACall, closeCall, enquireCall, mayReceiveCall}
+use Rattle.master.specs.MasterHistory.{MasterAct, start, reply, timer, close, enquire, mayReceive, masterActOf, stateThen, masterAfter}
 use Rattle.master.proofs.ReadBack.{words-back}
+use Rattle.master.proofs.Valid.{fits-after}
+use Rattle.master.proofs.History.{reachable}
+use Rattle.master.proofs.Reversing.{refused-equal}
 use Rattle.station_link.specs.Calls.{masterCallOf, masterWordsAfter, StationWords, stationCallOf, bufferAfter, stationWordsAfter}
 
 -- words written over words
@@ -53,187 +63,210 @@ over-over l ws vs h e =
     ∙ sym (over-is l vs (omega (arith, e, h)))
 
 -- ---- the master
-six : (m : Master) → length (masterWords m) ≡ 6
-six (Closed count) = refl
-six (Idle count) = refl
-six (Waiting o) = refl
+ten : (m : Master) (v : Reversal) → length (stateWords m v) ≡ 10
+ten (Closed count) v = refl
+ten (Idle count) v = refl
+ten (Waiting o) v = refl
 
-module _ (st : List ℕ) (enough : 6 ≤ length st) where
-  abbrev words : Master → List ℕ
-  words m = over st (masterWords m)
+module _ (st : List ℕ) (enough : 10 ≤ length st) where
+  abbrev words : MasterState → List ℕ
+  words s = over st (stateWords (s .master) (s .reversal))
 
-  long : (m : Master) → length (words m) ≡ length st
-  long m = over-length st (masterWords m) (let n = six m in omega (arith, n, enough))
+  long : (s : MasterState) → length (words s) ≡ length st
+  long s = over-length st (stateWords (s .master) (s .reversal)) (let n = ten (s .master) (s .reversal) in omega (arith, n, enough))
 
   module _ (p : List ℕ) (reports : 10 ≤ length p) where
-    is-enough : (m : Master) → enoughMasterWords (length (words m)) (length p) ≡ true
-    is-enough m = let n = long m in rw (le-leb 6 (length (words m)) (omega (arith, n, enough)), le-leb 10 (length p) reports)
+    is-enough : (s : MasterState) → enoughMasterWords (length (words s)) (length p) ≡ true
+    is-enough s = let n = long s in rw (le-leb 10 (length (words s)) (omega (arith, n, enough)), le-leb 10 (length p) reports)
 
-    call-is : (f : Master → MasterActed) (m : Master) → masterCall f (words m) p ≡ masterWritten (words m) p (f m)
-    call-is f m = rw (is-enough m) (ap (λ (d : DecodedMaster). masterActOn d f (words m) p) (words-back st m enough))
+    module _ (s : MasterState) (fits : reversalFits (s .master) (s .reversal) ≡ true) where
+      call-is : (f : MasterState → MasterAnswer) → masterCall f (words s) p ≡ masterWritten (words s) p (f s)
+      call-is f = rw (is-enough s) (ap (λ (d : DecodedMaster). masterActOn d f (words s) p) (words-back st (s .master) (s .reversal) enough fits))
 
-    -- each call is its act
-    pub call-is-act : (x : MasterAct) (m : Master) → masterCallOf x (words m) p ≡ masterWritten (words m) p (masterActOf x m)
-    unfolding startCall masterReplyCall timerACall closeCall startOf
-    call-is-act (start n size) m = go (leb 1 size)
+      start-is : (n size : ℕ) → startCall n size (words s) p ≡ masterWritten (words s) p (startAnswer n size s)
+      unfolding startCall startOf answerOf
+      start-is n size = go (leb 1 size) refl
+        where
+          go : (v : Bool) → leb 1 size ≡ v → need v (called 1 (words s) [] p) (masterCall (startAnswer n size) (words s) p) ≡ masterWritten (words s) p (startAnswer n size s)
+          go true h = call-is (startAnswer n size)
+          go false h = rw h
+
+      -- each call is its act
+      pub call-is-act : (x : MasterAct) → masterCallOf x (words s) p ≡ masterWritten (words s) p (masterActOf x s)
+      unfolding masterReplyCall timerACall closeCall enquireCall mayReceiveCall
+      call-is-act (start n size) = start-is n size
+      call-is-act (reply (Ack n)) = call-is (replyAnswer (Ack n))
+      call-is-act (reply Nak) = call-is (replyAnswer Nak)
+      call-is-act (reply Eot) = call-is (replyAnswer Eot)
+      call-is-act (reply Damaged) = call-is (replyAnswer Damaged)
+      call-is-act (reply Rint) = call-is (replyAnswer Rint)
+      call-is-act timer = call-is timerAnswer
+      call-is-act close = call-is closeAnswer
+      call-is-act enquire = call-is enquireAnswer
+      call-is-act mayReceive = call-is mayReceiveOf
+
+    -- the words after an act; a refused one leaves the master as it is
+    written-words : (s : MasterState) (a : MasterAnswer) → ((a .acted .refusal ≡ 0 → ⊥) → stateThen a ≡ s) → masterWritten (words s) p a .state ≡ words (stateThen a)
+    written-words s a f = go (eqb (a .acted .refusal) 0) (λ h. f (eqb-false (a .acted .refusal) 0 h))
       where
-        go : (v : Bool) → need v (called 1 (words m) [] p) (masterCall (λ (z : Master). need v (refusedMaster 1 z) (startNow n size z)) (words m) p)
-            ≡ masterWritten (words m) p (need v (refusedMaster 1 m) (startNow n size m))
-        go true = call-is (startNow n size) m
-        go false = refl
-    call-is-act (reply (Ack n)) m = call-is (masterReplyOf (Ack n)) m
-    call-is-act (reply Nak) m = call-is (masterReplyOf Nak) m
-    call-is-act (reply Eot) m = call-is (masterReplyOf Eot) m
-    call-is-act (reply Damaged) m = call-is (masterReplyOf Damaged) m
-    call-is-act timer m = call-is timerAOf m
-    call-is-act close m = call-is closeOf m
+        now : List ℕ
+        now = stateWords (a .acted .master) (a .reversal)
 
-    -- a refused act leaves the master as it is
-    abbrev Same : Master → MasterActed → Type 0
-    Same m a = eqb (a .refusal) 0 ≡ false → a .master ≡ m
+        twice : over (words s) now ≡ words (stateThen a)
+        twice =
+            over-over st (stateWords (s .master) (s .reversal)) now (let n = ten (s .master) (s .reversal) in omega (arith, n, enough))
+            (ten (s .master) (s .reversal) ∙ sym (ten (a .acted .master) (a .reversal)))
 
-    done-same : (m : Master) (a : MasterActed) → eqb (a .refusal) 0 ≡ true → Same m a
-    done-same m a e f = absurd (true≢false (sym e ∙ f))
-
-    resend-same : (o : Outstanding) → Same (Waiting o) (resendOf o)
-    unfolding resendOf
-    resend-same o = cond-ind (Same (Waiting o)) (leb 5 (o .resends)) _ _ (λ h f. absurd (true≢false f)) (λ h f. absurd (true≢false f))
-
-    go-on-same : (o : Outstanding) → Same (Waiting o) (acknowledgedOf o)
-    unfolding acknowledgedOf
-    go-on-same o = cond-ind (Same (Waiting o)) (isLast o) _ _ (λ h f. absurd (true≢false f)) (λ h f. absurd (true≢false f))
-
-    ack-same : (n : ℕ) (o : Outstanding) → Same (Waiting o) (ackOf n o)
-    unfolding ackOf
-    ack-same n o =
-        cond-ind (Same (Waiting o)) (eqb n (blockNumber (o .count))) _ _
-        (λ h. cond-ind (Same (Waiting o)) (eqb (o .count) greatestWord) _ _ (λ g f. refl) (λ g. go-on-same o))
-        (λ h. cond-ind (Same (Waiting o)) (precedes n (blockNumber (o .count))) _ _ (λ g. resend-same o) (λ g f. refl))
-
-    waiting-same : (r : Response) (o : Outstanding) → Same (Waiting o) (waitingReply r o)
-    waiting-same (Ack n) o = ack-same n o
-    waiting-same Nak o = resend-same o
-    waiting-same Eot o = λ f. absurd (true≢false f)
-    waiting-same Damaged o = λ f. refl
-
-    idle-same : (r : Response) (count : ℕ) → Same (Idle count) (idleReply r count)
-    idle-same (Ack n) count = λ f. refl
-    idle-same Nak count = λ f. refl
-    idle-same Eot count = λ f. absurd (true≢false f)
-    idle-same Damaged count = λ f. refl
-
-    start-same : (n size : ℕ) (m : Master) → Same m (startNow n size m)
-    start-same n size (Closed count) = λ f. refl
-    start-same n size (Idle count) = λ f. absurd (true≢false f)
-    start-same n size (Waiting o) = λ f. refl
-
-    pub refused-same : (x : MasterAct) (m : Master) → Same m (masterActOf x m)
-    unfolding startOf masterReplyOf timerAOf closeOf
-    refused-same (start n size) m = cond-ind (Same m) (leb 1 size) _ _ (λ h. start-same n size m) (λ h f. refl)
-    refused-same (reply r) (Closed count) = λ f. refl
-    refused-same (reply r) (Idle count) = idle-same r count
-    refused-same (reply r) (Waiting o) = cond-ind (Same (Waiting o)) (validOutstanding o) _ _ (λ h. waiting-same r o) (λ h f. refl)
-    refused-same timer (Closed count) = λ f. refl
-    refused-same timer (Idle count) = λ f. refl
-    refused-same timer (Waiting o) = cond-ind (Same (Waiting o)) (validOutstanding o) _ _ (λ h. resend-same o) (λ h f. refl)
-    refused-same close (Closed count) = λ f. refl
-    refused-same close (Idle count) = λ f. absurd (true≢false f)
-    refused-same close (Waiting o) = λ f. refl
-
-    -- the words after an act
-    written-words : (m : Master) (a : MasterActed) → Same m a → masterWritten (words m) p a .state ≡ words (a .master)
-    written-words m a f = go (eqb (a .refusal) 0) f
-      where
-        twice : over (words m) (masterWords (a .master)) ≡ words (a .master)
-        twice = over-over st (masterWords m) (masterWords (a .master)) (let n = six m in omega (arith, n, enough)) (six m ∙ sym (six (a .master)))
-
-        go : (v : Bool) → (v ≡ false → a .master ≡ m)
-            → need v (called (a .refusal) (words m) [] p) (called 0 (over (words m) (masterWords (a .master))) [] (over p (masterReport a))) .state ≡ words (a .master)
+        go : (v : Bool) → (v ≡ false → stateThen a ≡ s)
+            → need v (called (a .acted .refusal) (words s) [] p) (called 0 (over (words s) now) [] (over p (masterReport (a .acted)))) .state ≡ words (stateThen a)
         go true g = twice
         go false g = ap words (sym (g refl))
 
     enough-first : enoughMasterWords (length st) (length p) ≡ true
-    enough-first = rw (le-leb 6 (length st) enough, le-leb 10 (length p) reports)
+    enough-first = rw (le-leb 10 (length st) enough, le-leb 10 (length p) reports)
 
     -- the words after every run of calls are those of the master after the acts
     pub master-calls : (xs : List MasterAct) → masterWordsAfter st p xs ≡ words (masterAfter xs)
-    unfolding masterWordsAfter masterAfter openMasterCall
-    master-calls [] = ap (λ (v : Bool). need v (called 2 st [] p) (masterWritten st p openedMaster) .state) enough-first
+    unfolding masterWordsAfter masterAfter openMasterCall answerOf
+    master-calls [] = ap (λ (v : Bool). need v (called 2 st [] p) (masterWritten st p openedMasterAnswer) .state) enough-first
     master-calls (x ∷ xs) =
         ap (λ (ws : List ℕ). masterCallOf x ws p .state) (master-calls xs)
-        ∙ ap (λ (c : Called). c .state) (call-is-act x (masterAfter xs))
-        ∙ written-words (masterAfter xs) (masterActOf x (masterAfter xs)) (refused-same x (masterAfter xs))
+        ∙ ap (λ (c : Called). c .state) (call-is-act (masterAfter xs) (fits-after xs) x)
+        ∙ written-words (masterAfter xs) (masterActOf x (masterAfter xs)) (refused-equal (masterAfter xs) (reachable xs) (fits-after xs) x)
 
 -- ---- the station
-three : (s : Station) → length (stationWords s) ≡ 3
-three ClosedStation = refl
-three (Open e h) = refl
+five : (s : Station) (v : Turn) → length (stationWords s v) ≡ 5
+five ClosedStation v = refl
+five (Open e h) v = refl
 
 ending-code : (x : Ending) → endingOf (endingWord x) ≡ AnEnding x
 ending-code Etb = refl
 ending-code Etx = refl
 
-module _ (st : List ℕ) (enough : 3 ≤ length st) (p : List ℕ) (reports : 4 ≤ length p) where
-  abbrev written : Station → List ℕ
-  written s = over st (stationWords s)
+abbrev Refused : StationAnswer → Type 0
+Refused a = eqb (a .acted .refusal) 0 ≡ false
 
-  station-long : (s : Station) → length (written s) ≡ length st
-  station-long s = over-length st (stationWords s) (let n = three s in omega (arith, n, enough))
+-- a request for a RINT that is refused leaves the state as it is
+asks-refused : (s : Station) (v : Turn) → turnFits s v ≡ true → Refused (interruptAt s v) → stationState (interruptAt s v .acted .station) (interruptAt s v .turn) ≡ stationState s v
+asks-refused ClosedStation v f r = ap (stationState ClosedStation) (fresh-only (v .last) (v .interrupt) f)
+asks-refused (Open e h) v f r = go (leb e 7) r
+  where
+    asked : (k : ReplyKind) (i : Interrupt) → Refused (askedWhen (Open e h) k i) → stationState (askedWhen (Open e h) k i .acted .station) (askedWhen (Open e h) k i .turn) ≡ stationState (Open e h) (turn k i)
+    asked k Unasked q = absurd (true≢false q)
+    asked k Pending q = refl
+    asked k Given q = refl
 
-  station-enough : (s : Station) → enoughWords (length (written s)) (length p) ≡ true
-  station-enough s = let n = station-long s in rw (le-leb 3 (length (written s)) (omega (arith, n, enough)), le-leb 4 (length p) reports)
+    go : (w : Bool) → Refused (need w (stationAnswer (refusedStation (Open e h)) v) (askedWhen (Open e h) (v .last) (v .interrupt)))
+        → stationState (need w (stationAnswer (refusedStation (Open e h)) v) (askedWhen (Open e h) (v .last) (v .interrupt)) .acted .station) (need w (stationAnswer (refusedStation (Open e h)) v) (askedWhen (Open e h) (v .last) (v .interrupt)) .turn)
+        ≡ stationState (Open e h) v
+    go true q = asked (v .last) (v .interrupt) q
+    go false q = refl
 
-  station-call-is : (f : Station → Outcome Acted) (s : Station) (b : List ℕ) → stationCall f (written s) b p ≡ actWritten (written s) p (f s)
-  station-call-is f s b = rw (station-enough s) (ap (λ (d : Decoded). actOn d f (written s) b p) (station-words-back st s enough))
+module _ (st : List ℕ) (enough : 5 ≤ length st) (p : List ℕ) (reports : 4 ≤ length p) where
+  abbrev written : StationState → List ℕ
+  written s = over st (stationWords (s .station) (s .turn))
 
-  -- what a call writes: the outcome of the unit, without a buffer where none is lent
-  abbrev calledOutcome : Run → Unit → Outcome Acted
-  calledOutcome r (good n x t) = unitOutcome r (good n x t)
-  calledOutcome r bad = outcome (badBlockOf (r .station)) []
-  calledOutcome r enquiry = outcome (badBlockOf (r .station)) []
-  calledOutcome r eot = outcome (eotOf (r .station)) []
+  station-long : (s : StationState) → length (written s) ≡ length st
+  station-long s = over-length st (stationWords (s .station) (s .turn)) (let n = five (s .station) (s .turn) in omega (arith, n, enough))
 
-  pub unit-call-is : (r : Run) (u : Unit) → stationCallOf u (record { words = written (r .station); buffer = r .buffer }) p ≡ actWritten (written (r .station)) p (calledOutcome r u)
-  unfolding goodBlockCall badBlockCall eotCall
-  unit-call-is r (good n x t) =
-      ap (λ (d : DecodedEnding). blockEndedBy d n t (r .buffer) (written (r .station)) p) (ending-code x) ∙ station-call-is (λ (s : Station). goodBlockOf s n x t (r .buffer)) (r .station) (r .buffer)
-  unit-call-is r bad = station-call-is (λ (s : Station). outcome (badBlockOf s) []) (r .station) []
-  unit-call-is r enquiry = station-call-is (λ (s : Station). outcome (badBlockOf s) []) (r .station) []
-  unit-call-is r eot = station-call-is (λ (s : Station). outcome (eotOf s) []) (r .station) []
+  station-enough : (s : StationState) → enoughWords (length (written s)) (length p) ≡ true
+  station-enough s = let n = station-long s in rw (le-leb 5 (length (written s)) (omega (arith, n, enough)), le-leb 4 (length p) reports)
 
-  -- an outcome that is not refused
-  written-station : (s : Station) (o : Outcome Acted) → o .answer .refusal ≡ 0 → actWritten (written s) p o .state ≡ written (o .answer .station)
-  written-station s o e =
-      rw e (over-over st (stationWords s) (stationWords (o .answer .station)) (let n = three s in omega (arith, n, enough)) (three s ∙ sym (three (o .answer .station))))
+  module _ (o : Opening) (fits : turnFits (o .run .station) (o .turn) ≡ true) where
+    station-call-is : (f : StationState → Outcome StationAnswer) (b : List ℕ) → stationCall f (written (stateOf o)) b p ≡ actWritten (written (stateOf o)) p (f (stateOf o))
+    station-call-is f b =
+        rw (station-enough (stateOf o)) (ap (λ (d : Decoded). actOn d f (written (stateOf o)) b p) (station-words-back st (o .run .station) (o .turn) enough fits))
 
-  written-buffer : (s : Station) (o : Outcome Acted) → o .answer .refusal ≡ 0 → actWritten (written s) p o .buffer ≡ o .buffer
+    -- what a call writes: the outcome of the unit, without a buffer where none is lent
+    abbrev calledOutcome : Unit → Outcome StationAnswer
+    calledOutcome (good n x t) = unitOutcome o (good n x t)
+    calledOutcome bad = outcome (badBlockAnswer (stateOf o)) []
+    calledOutcome enquiry = outcome (badBlockAnswer (stateOf o)) []
+    calledOutcome eot = outcome (eotAnswer (stateOf o)) []
+    calledOutcome bareEnq = outcome (bareEnqOf (stateOf o)) []
+    calledOutcome asks = outcome (interruptOf (stateOf o)) []
+
+    pub unit-call-is : (u : Unit) → stationCallOf u (record { words = written (stateOf o); buffer = o .run .buffer }) p ≡ actWritten (written (stateOf o)) p (calledOutcome u)
+    unfolding goodBlockCall badBlockCall eotCall bareEnqCall interruptCall
+    unit-call-is (good n x t) =
+        ap (λ (d : DecodedEnding). blockEndedBy d n t (o .run .buffer) (written (stateOf o)) p) (ending-code x)
+        ∙ station-call-is (λ (s : StationState). goodBlockAnswer s n x t (o .run .buffer)) (o .run .buffer)
+    unit-call-is bad = station-call-is (λ (s : StationState). outcome (badBlockAnswer s) []) []
+    unit-call-is enquiry = station-call-is (λ (s : StationState). outcome (badBlockAnswer s) []) []
+    unit-call-is eot = station-call-is (λ (s : StationState). outcome (eotAnswer s) []) []
+    unit-call-is bareEnq = station-call-is (λ (s : StationState). outcome (bareEnqOf s) []) []
+    unit-call-is asks = station-call-is (λ (s : StationState). outcome (interruptOf s) []) []
+
+  -- the state that an answer leaves
+  abbrev left : StationAnswer → StationState
+  left a = stationState (a .acted .station) (a .turn)
+
+  over-left : (s t : StationState) → over (written s) (stationWords (t .station) (t .turn)) ≡ written t
+  over-left s t =
+      over-over st (stationWords (s .station) (s .turn)) (stationWords (t .station) (t .turn)) (let n = five (s .station) (s .turn) in omega (arith, n, enough))
+      (five (s .station) (s .turn) ∙ sym (five (t .station) (t .turn)))
+
+  -- an outcome that is not refused, and one that is
+  written-station : (s : StationState) (o : Outcome StationAnswer) → o .answer .acted .refusal ≡ 0 → actWritten (written s) p o .state ≡ written (left (o .answer))
+  written-station s o e = rw e (over-left s (left (o .answer)))
+
+  written-buffer : (s : StationState) (o : Outcome StationAnswer) → o .answer .acted .refusal ≡ 0 → actWritten (written s) p o .buffer ≡ o .buffer
   written-buffer s o e = rw e
+
+  written-either : (s : StationState) (a : StationAnswer) → (Refused a → left a ≡ s) → actWritten (written s) p (outcome a []) .state ≡ written (left a)
+  written-either s a f = go (eqb (a .acted .refusal) 0) f
+    where
+      go : (v : Bool) → (v ≡ false → left a ≡ s)
+          → need v (called (a .acted .refusal) (written s) [] p) (called 0 (over (written s) (stationWords (a .acted .station) (a .turn))) [] (over p (stationReport (a .acted)))) .state ≡ written (left a)
+      go true g = over-left s (left a)
+      go false g = ap written (sym (g refl))
 
   module _ (b : List ℕ) where
     abbrev at : List Unit → StationWords
-    at us = record { words = written (stationRun b us .station); buffer = stationRun b us .buffer }
+    at us = record { words = written (stateOf (stationRun b us)); buffer = stationRun b us .run .buffer }
 
-    unit-after : (u : Unit) (us : List Unit) → unitOutcome (stationRun b us) u .answer .refusal ≡ 0
+    abbrev so-far : List Unit → Opening
+    so-far us = stationRun b us
+
+    fits-so-far : (us : List Unit) → turnFits (stationRun b us .run .station) (stationRun b us .turn) ≡ true
+    fits-so-far us =
+        and-right (validStation (stationRun b us .run .station) && holdsAtMost (length b) (stationRun b us .run .station)) _ (station-reachable b us)
+
+    -- a unit for which no buffer is lent
+    without-buffer : (us : List Unit) (u : Unit) (a : StationAnswer) → actWritten (written (stateOf (so-far us))) p (outcome a []) .state ≡ written (left a)
+        → stationCallOf u (at us) p ≡ actWritten (written (stateOf (so-far us))) p (outcome a [])
+        → _≡_ {A = StationWords} (record { words = stationCallOf u (at us) p .state; buffer = stationRun b us .run .buffer }) (record { words = written (left a); buffer = stationRun b us .run .buffer })
+    without-buffer us u a e f = ap (λ (ws : List ℕ). record { words = ws; buffer = stationRun b us .run .buffer }) (ap (λ (c : Called). c .state) f ∙ e)
+
+    accepted-call : (us : List Unit) (u : Unit) (a : StationAnswer) → a .acted .refusal ≡ 0 → stationCallOf u (at us) p ≡ actWritten (written (stateOf (so-far us))) p (outcome a [])
+        → _≡_ {A = StationWords} (record { words = stationCallOf u (at us) p .state; buffer = stationRun b us .run .buffer }) (record { words = written (left a); buffer = stationRun b us .run .buffer })
+    accepted-call us u a e f = without-buffer us u a (written-station (stateOf (so-far us)) (outcome a []) e) f
+
+    unit-after : (u : Unit) (us : List Unit)
         → record { words = stationCallOf u (at us) p .state; buffer = bufferAfter u (at us) (stationCallOf u (at us) p) } ≡ at (u ∷ us)
-    unfolding stationRun
-    unit-after (good n x t) us e =
-        let s = stationRun b us .station in
-        let o = unitOutcome (stationRun b us) (good n x t) in
-        ap (λ (c : Called). record { words = c .state; buffer = c .buffer }) (unit-call-is (stationRun b us) (good n x t))
+    unfolding stationRun interruptOf
+    unit-after (good n x t) us =
+        let s = stateOf (so-far us) in
+        let o = unitOutcome (so-far us) (good n x t) in
+        let e = never-refused b us (so-far us .run .buffer) (good n x t) refl in
+        ap (λ (c : Called). record { words = c .state; buffer = c .buffer }) (unit-call-is (so-far us) (fits-so-far us) (good n x t))
         ∙ ap (λ (ws : List ℕ). record { words = ws; buffer = actWritten (written s) p o .buffer }) (written-station s o e)
-        ∙ ap (λ (l : List ℕ). record { words = written (o .answer .station); buffer = l }) (written-buffer s o e)
-    unit-after bad us e = ap (λ (ws : List ℕ). record { words = ws; buffer = stationRun b us .buffer }) (ap (λ (c : Called). c .state) (unit-call-is (stationRun b us) bad) ∙ written-station (stationRun b us .station) (outcome (badBlockOf (stationRun b us .station)) []) e)
-    unit-after enquiry us e = ap (λ (ws : List ℕ). record { words = ws; buffer = stationRun b us .buffer }) (ap (λ (c : Called). c .state) (unit-call-is (stationRun b us) enquiry) ∙ written-station (stationRun b us .station) (outcome (badBlockOf (stationRun b us .station)) []) e)
-    unit-after eot us e = ap (λ (ws : List ℕ). record { words = ws; buffer = stationRun b us .buffer }) (ap (λ (c : Called). c .state) (unit-call-is (stationRun b us) eot) ∙ written-station (stationRun b us .station) (outcome (eotOf (stationRun b us .station)) []) e)
+        ∙ ap (λ (l : List ℕ). record { words = written (left (o .answer)); buffer = l }) (written-buffer s o e)
+    unit-after bad us = accepted-call us bad (badBlockAnswer (stateOf (so-far us))) (never-refused b us (so-far us .run .buffer) bad refl) (unit-call-is (so-far us) (fits-so-far us) bad)
+    unit-after enquiry us = accepted-call us enquiry (badBlockAnswer (stateOf (so-far us))) (never-refused b us (so-far us .run .buffer) enquiry refl) (unit-call-is (so-far us) (fits-so-far us) enquiry)
+    unit-after eot us = accepted-call us eot (eotAnswer (stateOf (so-far us))) (never-refused b us (so-far us .run .buffer) eot refl) (unit-call-is (so-far us) (fits-so-far us) eot)
+    unit-after bareEnq us = accepted-call us bareEnq (bareEnqOf (stateOf (so-far us))) (never-refused b us (so-far us .run .buffer) bareEnq refl) (unit-call-is (so-far us) (fits-so-far us) bareEnq)
+    unit-after asks us =
+        without-buffer us asks (interruptOf (stateOf (so-far us)))
+        (written-either (stateOf (so-far us)) (interruptOf (stateOf (so-far us))) (asks-refused (so-far us .run .station) (so-far us .turn) (fits-so-far us)))
+        (unit-call-is (so-far us) (fits-so-far us) asks)
 
     first-enough : enoughWords (length st) (length p) ≡ true
-    first-enough = rw (le-leb 3 (length st) enough, le-leb 4 (length p) reports)
+    first-enough = rw (le-leb 5 (length st) enough, le-leb 4 (length p) reports)
 
     -- the words and the buffer after every run of calls are those of the station after the units
     pub station-calls : (us : List Unit) → stationWordsAfter st b p us ≡ at us
     unfolding stationWordsAfter stationRun openStationCall
-    station-calls [] =
-        ap (λ (v : Bool). record { words = need v (called 2 st [] p) (actWritten st p (outcome (stationActed openedStation NoReply Incomplete) [])) .state; buffer = b }) first-enough
+    station-calls [] = ap (λ (v : Bool). record { words = need v (called 2 st [] p) (actWritten st p (outcome openedStationAnswer [])) .state; buffer = b }) first-enough
     station-calls (u ∷ us) =
-        ap (λ (w : StationWords). record { words = stationCallOf u w p .state; buffer = bufferAfter u w (stationCallOf u w p) }) (station-calls us)
-        ∙ unit-after u us (never-refused b us (stationRun b us .buffer) u)
+        ap (λ (w : StationWords). record { words = stationCallOf u w p .state; buffer = bufferAfter u w (stationCallOf u w p) }) (station-calls us) ∙ unit-after u us

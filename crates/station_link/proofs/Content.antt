@@ -100,7 +100,7 @@ pub record Good (ms : List Started) (d : ℕ) (bs : List Block) : Type 0 where
   pub most : length (messagesOf bs) ≤ d + 1
   pub begun : length ms ≤ d + 1
 
-started-length : (ms : List Started) → length (messagesStarted ms) ≡ length ms
+pub started-length : (ms : List Started) → length (messagesStarted ms) ≡ length ms
 unfolding messagesStarted
 started-length [] = refl
 started-length (s ∷ ss) = ap suc (started-length ss)

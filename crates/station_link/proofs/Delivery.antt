@@ -9,12 +9,20 @@ use borrow.Author.Tests.{le-leb, eq-eqb, ne-eqb}
 use Rattle.lists.specs.Bytes.{greatestWord}
 use Rattle.fragments.proofs.Fragments.{ends-before}
 use Rattle.station.specs.declared.Ending.{Ending}
-use Rattle.station.specs.declared.Reply.the-variants.{Ack as AckReply}
-use Rattle.station.specs.History.{Unit, good, eot, Block, block, expectedAfter, textHeld, messagesOf, Past, past, fits, unitAfter, pastOf, replyOf, unitOutcome, handedOver, stationRun}
+use Rattle.station.specs.declared.Reply.{Reply}
+use Rattle.station.specs.declared.Reply.the-variants.{Ack as AckReply, Eot as EotReply}
+use Rattle.station.specs.declared.ReplyKind.the-variants.{Ack as AckKind}
+use Rattle.station.specs.declared.Interrupt.{Interrupt}
+use Rattle.station.specs.declared.Interrupt.the-variants.{Unasked}
+use Rattle.station.specs.History.{Unit, good, eot, Block, block, expectedAfter, textHeld, messagesOf, Past, past, fits, unitAfter, pastOf, replyOf, turnOf, unitOutcome, handedOver, stationRun}
 use Rattle.station.specs.Retransmission.{inOrder}
+use Rattle.station.proofs.Turns.{unasked-stays}
 use Rattle.station.proofs.History.{stands, replies}
 use Rattle.master.proofs.Valid.{next-valid}
-use Rattle.master.specs.Master.{outstanding, blockNumber, validOutstanding, isLast, endingOfPart, blockOut, sendsOut, nextOut, acknowledgedOf, ackOf, startOf, masterReplyOf, closeOf}
+use Rattle.master.specs.Master.{outstanding, blockNumber, validOutstanding, isLast, endingOfPart, blockOut, sendsOut, nextOut, acknowledgedOf, acceptedOf, ackOf, startOf, masterReplyOf, closeOf}
+use Rattle.master.specs.Reversal.{reversal, freshReversal, noted, kept, answerOf, reversedOf, masterState, refusesRint, startAnswer, closeAnswer}
+use Rattle.master.specs.declared.Reversal.{Reversal}
+use Rattle.master.specs.declared.MasterAnswer.{MasterAnswer}
 use Rattle.master.specs.declared.Outstanding.{Outstanding}
 use Rattle.master.specs.declared.Master.{Master}
 use Rattle.master.specs.declared.Master.the-variants.{Closed, Idle, Waiting}
@@ -26,7 +34,7 @@ use Rattle.station_link.specs.System.{Started, Sending, Receiving, Syste
 use Rattle.station_link.specs.Promise.{oldestFirst, messageBlocks, startedBlocks, messagesStarted, AllFit, no-more, one-more, Delivered, DeliveringRun}
 use Rattle.station_link.proofs.Numbers.{expected-number}
 use Rattle.station_link.proofs.Content.{oldest-length, outOf, afterOut, AllSent, Partly, out-blocks, last-complete, goes-on, begins}
-use Rattle.station_link.proofs.SlaveSteps.{own-after, own-reply}
+use Rattle.station_link.proofs.SlaveSteps.{ownReply, own-after, own-reply}
 
 module _ (b : List ℕ) where
   abbrev c : ℕ
@@ -45,10 +53,12 @@ module _ (b : List ℕ) where
   record Listens (r : Receiving) (bs : List Block) : Type 0 where
     opened : r .opened ≡ true
     up : history r ≡ past bs false
-    kept : r .stored ≡ stationRun b (r .received) .messages
+    stored : r .stored ≡ stationRun b (r .received) .run .messages
+    -- no RINT is asked for
+    unasked : turnOf c (r .received) .interrupt ≡ Unasked
 
   abbrev took : Unit → Receiving → Receiving
-  took u r = receivingAfter (u ∷ []) (storedAfter b r u) false false r
+  took u r = receivingAfter (u ∷ []) (storedAfter b r u) false false false r
 
   -- ---- the expected block arrives, and fits
   module _ (s : Sending) (r : Receiving) (bs : List Block) (x : Ending) (t : List ℕ) (l : Listens r bs) (f : fits c bs t ≡ true) where
@@ -56,7 +66,12 @@ module _ (b : List ℕ) where
     u = good (expectedAfter bs) x t
 
     reply-is : stationReply b r u ≡ AckReply (expectedAfter bs)
-    reply-is = replies b (r .received) u ∙ ap (λ (p : Past). replyOf c p u) (l .up) ∙ own-reply c bs x t ∙ rw f
+    reply-is =
+        replies b (r .received) u
+        ∙ ap (λ (p : Past). replyOf c p (turnOf c (r .received)) u) (l .up)
+        ∙ own-reply c bs x t (turnOf c (r .received))
+        ∙ ap (λ (i : Interrupt). cond (fits c bs t) (ownReply (expectedAfter bs) i) EotReply) (l .unasked)
+        ∙ rw f
 
     arrives-is : linkRun b (system s r (u ∷ []) []) (arrives ∷ []) ≡ system s (took u r) [] (Ack (expectedAfter bs) ∷ [])
     unfolding linkRun linkAct
@@ -68,22 +83,32 @@ module _ (b : List ℕ) where
         record {
           opened = l .opened;
           up = ap (λ (p : Past). cond (p .closed) p (unitAfter c (p .blocks) u)) (l .up) ∙ own-after c bs x t ∙ rw f;
-          kept = ap (handedOver (unitOutcome (stationRun b (r .received)) u .answer .message) (unitOutcome (stationRun b (r .received)) u .buffer)) (l .kept);
+          stored = ap (handedOver (unitOutcome (stationRun b (r .received)) u .answer .acted .message) (unitOutcome (stationRun b (r .received)) u .buffer)) (l .stored);
+          unasked = unasked-stays c (r .received) (l .unasked) u refl;
         }
 
   -- ---- its ACK arrives
-  module _ (s : Sending) (r : Receiving) (o : Outstanding) (n : ℕ) (out : s .master ≡ Waiting o) (valid : validOutstanding o ≡ true)
+  abbrev heard : Reversal → Reversal
+  heard v = reversal AckKind (v .interrupted) (v .enquired) (v .«may_receive»)
+
+  module _ (s : Sending) (r : Receiving) (o : Outstanding) (n : ℕ) (out : s .master ≡ Waiting o) (stays : s .reversal .«may_receive» ≡ false) (valid : validOutstanding o ≡ true)
       (own : n ≡ blockNumber (o .count)) (countable : o .count < greatestWord) where
-    ack-is : linkRun b (system s r [] (Ack n ∷ [])) (replyArrives ∷ []) ≡ masterDid (acknowledgedOf o) (s .started) (system s r [] [])
-    unfolding linkRun linkAct masterReplyOf ackOf
+    not-reversed : (a : MasterActed) → reversedOf (s .reversal) a ≡ a
+    unfolding reversedOf
+    not-reversed a = rw stays
+
+    ack-is : linkRun b (system s r [] (Ack n ∷ [])) (replyArrives ∷ []) ≡ masterDid (answerOf (heard (s .reversal)) (acknowledgedOf o)) (s .started) (system s r [] [])
+    unfolding linkRun linkAct masterReplyOf ackOf acceptedOf
     ack-is =
-        ap (λ (m : Master). masterDid (masterReplyOf (Ack n) m) (s .started) (system s r [] [])) out
+        ap (λ (m : Master). masterDid (answerOf (heard (s .reversal)) (reversedOf (s .reversal) (masterReplyOf (refusesRint (s .reversal)) (Ack n) m))) (s .started) (system s r [] [])) out
         ∙ rw (valid, eq-eqb n (blockNumber (o .count)) own, ne-eqb (o .count) greatestWord (λ e. omega (arith, e, countable)))
+        (ap (λ (a : MasterActed). masterDid (answerOf (heard (s .reversal)) a) (s .started) (system s r [] [])) (not-reversed (acknowledgedOf o)))
 
   -- ---- no block is out, and all is delivered
   record Rest (s : Sending) (r : Receiving) (ms : List Started) : Type 0 where
     count : ℕ
     idles : s .master ≡ Idle count
+    stays : s .reversal .«may_receive» ≡ false
     begun : s .started ≡ ms
     finished : s .done ≡ length ms
     complete : AllSent ms (s .sent)
@@ -93,6 +118,7 @@ module _ (b : List ℕ) where
   -- a block is out, on its way, and all before it is delivered
   record Flow (s : Sending) (r : Receiving) (o : Outstanding) (ms : List Started) : Type 0 where
     out : s .master ≡ Waiting o
+    stays : s .reversal .«may_receive» ≡ false
     begun : s .started ≡ ms
     partly : Partly ms (s .sent) o
     valid : validOutstanding o ≡ true
@@ -147,11 +173,11 @@ module _ (b : List ℕ) where
     abbrev r2 : Receiving
     r2 = took (unitOut m o bs) r
 
-    both-is : linkRun b (system s r (unitOut m o bs ∷ []) []) (replyArrives ∷ arrives ∷ []) ≡ masterDid (acknowledgedOf o) (s .started) (system s r2 [] [])
+    both-is : linkRun b (system s r (unitOut m o bs ∷ []) []) (replyArrives ∷ arrives ∷ []) ≡ masterDid (answerOf (heard (s .reversal)) (acknowledgedOf o)) (s .started) (system s r2 [] [])
     unfolding linkRun
     both-is =
         ap (λ (y : System). linkRun b y (replyArrives ∷ [])) (arrives-is s r bs (endingOfPart (isLast o)) (textOf m (blockOut o)) (f .listens) fits-it)
-        ∙ ack-is s r2 o (expectedAfter bs) (f .out) (f .valid) (expected-number bs ∙ ap blockNumber (f .counted)) below
+        ∙ ack-is s r2 o (expectedAfter bs) (f .out) (f .stays) (f .valid) (expected-number bs ∙ ap blockNumber (f .counted)) below
 
     listens-then : Listens r2 (s .sent)
     listens-then = subst (Listens r2) (sym (p .out)) (listens-on s r bs (endingOfPart (isLast o)) (textOf m (blockOut o)) (f .listens) fits-it)
@@ -161,9 +187,9 @@ module _ (b : List ℕ) where
 
     -- the message is done
     rests-then : isLast o ≡ true → ToRest (system s r (unitOut m o bs ∷ []) []) ms
-    unfolding acknowledgedOf
+    unfolding acknowledgedOf answerOf
     rests-then h =
-        let s2 : Sending = record { master = Idle (o .count + 1); started = s .started; sent = s .sent; done = suc (s .done); ended = s .ended } in
+        let s2 : Sending = record { master = Idle (o .count + 1); reversal = reversal AckKind (s .reversal .interrupted) false false; started = s .started; sent = s .sent; done = suc (s .done); ended = s .ended } in
         let n = ap length (p .begun) in
         let d = f .earlier-done in
         record {
@@ -173,6 +199,7 @@ module _ (b : List ℕ) where
           rest = record {
             count = o .count + 1;
             idles = refl;
+            stays = refl;
             begun = f .begun;
             finished = omega (arith, n, d);
             complete = last-complete ms (s .sent) o p h;
@@ -184,17 +211,18 @@ module _ (b : List ℕ) where
 
     -- the next block is out
     abbrev s3 : Sending
-    s3 = record { master = Waiting (nextOut o); started = s .started; sent = outOf m (nextOut o) ∷ s .sent; done = s .done; ended = s .ended }
+    s3 = record { master = Waiting (nextOut o); reversal = reversal AckKind (s .reversal .interrupted) false (s .reversal .«may_receive»); started = s .started; sent = outOf m (nextOut o) ∷ s .sent; done = s .done; ended = s .ended }
 
     goes-is : isLast o ≡ false → acknowledgedOf o ≡ sendsOut Acknowledged (nextOut o)
     unfolding acknowledgedOf
     goes-is h = rw h
 
     next-is : isLast o ≡ false → linkRun b (system s r (unitOut m o bs ∷ []) []) (replyArrives ∷ arrives ∷ []) ≡ system s3 r2 (unitOut m (nextOut o) (s .sent) ∷ []) []
+    unfolding answerOf
     next-is h =
         both-is
-        ∙ ap (λ (a : MasterActed). masterDid a (s .started) (system s r2 [] [])) (goes-is h)
-        ∙ (ap (λ (l : List Started). system (record { master = Waiting (nextOut o); started = s .started; sent = outOf (messageOut l) (nextOut o) ∷ s .sent; done = s .done; ended = s .ended }) r2
+        ∙ ap (λ (a : MasterActed). masterDid (answerOf (heard (s .reversal)) a) (s .started) (system s r2 [] [])) (goes-is h)
+        ∙ (ap (λ (l : List Started). system (record { master = Waiting (nextOut o); reversal = s3 .reversal; started = s .started; sent = outOf (messageOut l) (nextOut o) ∷ s .sent; done = s .done; ended = s .ended }) r2
         (good (blockNumber (o .count + 1)) (endingOfPart (isLast (nextOut o))) (textOf (messageOut l) (blockOut (nextOut o))) ∷ []) []) (f .begun ∙ p .begun)
         ∙ ap (λ (n : ℕ). system s3 r2 (good n (endingOfPart (isLast (nextOut o))) (textOf m (blockOut (nextOut o))) ∷ []) []) (ap blockNumber (sym counted-then) ∙ sym (expected-number (s .sent))))
 
@@ -203,6 +231,7 @@ module _ (b : List ℕ) where
     flows-on h =
         record {
           out = refl;
+          stays = f .stays;
           begun = f .begun;
           partly = goes-on ms (s .sent) o p h;
           valid = next-valid o (f .valid) h;
@@ -261,12 +290,12 @@ module _ (b : List ℕ) where
     o = outstanding (length (a .message)) (a .size) 0 0 (t .count)
 
     abbrev s1 : Sending
-    s1 = record { master = Waiting o; started = a ∷ s .started; sent = outOf (a .message) o ∷ s .sent; done = s .done; ended = s .ended }
+    s1 = record { master = Waiting o; reversal = reversal (s .reversal .last) (s .reversal .interrupted) false (s .reversal .«may_receive»); started = a ∷ s .started; sent = outOf (a .message) o ∷ s .sent; done = s .done; ended = s .ended }
 
     start-is : linkRun b (system s r [] []) (starts (a .message) (a .size) ∷ []) ≡ system s1 r (unitOut (a .message) o (s .sent) ∷ []) []
-    unfolding linkRun linkAct startOf
+    unfolding linkRun linkAct startOf answerOf
     start-is =
-        ap (λ (m : Master). startDone a (startOf (length (a .message)) (a .size) m) (system s r [] [])) (t .idles)
+        ap (λ (m : Master). startDone a (startAnswer (length (a .message)) (a .size) (masterState m (s .reversal))) (system s r [] [])) (t .idles)
         ∙ rw (le-leb 1 (a .size) positive)
         (ap (λ (n : ℕ). system s1 r (good n (endingOfPart (isLast o)) (textOf (a .message) (blockOut o)) ∷ []) []) (ap blockNumber (sym (t .counted)) ∙ sym (expected-number (s .sent))))
 
@@ -275,6 +304,7 @@ module _ (b : List ℕ) where
     first-flows =
         record {
           out = refl;
+          stays = t .stays;
           begun = ap (λ (l : List Started). a ∷ l) (t .begun);
           partly = begins ms (s .sent) a (t .count) positive (t .complete);
           valid = rw (le-leb 1 (a .size) positive);
@@ -303,13 +333,13 @@ module _ (b : List ℕ) where
   fewer a ms h = let l = length-append (startedBlocks ms) (messageBlocks a) in omega (arith, l, h)
 
   opened-rest : ToRest beginning []
-  unfolding linkRun linkAct pastOf stationRun oldestFirst startedBlocks messagesStarted textHeld messagesOf
+  unfolding linkRun linkAct pastOf turnOf stationRun answerOf oldestFirst startedBlocks messagesStarted textHeld messagesOf
   opened-rest =
       record {
         acts = slaveOpens ∷ [];
         s = beginning .sending;
-        r = openedReceiving (beginning .receiving);
-        rest = record { count = 0; idles = refl; begun = refl; finished = refl; complete = record { blocks = refl; held = refl; messages = refl }; counted = refl; listens = record { opened = refl; up = refl; kept = refl } };
+        r = openedReceiving [] (beginning .receiving);
+        rest = record { count = 0; idles = refl; stays = refl; begun = refl; finished = refl; complete = record { blocks = refl; held = refl; messages = refl }; counted = refl; listens = record { opened = refl; up = refl; stored = refl; unasked = refl } };
         is = refl;
       }
 
@@ -328,12 +358,12 @@ module _ (b : List ℕ) where
 
   -- ---- and the master is closed
   closed-sending : Sending → ℕ → Sending
-  closed-sending s n = record { master = Closed n; started = s .started; sent = s .sent; done = s .done; ended = ByDriver }
+  closed-sending s n = record { master = Closed n; reversal = freshReversal; started = s .started; sent = s .sent; done = s .done; ended = ByDriver }
 
   module _ (s : Sending) (r : Receiving) (ms : List Started) (t : Rest s r ms) where
     close-is : linkRun b (system s r [] []) (closes ∷ []) ≡ system (closed-sending s (t .count)) r (eot ∷ []) []
-    unfolding linkRun linkAct closeOf closed-sending
-    close-is = ap (λ (m : Master). masterDid (closeOf m) (s .started) (system s r [] [])) (t .idles)
+    unfolding linkRun linkAct closeOf answerOf closed-sending
+    close-is = ap (λ (m : Master). masterDid (closeAnswer (masterState m (s .reversal))) (s .started) (system s r [] [])) (t .idles)
 
     closed-delivered : Delivered b ms (system (closed-sending s (t .count)) r (eot ∷ []) [])
     unfolding closed-sending
@@ -341,7 +371,7 @@ module _ (b : List ℕ) where
         record {
           started = t .begun;
           all-handed = stands b (r .received) .messages ∙ ap messagesOf (ap (λ (p : Past). p .blocks) (t .listens .up)) ∙ t .complete .messages;
-          stored = t .listens .kept ∙ stands b (r .received) .messages ∙ ap messagesOf (ap (λ (p : Past). p .blocks) (t .listens .up)) ∙ t .complete .messages;
+          stored = t .listens .stored ∙ stands b (r .received) .messages ∙ ap messagesOf (ap (λ (p : Past). p .blocks) (t .listens .up)) ∙ t .complete .messages;
           done = t .finished;
           count = let n = ap length (t .complete .blocks) in let l = oldest-length (s .sent) in let k = t .counted in omega (arith, n, l, k);
           closed = refl;

@@ -1,9 +1,11 @@
 pub mod Queues
 pub mod Numbers
 pub mod Content
+pub mod Stretches
 pub mod Invariant
-pub mod MasterSteps
 pub mod SlaveSteps
+pub mod MasterSteps
+pub mod Quiet
 pub mod Safety
 pub mod Stored
 pub mod Ends

@@ -1,4 +1,5 @@
--- 02, §3: "the blocks the slave accepted are the first k sent, each once, and the master's count of acknowledged blocks is k or k less one". At every moment of every run.
+-- 02, §3: "the blocks the slave accepted are the first k sent, each once, and the master's count of acknowledged blocks is k or k less one"; §14: "counts an
+-- accepted RINT as an acknowledgement". At every moment of every run.
 use mathlib.Core.Path.{_≡_}
 use mathlib.Core.List.{List, [], _∷_, _++_, map}
 use mathlib.Core.Bool.{true}
@@ -14,7 +15,7 @@ use Rattle.master.specs.declared.Master.the-variants.{Closed, Idle, Waiting}
 use Rattle.master.specs.declared.Outstanding.{Outstanding}
 use Rattle.master.specs.declared.Response.{Response}
 use Rattle.master.specs.declared.Response.the-variants.{Ack}
-use Rattle.master.specs.declared.End.the-variants.{Failed, BySlave, ByDriver}
+use Rattle.master.specs.declared.End.the-variants.{Failed, BySlave, ByDriver, Reversed}
 use Rattle.station_link.specs.System.{Started, System, beginning, LinkAct, linkRun}
 
 unfoldable pub oldestFirst : {A : Type 0} → List A → List A
@@ -36,12 +37,12 @@ unfoldable pub messagesStarted : List Started → List (List ℕ)
 messagesStarted [] = []
 messagesStarted (s ∷ ss) = s .message ∷ messagesStarted ss
 
--- ---- the slave's side: the blocks that it accepted (appended to the buffer and acknowledged; T-31 and T-32 tie its history to its answers), and the messages handed over, as taken from its buffer
+-- ---- the slave's side: the blocks that it accepted (appended to the buffer and answered ACK or RINT; T-31 and T-32 tie its history to its answers), and the messages handed over, as taken from its buffer
 abbrev pub accepted : List ℕ → System → List Block
 accepted b y = pastOf (length b) (y .receiving .received) .blocks
 
 abbrev pub handed : List ℕ → System → List (List ℕ)
-handed b y = stationRun b (y .receiving .received) .messages
+handed b y = stationRun b (y .receiving .received) .run .messages
 
 -- the master's count, which outlives the closing
 abbrev pub countOf : Master → ℕ
@@ -86,6 +87,9 @@ pub record Ends (b : List ℕ) (y : System) : Type 0 where
   -- closed by the driver; the same
   pub closed-exact : y .sending .ended ≡ ByDriver → Exact b y
   pub closed-done : y .sending .ended ≡ ByDriver → y .sending .done ≡ length (y .sending .started)
+  -- reversed; what was handed over is done, with what the last reply completed
+  pub reversed-exact : y .sending .ended ≡ Reversed → Exact b y
+  pub reversed-done : y .sending .ended ≡ Reversed → length (handed b y) ≡ y .sending .done
   -- after an EOT that the station itself gave
   pub eot-exact : y .receiving .stationEot ≡ true → Exact b y
   pub one-short : (count : ℕ) → y .sending .master ≡ Closed count → length (accepted b y) ≡ count + 1 → OneShort y

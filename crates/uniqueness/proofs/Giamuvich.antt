@@ -34,6 +34,10 @@ use Rattle.giamuvich.proofs.gmv_master_timer as gmv-master-timer-contract
 use Rattle.giamuvich.proofs.gmv_master_timer.Reads as gmv-master-timer-reads
 use Rattle.giamuvich.proofs.gmv_master_close as gmv-master-close-contract
 use Rattle.giamuvich.proofs.gmv_master_close.Reads as gmv-master-close-reads
+use Rattle.giamuvich.proofs.gmv_master_enquire as gmv-master-enquire-contract
+use Rattle.giamuvich.proofs.gmv_master_enquire.Reads as gmv-master-enquire-reads
+use Rattle.giamuvich.proofs.gmv_master_may_receive as gmv-master-may-receive-contract
+use Rattle.giamuvich.proofs.gmv_master_may_receive.Reads as gmv-master-may-receive-reads
 use Rattle.giamuvich.proofs.gmv_header_read as gmv-header-read-contract
 use Rattle.giamuvich.proofs.gmv_header_read.Reads as gmv-header-read-reads
 use Rattle.giamuvich.proofs.gmv_answer_read as gmv-answer-read-contract
@@ -74,6 +78,10 @@ use Rattle.giamuvich.proofs.gmv_station_enquiry as gmv-station-enquiry-contract
 use Rattle.giamuvich.proofs.gmv_station_enquiry.Reads as gmv-station-enquiry-reads
 use Rattle.giamuvich.proofs.gmv_station_end as gmv-station-end-contract
 use Rattle.giamuvich.proofs.gmv_station_end.Reads as gmv-station-end-reads
+use Rattle.giamuvich.proofs.gmv_station_bare_enq as gmv-station-bare-enq-contract
+use Rattle.giamuvich.proofs.gmv_station_bare_enq.Reads as gmv-station-bare-enq-reads
+use Rattle.giamuvich.proofs.gmv_station_interrupt as gmv-station-interrupt-contract
+use Rattle.giamuvich.proofs.gmv_station_interrupt.Reads as gmv-station-interrupt-reads
 use Rattle.giamuvich.proofs.gmv_version as gmv-version-contract
 use Rattle.giamuvich.proofs.gmv_version.Reads as gmv-version-reads
 
@@ -185,6 +193,20 @@ gmv-master-timer = record {
 pub gmv-master-close : Unique gmv-master-close-contract.ended (λ M. gmv-master-close-contract.clauses {M = M})
 gmv-master-close = record {
   holds = gmv-master-close-reads.Learnt;
+  says = λ M 𝓤 H A mem run. refl;
+  one = λ κs a z z′ ws ws′ h h′. once h h′ (λ y. y .number) (λ y. (y .state, (y .report, tt)));
+}
+
+pub gmv-master-enquire : Unique gmv-master-enquire-contract.ended (λ M. gmv-master-enquire-contract.clauses {M = M})
+gmv-master-enquire = record {
+  holds = gmv-master-enquire-reads.Learnt;
+  says = λ M 𝓤 H A mem run. refl;
+  one = λ κs a z z′ ws ws′ h h′. once h h′ (λ y. y .number) (λ y. (y .state, (y .report, tt)));
+}
+
+pub gmv-master-may-receive : Unique gmv-master-may-receive-contract.ended (λ M. gmv-master-may-receive-contract.clauses {M = M})
+gmv-master-may-receive = record {
+  holds = gmv-master-may-receive-reads.Learnt;
   says = λ M 𝓤 H A mem run. refl;
   one = λ κs a z z′ ws ws′ h h′. once h h′ (λ y. y .number) (λ y. (y .state, (y .report, tt)));
 }
@@ -325,6 +347,20 @@ gmv-station-enquiry = record {
 pub gmv-station-end : Unique gmv-station-end-contract.ended (λ M. gmv-station-end-contract.clauses {M = M})
 gmv-station-end = record {
   holds = gmv-station-end-reads.Learnt;
+  says = λ M 𝓤 H A mem run. refl;
+  one = λ κs a z z′ ws ws′ h h′. once h h′ (λ y. y .number) (λ y. (y .state, (y .report, tt)));
+}
+
+pub gmv-station-bare-enq : Unique gmv-station-bare-enq-contract.ended (λ M. gmv-station-bare-enq-contract.clauses {M = M})
+gmv-station-bare-enq = record {
+  holds = gmv-station-bare-enq-reads.Learnt;
+  says = λ M 𝓤 H A mem run. refl;
+  one = λ κs a z z′ ws ws′ h h′. once h h′ (λ y. y .number) (λ y. (y .state, (y .report, tt)));
+}
+
+pub gmv-station-interrupt : Unique gmv-station-interrupt-contract.ended (λ M. gmv-station-interrupt-contract.clauses {M = M})
+gmv-station-interrupt = record {
+  holds = gmv-station-interrupt-reads.Learnt;
   says = λ M 𝓤 H A mem run. refl;
   one = λ κs a z z′ ws ws′ h h′. once h h′ (λ y. y .number) (λ y. (y .state, (y .report, tt)));
 }

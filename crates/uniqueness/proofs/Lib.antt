@@ -7,7 +7,7 @@ pub mod Fragments
 pub mod Giamuvich
 pub mod Header
 pub mod Lists
-pub mod Master
+pub mod MasterCalls
 pub mod MessageCalls
 pub mod Messages
 pub mod Numbers
@@ -17,7 +17,7 @@ pub mod Refusal
 pub mod Sender
 pub mod SenderCalls
 pub mod Settings
-pub mod Station
+pub mod StationCalls
 pub mod Stream
 pub mod WholeBlock
 pub mod Words

@@ -10,7 +10,7 @@ use host::message_model::{self, Memory, Written};
 use host::model::{self, Settings};
 use host::receiver_model::{self, Incoming, Received};
 use host::sender_model::{self, Act};
-use host::station_model::{self, Lengths, Unit};
+use host::station_model::{self, Lengths, Unit, STATION_WORDS};
 use host::{ends_ffi, ffi, master_ffi, station_ffi};
 
 fn settings(call: &Call) -> Settings {
@@ -83,6 +83,8 @@ fn station_unit(call: &Call) -> Option<Unit<'_>> {
         "station_bad" => Unit::Bad,
         "station_enquiry" => Unit::Enquiry,
         "station_end" => Unit::End,
+        "station_bare_enq" => Unit::BareEnq,
+        "station_interrupt" => Unit::Interrupt,
         "station_block" => Unit::Block {
             number: call.number("number"),
             ending: call.number("ending"),
@@ -97,6 +99,8 @@ fn master_act(call: &Call) -> Option<MasterAct> {
         "master_open" => MasterAct::Open,
         "master_timer" => MasterAct::Timer,
         "master_close" => MasterAct::Close,
+        "master_enquire" => MasterAct::Enquire,
+        "master_may_receive" => MasterAct::MayReceive,
         "master_start" => MasterAct::Start {
             message_length: call.number("message_length"),
             block_size: call.number("block_size"),
@@ -307,7 +311,7 @@ pub fn modelled(call: &Call) -> Answer {
     match of_layer(call) {
         "reader_fresh" => words_written(call, &[0; 4]),
         "receiver_fresh" => words_written(call, &[0]),
-        "station_fresh" => words_written(call, &[0; 3]),
+        "station_fresh" => words_written(call, &[0; STATION_WORDS]),
         "master_fresh" => words_written(call, &[0; MASTER_WORDS]),
         "sender_fresh" => {
             match sender_model::fresh(call.number("first"), call.writable.words.len()) {

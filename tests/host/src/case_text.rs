@@ -4,7 +4,7 @@
 /// The functions: a name, and its parameters in the header's order, each with its kind: n a number, b
 /// bytes that are read, o bytes that are written and given by their length, h bytes that are held and
 /// may change, s words of a state and w words that are written, both with the count that is needed.
-const FUNCTIONS: [(&str, &str); 36] = [
+const FUNCTIONS: [(&str, &str); 40] = [
     ("reader_fresh", "w4:state"),
     ("hybrid_read", "HYBRID s4:state b:part h:buffer w8:verdict"),
     (
@@ -35,21 +35,25 @@ const FUNCTIONS: [(&str, &str); 36] = [
     ),
     ("hybrid_control_block", "HYBRID b:type n:number WRITE"),
     ("minimal_control_block", "MINIMAL b:type n:number WRITE"),
-    ("station_fresh", "w3:state"),
+    ("station_fresh", "w5:state"),
     ("station_open", "STATION"),
     (
         "station_block",
-        "n:number n:ending b:text h:buffer s3:state w4:report",
+        "n:number n:ending b:text h:buffer s5:state w4:report",
     ),
     ("station_bad", "STATION"),
     ("station_enquiry", "STATION"),
     ("station_end", "STATION"),
-    ("master_fresh", "w6:state"),
+    ("station_bare_enq", "STATION"),
+    ("station_interrupt", "STATION"),
+    ("master_fresh", "w10:state"),
     ("master_open", "MASTER"),
     ("master_start", "n:message_length n:block_size MASTER"),
     ("master_reply", "n:reply n:number MASTER"),
     ("master_timer", "MASTER"),
     ("master_close", "MASTER"),
+    ("master_enquire", "MASTER"),
+    ("master_may_receive", "MASTER"),
 ];
 
 const COMMON: [(&str, &str); 7] = [
@@ -61,8 +65,8 @@ const COMMON: [(&str, &str); 7] = [
         "n:application s1:state n:block_number n:block_type b:data o:buffer n:start w3:report",
     ),
     ("SENDER", "s7:state w8:report"),
-    ("STATION", "s3:state w4:report"),
-    ("MASTER", "s6:state w10:report"),
+    ("STATION", "s5:state w4:report"),
+    ("MASTER", "s10:state w10:report"),
 ];
 
 const LARGEST: usize = 110_000;

@@ -126,7 +126,7 @@ impl Compare {
             link_acts: 0,
             link_runs: 0,
             kinds: Kinds::default(),
-            station: StationCounts::default(),
+            station: StationCounts::new(),
             master: MasterCounts::new(),
             stations_acts: 0,
             stations_runs: 0,

@@ -6,7 +6,7 @@ use crate::guarded::Guarded;
 use host::master_ffi;
 use host::master_model::{
     self, number_just_before, Master, MasterAct, MasterActed, MASTER_REPORT_WORDS, MASTER_WORDS,
-    REPLY_ACK, REPLY_DAMAGED, REPLY_EOT, REPLY_NAK,
+    REPLY_ACK, REPLY_DAMAGED, REPLY_EOT, REPLY_NAK, REPLY_RINT,
 };
 
 /// A master's words, and some more that must not change.
@@ -165,6 +165,35 @@ enum Kind {
     StartWhileBusy,
     CloseWhileClosed,
     CloseWhileBusy,
+    /// Acts with RINT, ENQ and leave to receive.
+    Turning,
+    RintAccepted,
+    RintAfterNak,
+    RintAfterRint,
+    RintAfterRintBlockSentLast,
+    RintAfterNakAndEnq,
+    RintFailed,
+    RintNoneOut,
+    RintWhileClosed,
+    RintUncounted,
+    ReplyNotedNoneOut,
+    DamagedAfterRint,
+    EnqSent,
+    EnqWithLeave,
+    TimerAfterEnq,
+    EnqWhileClosed,
+    EnqNoneOut,
+    LeaveWithBlockOut,
+    LeaveWithNoneOut,
+    LeaveTwice,
+    LeaveWhileClosed,
+    LeaveBeforeRint,
+    ReversedByAck,
+    ReversedByRint,
+    ReversedDone,
+    ReversedNotDone,
+    LeaveAndFailed,
+    LeaveAndEot,
     Last,
 }
 
@@ -207,6 +236,40 @@ pub const LEAST_OF_MASTERS: [(&str, u64); MASTER_KINDS] = [
     ("starts while a block is out", 20_000),
     ("closings of a closed master", 1_000),
     ("closings while a block is out", 20_000),
+    (
+        "acts of masters with RINT, ENQ and leave to receive",
+        600_000,
+    ),
+    ("RINTs that acknowledged", 150_000),
+    ("such RINTs after a NAK, a block sent last", 20_000),
+    ("RINTs refused after a RINT", 40_000),
+    ("such RINTs, a block sent last", 30_000),
+    ("RINTs refused after a NAK, ENQ sent last", 10_000),
+    ("RINTs refused for the last time: failures", 2_000),
+    ("RINTs with no block out", 40_000),
+    ("RINTs to a closed master", 15_000),
+    ("RINTs that could not be counted", 1_000),
+    (
+        "undamaged replies with no block out, of another kind than the last",
+        30_000,
+    ),
+    ("damaged replies after a RINT", 15_000),
+    ("ENQs sent", 150_000),
+    ("ENQs sent with leave to receive", 10_000),
+    ("blocks sent again after Timer A, ENQ sent last", 20_000),
+    ("ENQs of a closed master: 11", 10_000),
+    ("ENQs with no block out: 11", 25_000),
+    ("leaves to receive with a block out", 40_000),
+    ("leaves to receive with none out", 7_000),
+    ("leaves to receive given twice", 6_000),
+    ("leaves to receive of a closed master: 11", 5_000),
+    ("leaves to receive before a RINT: 11", 30_000),
+    ("openings reversed by an ACK", 30_000),
+    ("openings reversed by a RINT", 12_000),
+    ("openings reversed with the message done", 15_000),
+    ("openings reversed with the message not done", 20_000),
+    ("openings with leave to receive that failed", 3_000),
+    ("openings with leave to receive that the slave ended", 6_000),
 ];
 
 /// Acts of masters by their kind, in the order of `LEAST_OF_MASTERS`.
@@ -246,6 +309,7 @@ impl MasterCounts {
         self.add(Kind::Done, done == 1);
         self.add(Kind::Failed, end == 1);
         self.add(Kind::EndByDriver, end == 3);
+        self.count_turning(call, before, answer);
         match call.act {
             MasterAct::Start {
                 message_length,
@@ -258,32 +322,104 @@ impl MasterCounts {
             }
             MasterAct::Timer => {
                 self.add(Kind::AgainAfterTimer, send == 1);
+                self.add(Kind::TimerAfterEnq, send == 1 && before[8] == 1);
                 self.add(Kind::NoneOut, before[0] == 1);
                 self.add(Kind::WhileClosed, before[0] == 0);
             }
             MasterAct::Reply { reply, number } => self.count_reply(reply, number, before, answer),
-            MasterAct::Open | MasterAct::Close => {}
+            MasterAct::Open | MasterAct::Close | MasterAct::Enquire | MasterAct::MayReceive => {}
         }
     }
 
     /// Acts on a state that don't apply now.
     fn count_refused(&mut self, call: &MasterCall, before: &[u64], number: u64) {
-        if number != 11 {
+        let master = match number {
+            11 => Master::decode(&before[..MASTER_WORDS]),
+            _ => None,
+        };
+        let Some(master) = master else {
             return;
+        };
+        let is_closed = matches!(master, Master::Closed(_));
+        let [if_closed, if_open] = match call.act {
+            MasterAct::Start { .. } => [Kind::StartWhileClosed, Kind::StartWhileBusy],
+            MasterAct::Close => [Kind::CloseWhileClosed, Kind::CloseWhileBusy],
+            MasterAct::Enquire => [Kind::EnqWhileClosed, Kind::EnqNoneOut],
+            _ => [Kind::LeaveWhileClosed, Kind::LeaveBeforeRint],
+        };
+        self.add(if is_closed { if_closed } else { if_open }, true);
+        let is_turning = matches!(call.act, MasterAct::Enquire | MasterAct::MayReceive);
+        self.add(Kind::Turning, is_turning);
+    }
+
+    /// What the reverse interrupt and the enquiry bring.
+    fn count_turning(&mut self, call: &MasterCall, before: &[u64], answer: &MasterAnswer) {
+        let [_, _, _, _, _, acknowledged, done, end, ..] = answer.report;
+        let (phase, may_receive) = (before[0], before[9] == 1);
+        let reply = match call.act {
+            MasterAct::Reply { reply, .. } => reply,
+            _ => 0,
+        };
+        let is_enq = call.act == MasterAct::Enquire;
+        let is_leave = call.act == MasterAct::MayReceive;
+        self.add(Kind::Turning, reply == REPLY_RINT || is_enq || is_leave);
+        self.add(Kind::EnqSent, is_enq);
+        self.add(Kind::EnqWithLeave, is_enq && may_receive);
+        self.add(Kind::LeaveWithBlockOut, is_leave && phase == 2);
+        self.add(Kind::LeaveWithNoneOut, is_leave && phase == 1);
+        self.add(Kind::LeaveTwice, is_leave && may_receive);
+        if acknowledged == 1 && end == 4 {
+            self.add(Kind::ReversedByAck, reply == REPLY_ACK);
+            self.add(Kind::ReversedByRint, reply == REPLY_RINT);
+            self.add(Kind::ReversedDone, done == 1);
+            self.add(Kind::ReversedNotDone, done == 0);
         }
-        let is_start = matches!(call.act, MasterAct::Start { .. });
-        match Master::decode(&before[..MASTER_WORDS]) {
-            Some(Master::Closed(_)) if is_start => self.add(Kind::StartWhileClosed, true),
-            Some(Master::Closed(_)) => self.add(Kind::CloseWhileClosed, true),
-            Some(_) if is_start => self.add(Kind::StartWhileBusy, true),
-            Some(_) => self.add(Kind::CloseWhileBusy, true),
-            None => {}
+        if may_receive && call.act != MasterAct::Open {
+            self.add(Kind::LeaveAndFailed, end == 1);
+            self.add(Kind::LeaveAndEot, end == 2);
         }
+    }
+
+    /// A RINT to a master.
+    fn count_rint(&mut self, before: &[u64], answer: &MasterAnswer) {
+        let [send, _, _, _, _, acknowledged, _, end, ..] = answer.report;
+        let (phase, last_reply, is_enquired) = (before[0], before[6], before[8] == 1);
+        self.add(Kind::RintNoneOut, phase == 1);
+        self.add(Kind::RintWhileClosed, phase == 0);
+        let is_accepted = acknowledged == 1;
+        let is_refused = phase == 2 && (send == 1 || end == 1) && !is_accepted;
+        self.add(Kind::RintAccepted, is_accepted);
+        self.add(Kind::RintAfterNak, is_accepted && last_reply == REPLY_NAK);
+        self.add(Kind::RintAfterRint, is_refused && last_reply == REPLY_RINT);
+        self.add(
+            Kind::RintAfterRintBlockSentLast,
+            is_refused && last_reply == REPLY_RINT && !is_enquired,
+        );
+        self.add(
+            Kind::RintAfterNakAndEnq,
+            is_refused && last_reply == REPLY_NAK && is_enquired,
+        );
+        self.add(Kind::RintFailed, is_refused && end == 1);
+        self.add(
+            Kind::RintUncounted,
+            phase == 2 && !is_accepted && !is_refused,
+        );
     }
 
     fn count_reply(&mut self, reply: u64, number: u64, before: &[u64], answer: &MasterAnswer) {
         let (phase, count) = (before[0], before[5]);
         let [send, _, _, _, _, acknowledged, ..] = answer.report;
+        if reply == REPLY_RINT {
+            self.count_rint(before, answer);
+        }
+        let is_undamaged = [REPLY_ACK, REPLY_NAK, REPLY_RINT].contains(&reply);
+        let is_noted = phase == 1 && is_undamaged && reply != before[6];
+        self.add(Kind::ReplyNotedNoneOut, is_noted);
+        let is_damaged = reply == REPLY_DAMAGED && phase != 0;
+        self.add(
+            Kind::DamagedAfterRint,
+            is_damaged && before[6] == REPLY_RINT,
+        );
         let own = (count % 8 + 1) % 8;
         let is_ack = reply == REPLY_ACK && phase == 2;
         let is_just_before = is_ack && number == number_just_before(own);

@@ -50,7 +50,7 @@ impl StationMemory {
 
     /// A closed station, made by the library.
     pub fn fresh(compare: &mut Compare, space: usize) -> Result<StationMemory, String> {
-        let words = [compare.random.draw(), compare.random.draw(), 1];
+        let words = [(); STATION_WORDS].map(|()| compare.random.draw());
         let mut memory = StationMemory::new(compare, words, space);
         compare.station_fresh(&mut memory.state)?;
         Ok(memory)
@@ -158,39 +158,194 @@ impl Compare {
     }
 }
 
-/// Acts of stations, and what happened in them; a run promises so many of each.
-#[derive(Default)]
+/// Kinds of acts. The eight duplicates follow one another by the expected number.
+#[derive(Clone, Copy)]
+enum Kind {
+    Act,
+    Message,
+    Duplicate,
+    DuplicateAt,
+    Older = 11,
+    JustFit,
+    OneByteOver,
+    Refused,
+    /// Acts with RINT, ENQ and asking.
+    Turning,
+    RintGiven,
+    RintCompleting,
+    EotWhilePending,
+    RintedDuplicate,
+    PendingDuplicate,
+    NakWhilePending,
+    NakAfterRint,
+    AckAgain,
+    NakAgain,
+    RintAgain,
+    NakToFirstEnq,
+    EnqWhilePending,
+    EnqWhileClosed,
+    Asked,
+    AskedWhileClosed,
+    AskedWhilePending,
+    AskedWithoutAck,
+    AskedAgain,
+    Last,
+}
+
+/// How many kinds of acts are counted.
+pub const STATION_KINDS: usize = Kind::Last as usize;
+
+/// The kinds of acts, with how many of each a whole run has at least.
+pub const LEAST_OF_STATIONS: [(&str, u64); STATION_KINDS] = [
+    ("acts of stations", 1_000_000),
+    ("messages completed by stations", 100_000),
+    ("duplicate blocks", 100_000),
+    ("duplicate blocks, 0 expected", 10_000),
+    ("duplicate blocks, 1 expected", 10_000),
+    ("duplicate blocks, 2 expected", 10_000),
+    ("duplicate blocks, 3 expected", 10_000),
+    ("duplicate blocks, 4 expected", 10_000),
+    ("duplicate blocks, 5 expected", 10_000),
+    ("duplicate blocks, 6 expected", 10_000),
+    ("duplicate blocks, 7 expected", 10_000),
+    ("older blocks answered NAK", 15_000),
+    ("texts that just fit", 50_000),
+    ("texts one byte too long", 20_000),
+    ("refused acts of stations", 50_000),
+    ("acts of stations with RINT, ENQ and asking", 600_000),
+    ("RINTs given for a block", 80_000),
+    ("RINTs given for a message's last block", 30_000),
+    ("texts too long while a RINT is pending", 10_000),
+    ("duplicates of a block that got RINT: ACK", 10_000),
+    ("duplicates while a RINT is pending: ACK", 12_000),
+    ("NAKs while a RINT is pending", 80_000),
+    ("NAKs after a RINT and before an ACK", 60_000),
+    ("ACKs given again on ENQ", 150_000),
+    ("NAKs given again on ENQ", 50_000),
+    ("RINTs given again on ENQ", 25_000),
+    ("NAKs to an ENQ before any reply", 20_000),
+    ("ENQs while a RINT is pending", 40_000),
+    ("ENQs to a closed station", 20_000),
+    ("RINTs asked for", 100_000),
+    ("RINTs asked of a closed station: 11", 15_000),
+    ("RINTs asked for with one pending: 11", 30_000),
+    ("RINTs asked for with no ACK since the last: 11", 20_000),
+    ("RINTs asked for again, an ACK given since the last", 5_000),
+];
+
+/// Acts of stations by their kind, in the order of `LEAST_OF_STATIONS`.
 pub struct StationCounts {
     pub acts: u64,
-    pub messages: u64,
-    /// By the expected number.
-    pub duplicates: [u64; 8],
-    /// Answered NAK, and two or more before the expected number without counting round.
-    pub older: u64,
-    pub just_fit: u64,
-    pub one_byte_over: u64,
-    pub refused: u64,
+    kinds: [u64; STATION_KINDS],
+}
+
+/// The words of an open station before an act, and what it replied.
+struct Seen {
+    expected: u64,
+    held: u64,
+    last_reply: u64,
+    interrupt: u64,
+    reply: u64,
+    complete: u64,
 }
 
 impl StationCounts {
+    pub fn new() -> StationCounts {
+        StationCounts {
+            acts: 0,
+            kinds: [0; STATION_KINDS],
+        }
+    }
+
+    pub fn all(&self) -> [u64; STATION_KINDS] {
+        let mut all = self.kinds;
+        all[Kind::Act as usize] = self.acts;
+        all
+    }
+
+    fn add(&mut self, kind: Kind, happened: bool) {
+        self.kinds[kind as usize] += u64::from(happened);
+    }
+
     fn count(&mut self, call: &StationCall, before: &[u64], answer: &StationAnswer) {
         self.acts += 1;
-        self.refused += u64::from(answer.number != 0);
-        let Unit::Block { number, text, .. } = call.unit else {
-            return;
-        };
-        if answer.number != 0 || before[0] == 0 {
+        let is_asked = matches!(call.unit, Unit::Interrupt);
+        let is_enq = matches!(call.unit, Unit::BareEnq);
+        let [reply, _, complete, _] = answer.report;
+        self.add(Kind::Turning, is_asked || is_enq || reply == 5);
+        self.add(Kind::Refused, answer.number != 0);
+        let is_state = before.len() >= STATION_WORDS
+            && Station::decode(&before[..STATION_WORDS]).is_some()
+            && [0, 11].contains(&answer.number);
+        if !is_state {
             return;
         }
-        let [reply, _, complete, _] = answer.report;
-        let (expected, held) = (before[1], before[2]);
-        let taken = reply == 1 && number == expected;
-        let needed = held.saturating_add(text.len() as u64);
-        self.messages += complete;
-        self.duplicates[expected as usize] += u64::from(reply == 1 && !taken);
-        self.older += u64::from(reply == 2 && number < expected.saturating_sub(1));
-        self.just_fit += u64::from(taken && needed == call.buffer_length as u64);
-        self.one_byte_over += u64::from(reply == 3 && needed == call.buffer_length as u64 + 1);
+        if before[0] == 0 {
+            self.add(Kind::EnqWhileClosed, is_enq);
+            self.add(Kind::AskedWhileClosed, is_asked);
+            return;
+        }
+        let seen = Seen {
+            expected: before[1],
+            held: before[2],
+            last_reply: before[3],
+            interrupt: before[4],
+            reply,
+            complete,
+        };
+        match call.unit {
+            Unit::Block { number, text, .. } => {
+                let needed = seen.held.saturating_add(text.len() as u64);
+                self.count_block(number, needed, call.buffer_length as u64, &seen);
+            }
+            Unit::Interrupt => self.count_asked(&seen),
+            Unit::BareEnq => self.count_enq(&seen),
+            Unit::Opened | Unit::Bad | Unit::Enquiry | Unit::End => {}
+        }
+        self.add(Kind::NakWhilePending, reply == 2 && seen.interrupt == 1);
+        self.add(Kind::NakAfterRint, reply == 2 && seen.interrupt == 2);
+    }
+
+    /// A good block with so much text held together with it, in a buffer of this length.
+    fn count_block(&mut self, number: u64, needed: u64, length: u64, seen: &Seen) {
+        let is_expected = number == seen.expected;
+        let is_taken = is_expected && (seen.reply == 1 || seen.reply == 5);
+        let is_duplicate = !is_expected && seen.reply == 1;
+        let is_pending = seen.interrupt == 1;
+        let is_over = is_expected && seen.reply == 3;
+        self.kinds[Kind::Message as usize] += seen.complete;
+        self.add(Kind::Duplicate, is_duplicate);
+        self.kinds[Kind::DuplicateAt as usize + seen.expected as usize] += u64::from(is_duplicate);
+        self.add(
+            Kind::Older,
+            seen.reply == 2 && number < seen.expected.saturating_sub(1),
+        );
+        self.add(Kind::JustFit, is_taken && needed == length);
+        self.add(Kind::OneByteOver, is_over && needed == length + 1);
+        self.add(Kind::RintGiven, seen.reply == 5);
+        self.add(Kind::RintCompleting, seen.reply == 5 && seen.complete == 1);
+        self.add(Kind::EotWhilePending, is_over && is_pending);
+        self.add(Kind::RintedDuplicate, is_duplicate && seen.interrupt == 2);
+        self.add(Kind::PendingDuplicate, is_duplicate && is_pending);
+    }
+
+    fn count_asked(&mut self, seen: &Seen) {
+        self.add(Kind::Asked, seen.interrupt == 0);
+        self.add(Kind::AskedWhilePending, seen.interrupt == 1);
+        self.add(Kind::AskedWithoutAck, seen.interrupt == 2);
+    }
+
+    fn count_enq(&mut self, seen: &Seen) {
+        self.add(Kind::AckAgain, seen.reply == 1);
+        self.add(Kind::NakAgain, seen.reply == 2 && seen.last_reply == 2);
+        self.add(Kind::RintAgain, seen.reply == 5);
+        self.add(Kind::NakToFirstEnq, seen.last_reply == 0);
+        self.add(Kind::EnqWhilePending, seen.interrupt == 1);
+    }
+
+    /// A RINT asked for a second time in one opening, which words do not tell.
+    pub fn asked_again(&mut self) {
+        self.add(Kind::AskedAgain, true);
     }
 }
 
@@ -198,7 +353,7 @@ impl StationCounts {
 pub fn text_of<'a>(unit: &Unit<'a>) -> &'a [u8] {
     match unit {
         Unit::Block { text, .. } => text,
-        Unit::Opened | Unit::Bad | Unit::Enquiry | Unit::End => &[],
+        _ => &[],
     }
 }
 
@@ -214,6 +369,8 @@ pub fn with_text<'a>(unit: &Unit, text: &'a [u8]) -> Unit<'a> {
         Unit::Bad => Unit::Bad,
         Unit::Enquiry => Unit::Enquiry,
         Unit::End => Unit::End,
+        Unit::BareEnq => Unit::BareEnq,
+        Unit::Interrupt => Unit::Interrupt,
     }
 }
 

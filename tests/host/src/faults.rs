@@ -9,6 +9,7 @@ static FAILED: AtomicU64 = AtomicU64::new(0);
 
 const SIGNALS: [i32; 6] = [4, 6, 7, 8, 11, 14];
 const SECONDS_FOR_A_GROUP: u32 = 60;
+const SECONDS_FOR_A_LONG_GROUP: u32 = 3_600;
 
 extern "C" {
     fn signal(number: i32, handler: extern "C" fn(i32)) -> usize;
@@ -23,6 +24,12 @@ pub fn install() {
         // SAFETY: the handler only writes and ends the process.
         unsafe { signal(number, report) };
     }
+}
+
+/// Gives the group that runs more time.
+pub fn allow_long() {
+    // SAFETY: sets the alarm clock anew.
+    unsafe { alarm(SECONDS_FOR_A_LONG_GROUP) };
 }
 
 /// Says which group runs from here, after so many passed and failed ones.

@@ -1,5 +1,5 @@
-//! Runs the groups of tests: `hosttests [SEED] [GROUP]`. The seed is a decimal number. `hosttests
-//! --cases FILE..` runs the cases of these files alone.
+//! Runs the groups of tests: `hosttests [SEED] [GROUP]`. The seed is a decimal number. A group that takes
+//! long runs only where it is named. `hosttests --cases FILE..` runs the cases of these files alone.
 
 mod case_model;
 mod case_text;
@@ -32,27 +32,30 @@ mod make_station;
 mod real;
 mod stations_checks;
 mod stations_counts;
+mod stations_lines;
 mod stations_link;
 mod stations_plan;
+mod stations_readings;
+mod stations_units;
 
 use compare::Compare;
 use compare_master::{LEAST_OF_MASTERS, MASTER_KINDS};
-use compare_station::StationCounts;
+use compare_station::{LEAST_OF_STATIONS, STATION_KINDS};
 use std::process::ExitCode;
 use std::time::Instant;
 
 const SEED: u64 = 20_261_115;
 
-const COUNTS_BEFORE_MASTERS: usize = 42;
-const COUNTS: usize = COUNTS_BEFORE_MASTERS + MASTER_KINDS;
+const COUNTS_BEFORE_STATIONS: usize = 27;
+const COUNTS: usize = COUNTS_BEFORE_STATIONS + STATION_KINDS + MASTER_KINDS;
 
 /// How many inputs a whole run compares at least: calls of the functions for blocks; messages read
 /// or written; of the messages read, those whose header can be read, and those that are answers;
 /// acts of the receiver and the sender compared with the model; acts on simulated links, and runs of
-/// such links; of the acts compared, those of each kind; acts of stations, with what happened in them;
-/// calls of the field reader, with what they gave, and headers and answers found by its steps; calls of
-/// the cases by hand; and acts on links of the two X3.28 stations, runs of such links, and walks of them.
-const LEAST: [(&str, u64); COUNTS_BEFORE_MASTERS] = [
+/// such links; of the acts compared, those of each kind; calls of the field reader, with what they gave,
+/// and headers and answers found by its steps; calls of the cases by hand; and acts on links of the two
+/// X3.28 stations, runs of such links, and walks of them.
+const LEAST: [(&str, u64); COUNTS_BEFORE_STATIONS] = [
     ("inputs", 1_000_000),
     ("messages", 2_000_000),
     ("readable headers", 500_000),
@@ -68,21 +71,6 @@ const LEAST: [(&str, u64); COUNTS_BEFORE_MASTERS] = [
     ("acts with r of 99", 50_000),
     ("acts on numbers up to 100", 200_000),
     ("acts on the last 100 numbers", 200_000),
-    ("acts of stations", 1_000_000),
-    ("messages completed by stations", 100_000),
-    ("duplicate blocks", 100_000),
-    ("duplicate blocks, 0 expected", 10_000),
-    ("duplicate blocks, 1 expected", 10_000),
-    ("duplicate blocks, 2 expected", 10_000),
-    ("duplicate blocks, 3 expected", 10_000),
-    ("duplicate blocks, 4 expected", 10_000),
-    ("duplicate blocks, 5 expected", 10_000),
-    ("duplicate blocks, 6 expected", 10_000),
-    ("duplicate blocks, 7 expected", 10_000),
-    ("older blocks answered NAK", 15_000),
-    ("texts that just fit", 50_000),
-    ("texts one byte too long", 20_000),
-    ("refused acts of stations", 50_000),
     ("calls of the field reader", 1_000_000),
     ("empty fields", 200_000),
     ("fields ended by CR", 100_000),
@@ -91,15 +79,16 @@ const LEAST: [(&str, u64); COUNTS_BEFORE_MASTERS] = [
     ("headers found by steps", 20_000),
     ("answers found by steps", 10_000),
     ("calls of cases by hand", 650_000),
-    ("acts on links of stations", 10_000_000),
+    ("acts on links of stations", 30_000_000),
     ("runs of links of stations", 100_000),
-    ("acts in walks of links of stations", 10_000_000),
-    ("states in walks of links of stations", 1_000_000),
+    ("acts in walks of links of stations", 100_000_000),
+    ("states in walks of links of stations", 6_000_000),
 ];
 
-/// The least counts, those of acts of masters behind the others.
+/// The least counts, those of acts of stations and of masters behind the others.
 fn least_counts() -> impl Iterator<Item = (&'static str, u64)> {
-    LEAST.into_iter().chain(LEAST_OF_MASTERS)
+    let stations = LEAST_OF_STATIONS.into_iter().chain(LEAST_OF_MASTERS);
+    LEAST.into_iter().chain(stations)
 }
 
 /// What a group compared, in the order of `least_counts`.
@@ -122,8 +111,6 @@ fn counts(compare: &Compare) -> [u64; COUNTS] {
         most,
         kinds.small,
         kinds.large,
-    ];
-    let after_stations = [
         fields.calls,
         fields.empty,
         fields.segment_ends,
@@ -137,32 +124,9 @@ fn counts(compare: &Compare) -> [u64; COUNTS] {
         compare.walk_acts,
         compare.walk_states,
     ];
-    let stations = station_counts(&compare.station);
-    let masters = compare.master.all();
-    let all = [&before_stations[..], &stations, &after_stations, &masters].concat();
+    let (stations, masters) = (compare.station.all(), compare.master.all());
+    let all = [&before_stations[..], &stations, &masters].concat();
     all.try_into().expect("a count for each of `least_counts`")
-}
-
-/// The acts of stations, and what happened in them.
-fn station_counts(station: &StationCounts) -> [u64; 15] {
-    let [at_0, at_1, at_2, at_3, at_4, at_5, at_6, at_7] = station.duplicates;
-    [
-        station.acts,
-        station.messages,
-        station.duplicates.iter().sum(),
-        at_0,
-        at_1,
-        at_2,
-        at_3,
-        at_4,
-        at_5,
-        at_6,
-        at_7,
-        station.older,
-        station.just_fit,
-        station.one_byte_over,
-        station.refused,
-    ]
 }
 
 /// A seed of its own for each group, so that one group can be run alone.
@@ -237,29 +201,15 @@ fn run_files(paths: &[String]) -> ExitCode {
     ExitCode::from(u8::from(failed > 0 || passed == 0))
 }
 
-fn main() -> ExitCode {
-    let arguments: Vec<String> = std::env::args().skip(1).collect();
-    if arguments.first().is_some_and(|word| word == "--cases") {
-        return run_files(&arguments[1..]);
-    }
-    let seed = match arguments.first().map(|text| text.parse::<u64>()) {
-        None => SEED,
-        Some(Ok(seed)) => seed,
-        Some(Err(_)) => {
-            eprintln!("usage: hosttests [SEED] [GROUP]");
-            return ExitCode::from(2);
-        }
-    };
-    let only = arguments.get(1);
+/// The groups, or the one of this name: how many passed and failed, and what they compared.
+fn run_groups(seed: u64, only: Option<&str>) -> (u64, u64, [u64; COUNTS]) {
     let (mut passed, mut failed) = (0, 0);
     let mut compared = [0; COUNTS];
-    let begun = Instant::now();
-    faults::install();
-    for &(name, group) in groups::ALL {
-        if only.is_some_and(|wanted| wanted != name) {
-            continue;
-        }
+    for (name, group) in groups::named(only) {
         faults::enter(name, passed, failed);
+        if groups::is_apart(name) {
+            faults::allow_long();
+        }
         let mut compare = Compare::new(group_seed(seed, name));
         match group(&mut compare) {
             Ok(()) => {
@@ -275,6 +225,26 @@ fn main() -> ExitCode {
             *sum += count;
         }
     }
+    (passed, failed, compared)
+}
+
+fn main() -> ExitCode {
+    let arguments: Vec<String> = std::env::args().skip(1).collect();
+    if arguments.first().is_some_and(|word| word == "--cases") {
+        return run_files(&arguments[1..]);
+    }
+    let seed = match arguments.first().map(|text| text.parse::<u64>()) {
+        None => SEED,
+        Some(Ok(seed)) => seed,
+        Some(Err(_)) => {
+            eprintln!("usage: hosttests [SEED] [GROUP]");
+            return ExitCode::from(2);
+        }
+    };
+    let only = arguments.get(1).map(String::as_str);
+    let begun = Instant::now();
+    faults::install();
+    let (passed, mut failed, compared) = run_groups(seed, only);
     failed += u64::from(only.is_none() && too_few(&compared));
     print_counts(&compared);
     let (inputs, seconds) = (compared[0], begun.elapsed().as_secs_f64());

@@ -1,7 +1,10 @@
 //! What a driver might tell a master, mostly near the block that is out.
 
 use crate::make_station::{large_numbers, number_before};
-use host::master_model::{Master, MasterAct, Told, REPLY_ACK, REPLY_DAMAGED, REPLY_EOT, REPLY_NAK};
+use host::master_model::{
+    Master, MasterAct, Told, MASTER_WORDS, REPLY_ACK, REPLY_DAMAGED, REPLY_EOT, REPLY_NAK,
+    REPLY_RINT,
+};
 use host::prng::Random;
 
 /// What the driver tells, with a message of its own.
@@ -12,6 +15,8 @@ pub enum PlannedTold {
     Reply { reply: u64, number: u64 },
     Timer,
     Close,
+    Enquire,
+    MayReceive,
 }
 
 impl PlannedTold {
@@ -31,6 +36,8 @@ impl PlannedTold {
             },
             PlannedTold::Timer => Told::Timer,
             PlannedTold::Close => Told::Close,
+            PlannedTold::Enquire => Told::Enquire,
+            PlannedTold::MayReceive => Told::MayReceive,
         }
     }
 
@@ -40,6 +47,8 @@ impl PlannedTold {
             MasterAct::Reply { reply, number } => PlannedTold::Reply { reply, number },
             MasterAct::Timer => PlannedTold::Timer,
             MasterAct::Close => PlannedTold::Close,
+            MasterAct::Enquire => PlannedTold::Enquire,
+            MasterAct::MayReceive => PlannedTold::MayReceive,
             MasterAct::Open | MasterAct::Start { .. } => PlannedTold::Open,
         }
     }
@@ -90,7 +99,7 @@ pub fn any_ack_number(random: &mut Random, own: u64) -> u64 {
 fn no_reply(random: &mut Random) -> u64 {
     match random.below(4) {
         0 => 0,
-        1 => random.between(5, 260) as u64,
+        1 => random.between(6, 260) as u64,
         2 => random.pick(&[256, 257, (1 << 32) + 1, (1 << 63) + 2, u64::MAX, !4, !1]),
         _ => random.draw(),
     }
@@ -104,6 +113,7 @@ pub fn any_reply(random: &mut Random, own: u64, ends: usize) -> MasterAct {
         1 | 2 => REPLY_DAMAGED,
         3..=5 => REPLY_NAK,
         6 if random.one_in(ends) => REPLY_EOT,
+        7..=13 => REPLY_RINT,
         _ => REPLY_ACK,
     };
     MasterAct::Reply { reply, number }
@@ -134,7 +144,7 @@ pub fn any_told(random: &mut Random, master: &Master, long: usize) -> PlannedTol
     let own = own_number(master);
     let starts = match master {
         Master::Closed(_) if random.one_in(2) => return PlannedTold::Open,
-        Master::Idle(_) if random.one_in(2) => true,
+        Master::Idle(..) if random.one_in(2) => true,
         _ => random.one_in(30),
     };
     if starts {
@@ -148,8 +158,51 @@ pub fn any_told(random: &mut Random, master: &Master, long: usize) -> PlannedTol
         0 => MasterAct::Open,
         1 | 2 => MasterAct::Close,
         3..=8 => MasterAct::Timer,
+        9..=15 => MasterAct::Enquire,
+        16..=18 => MasterAct::MayReceive,
         _ => any_reply(random, own, 3),
     })
+}
+
+/// The last four words of a master with a block out at this offset, after so many acknowledged: any that go
+/// with them.
+pub fn reply_words(random: &mut Random, count: u64, offset: u64) -> [u64; 4] {
+    let is_first = count == 0 && offset == 0;
+    let [last_reply, interrupted] = match random.below(6) {
+        0 | 1 if is_first => [0, 0],
+        0 | 1 => [REPLY_ACK, 1],
+        2 => [REPLY_ACK, 0],
+        3 => [REPLY_NAK, 0],
+        4 => [REPLY_NAK, 1],
+        _ => [REPLY_RINT, 1],
+    };
+    let enquired = random.below(2) as u64;
+    let may_receive = interrupted * random.below(2) as u64;
+    [last_reply, interrupted, enquired, may_receive]
+}
+
+/// Words of a master with no block out after so many acknowledged.
+pub fn idle_words(random: &mut Random, count: u64) -> [u64; MASTER_WORDS] {
+    let [last_reply, interrupted, ..] = reply_words(random, count, 0);
+    [1, 0, 0, 0, 0, count, last_reply, interrupted, 0, 0]
+}
+
+/// Words of a master with this block out after so many acknowledged.
+pub fn waiting_words(random: &mut Random, out: [u64; 4], count: u64) -> [u64; MASTER_WORDS] {
+    let [length, size, offset, resends] = out;
+    let [last_reply, interrupted, enquired, may_receive] = reply_words(random, count, offset);
+    [
+        2,
+        length,
+        size,
+        offset,
+        resends,
+        count,
+        last_reply,
+        interrupted,
+        enquired,
+        may_receive,
+    ]
 }
 
 /// A number of 64 bits near its ends, near a power of two, small, or any.

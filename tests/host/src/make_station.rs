@@ -2,7 +2,7 @@
 //! buffer still takes.
 
 use host::prng::Random;
-use host::station_model::{Station, Unit, ETB, ETX};
+use host::station_model::{Station, Unit, ETB, ETX, STATION_WORDS};
 
 /// A unit with a text of its own.
 #[derive(Clone, Debug)]
@@ -16,6 +16,8 @@ pub enum Planned {
     Bad,
     Enquiry,
     End,
+    BareEnq,
+    Interrupt,
 }
 
 impl Planned {
@@ -34,6 +36,8 @@ impl Planned {
             Planned::Bad => Unit::Bad,
             Planned::Enquiry => Unit::Enquiry,
             Planned::End => Unit::End,
+            Planned::BareEnq => Unit::BareEnq,
+            Planned::Interrupt => Unit::Interrupt,
         }
     }
 }
@@ -44,6 +48,19 @@ pub fn block(number: u64, ending: u64, text: &[u8]) -> Unit<'_> {
         ending,
         text,
     }
+}
+
+/// The words of the last reply and of RINT that an open station may have at any expected number.
+pub const REPLY_WORDS: [[u64; 2]; 6] = [[1, 0], [1, 1], [2, 0], [2, 1], [2, 2], [5, 2]];
+
+/// Words of an open station with such a pair, or with those from before its first reply.
+pub fn open_words(random: &mut Random, expected: u64, held: u64) -> [u64; STATION_WORDS] {
+    let [last_reply, interrupt] = match random.below(8) {
+        0 if expected == 1 && held == 0 => [0, 0],
+        1 if expected == 1 && held == 0 => [0, 1],
+        _ => random.pick(&REPLY_WORDS),
+    };
+    [1, expected, held, last_reply, interrupt]
 }
 
 /// Numbers of 64 bits whose low bits are those of a small one, and others.
@@ -96,7 +113,7 @@ pub fn any_length(random: &mut Random, left: usize) -> usize {
 pub fn expected_and_left(station: &Station, space: usize) -> (u64, usize) {
     match *station {
         Station::Closed => (1, space),
-        Station::Open { expected, held } => (expected, space.saturating_sub(held as usize)),
+        Station::Open(open) => (open.expected, space.saturating_sub(open.held as usize)),
     }
 }
 
@@ -121,11 +138,13 @@ pub fn any_unit(random: &mut Random, station: &Station, space: usize) -> Planned
     if *station == Station::Closed && random.one_in(2) {
         return Planned::Opened;
     }
-    match random.below(40) {
+    match random.below(48) {
         0 => Planned::Opened,
         1 => Planned::End,
         2 | 3 => Planned::Bad,
         4 | 5 => Planned::Enquiry,
+        6..=11 => Planned::BareEnq,
+        12..=17 => Planned::Interrupt,
         _ => near_block(random, station, space, 3),
     }
 }

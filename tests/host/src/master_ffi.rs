@@ -44,6 +44,20 @@ pub mod raw {
             report: *mut u64,
             report_words: usize,
         ) -> u64;
+
+        pub fn gmv_master_enquire(
+            state: *mut u64,
+            state_words: usize,
+            report: *mut u64,
+            report_words: usize,
+        ) -> u64;
+
+        pub fn gmv_master_may_receive(
+            state: *mut u64,
+            state_words: usize,
+            report: *mut u64,
+            report_words: usize,
+        ) -> u64;
     }
 }
 
@@ -64,6 +78,12 @@ pub fn master_act(act: &MasterAct, state: &mut [u64], report: &mut [u64]) -> u64
             MasterAct::Open => raw::gmv_master_open(words, length, report_pointer, report_words),
             MasterAct::Timer => raw::gmv_master_timer(words, length, report_pointer, report_words),
             MasterAct::Close => raw::gmv_master_close(words, length, report_pointer, report_words),
+            MasterAct::Enquire => {
+                raw::gmv_master_enquire(words, length, report_pointer, report_words)
+            }
+            MasterAct::MayReceive => {
+                raw::gmv_master_may_receive(words, length, report_pointer, report_words)
+            }
             MasterAct::Start {
                 message_length,
                 block_size,

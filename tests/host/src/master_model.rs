@@ -1,11 +1,11 @@
-//! The rules of document 02, §3, about the X3.28 sending station, with what was decided on them, twice:
-//! `act_on_words` says what one call does to the words of the C interface, from any words; `answers` goes
-//! through all that the driver told the master, and keeps the blocks themselves.
+//! The rules of document 02, §3 and §14, about the X3.28 sending station, with what was decided on them,
+//! twice: `act_on_words` says what one call does to the words of the C interface, from any words; `answers`
+//! goes through all that the driver told the master, and keeps the blocks and the replies themselves.
 
-use crate::station_model::{ETB, ETX};
+use crate::station_model::{LastReply, ETB, ETX};
 use std::collections::VecDeque;
 
-pub const MASTER_WORDS: usize = 6;
+pub const MASTER_WORDS: usize = 10;
 pub const MASTER_REPORT_WORDS: usize = 10;
 
 /// "at most 5 times a block (000's L)"
@@ -16,6 +16,7 @@ pub const REPLY_ACK: u64 = 1;
 pub const REPLY_NAK: u64 = 2;
 pub const REPLY_EOT: u64 = 3;
 pub const REPLY_DAMAGED: u64 = 4;
+pub const REPLY_RINT: u64 = 5;
 
 /// What the driver tells the master.
 #[derive(Clone, Copy, Debug, PartialEq, Eq)]
@@ -31,6 +32,8 @@ pub enum MasterAct {
     },
     Timer,
     Close,
+    Enquire,
+    MayReceive,
 }
 
 /// What is to be sent.
@@ -43,6 +46,7 @@ pub enum Transmit<Text> {
         text: Text,
     },
     Eot,
+    Enq,
 }
 
 /// How an opening ended, if it did.
@@ -52,6 +56,7 @@ pub enum End {
     Failed,
     BySlave,
     ByDriver,
+    Reversed,
 }
 
 /// A part of the message.
@@ -88,7 +93,7 @@ impl<Text> Report<Text> {
     /// The opening ended.
     fn ended(end: End, count: u64) -> Report<Text> {
         let transmit = match end {
-            End::Failed | End::ByDriver => Transmit::Eot,
+            End::Failed | End::ByDriver | End::Reversed => Transmit::Eot,
             End::No | End::BySlave => Transmit::Nothing,
         };
         Report {
@@ -109,12 +114,14 @@ impl Report<Part> {
                 text,
             } => [1, number, ending, text.offset, text.length],
             Transmit::Eot => [2, 0, 0, 0, 0],
+            Transmit::Enq => [3, 0, 0, 0, 0],
         };
         let end = match self.end {
             End::No => 0,
             End::Failed => 1,
             End::BySlave => 2,
             End::ByDriver => 3,
+            End::Reversed => 4,
         };
         let (acknowledged, done) = (u64::from(self.acknowledged), u64::from(self.done));
         [
@@ -132,22 +139,82 @@ impl Report<Part> {
     }
 }
 
-/// The block out: where it is in its message, and how often it was sent again.
+/// The block out: where it is in its message, and how often it was sent again; whether ENQ was sent after
+/// it, and whether the opening ends with its acceptance.
 #[derive(Clone, Copy, Debug, PartialEq, Eq)]
 pub struct BlockOut {
     pub message_length: u64,
     pub block_size: u64,
     pub offset: u64,
     pub resends: u64,
+    pub is_enquired: bool,
+    pub may_receive: bool,
 }
 
+/// What the words say where no block is out.
+const NONE_OUT: BlockOut = BlockOut::first(0, 0);
+
 impl BlockOut {
-    fn first(message_length: u64, block_size: u64) -> BlockOut {
+    const fn first(message_length: u64, block_size: u64) -> BlockOut {
         BlockOut {
             message_length,
             block_size,
             offset: 0,
             resends: 0,
+            is_enquired: false,
+            may_receive: false,
+        }
+    }
+
+    /// Decided: it is a part of its message, sent again at most five times.
+    fn is_possible(&self) -> bool {
+        let is_part = self.offset == 0 || self.offset < self.message_length;
+        self.block_size != 0 && is_part && self.resends <= MOST_RESENDS
+    }
+
+    fn is_last(&self) -> bool {
+        self.message_length - self.offset <= self.block_size
+    }
+}
+
+/// What was noted of the replies in this opening: the last undamaged one, and whether a RINT came.
+#[derive(Clone, Copy, Debug, Default, PartialEq, Eq)]
+pub struct Noted {
+    pub last_reply: LastReply,
+    pub is_interrupted: bool,
+}
+
+impl Noted {
+    /// Decided: before the first reply none is a RINT, and no block is acknowledged.
+    fn is_possible(&self, count: u64, offset: u64) -> bool {
+        match self.last_reply {
+            LastReply::Nothing => !self.is_interrupted && count == 0 && offset == 0,
+            LastReply::Ack | LastReply::Nak => true,
+            LastReply::Rint => self.is_interrupted,
+        }
+    }
+
+    /// "the last undamaged reply", whatever it does
+    fn with(self, reply: u64) -> Noted {
+        let last_reply = match reply {
+            REPLY_ACK => LastReply::Ack,
+            REPLY_NAK => LastReply::Nak,
+            REPLY_RINT => LastReply::Rint,
+            _ => self.last_reply,
+        };
+        Noted {
+            last_reply,
+            is_interrupted: self.is_interrupted || last_reply == LastReply::Rint,
+        }
+    }
+
+    /// "A RINT is no acceptance if the last undamaged reply before it, even with no block out, was a RINT,
+    /// or was a NAK and the master last sent ENQ"
+    fn makes_rint_doubtful(&self, is_enquired: bool) -> bool {
+        match self.last_reply {
+            LastReply::Rint => true,
+            LastReply::Nak => is_enquired,
+            LastReply::Nothing | LastReply::Ack => false,
         }
     }
 }
@@ -156,51 +223,76 @@ impl BlockOut {
 #[derive(Clone, Copy, Debug, PartialEq, Eq)]
 pub enum Master {
     Closed(u64),
-    Idle(u64),
-    Waiting(BlockOut, u64),
+    Idle(Noted, u64),
+    Waiting(BlockOut, Noted, u64),
+}
+
+fn decode_flag(word: u64) -> Option<bool> {
+    match word {
+        0 => Some(false),
+        1 => Some(true),
+        _ => None,
+    }
 }
 
 impl Master {
-    /// Decided: closed or idle, and the words of a message are 0; or a block out that is a part of its
-    /// message.
+    /// Decided: closed, and all words but the count are 0; idle, and those of a block out are; or a block
+    /// out that is a part of its message. An open one has noted what an opening can bring, and may receive
+    /// only after a RINT.
     pub fn decode(words: &[u64]) -> Option<Master> {
-        match *words {
-            [0, 0, 0, 0, 0, count] => Some(Master::Closed(count)),
-            [1, 0, 0, 0, 0, count] => Some(Master::Idle(count)),
-            [2, message_length, block_size, offset, resends @ 0..=MOST_RESENDS, count]
-                if block_size != 0
-                    && (offset < message_length || (message_length == 0 && offset == 0)) =>
-            {
-                let out = BlockOut {
-                    message_length,
-                    block_size,
-                    offset,
-                    resends,
-                };
-                Some(Master::Waiting(out, count))
+        let &[phase, ref out @ .., count, last_reply, interrupted, enquired, may_receive] = words
+        else {
+            return None;
+        };
+        let &[message_length, block_size, offset, resends] = out else {
+            return None;
+        };
+        let noted = Noted {
+            last_reply: LastReply::decode(last_reply)?,
+            is_interrupted: decode_flag(interrupted)?,
+        };
+        let out = BlockOut {
+            message_length,
+            block_size,
+            offset,
+            resends,
+            is_enquired: decode_flag(enquired)?,
+            may_receive: decode_flag(may_receive)?,
+        };
+        let is_noted = noted.is_possible(count, offset);
+        match phase {
+            0 if out == NONE_OUT && noted == Noted::default() => Some(Master::Closed(count)),
+            1 if out == NONE_OUT && is_noted => Some(Master::Idle(noted, count)),
+            2 if out.is_possible() && is_noted && (noted.is_interrupted || !out.may_receive) => {
+                Some(Master::Waiting(out, noted, count))
             }
             _ => None,
         }
     }
 
     pub fn words(&self) -> [u64; MASTER_WORDS] {
-        match *self {
-            Master::Closed(count) => [0, 0, 0, 0, 0, count],
-            Master::Idle(count) => [1, 0, 0, 0, 0, count],
-            Master::Waiting(out, count) => [
-                2,
-                out.message_length,
-                out.block_size,
-                out.offset,
-                out.resends,
-                count,
-            ],
-        }
+        let (phase, out, noted, count) = match *self {
+            Master::Closed(count) => (0, NONE_OUT, Noted::default(), count),
+            Master::Idle(noted, count) => (1, NONE_OUT, noted, count),
+            Master::Waiting(out, noted, count) => (2, out, noted, count),
+        };
+        [
+            phase,
+            out.message_length,
+            out.block_size,
+            out.offset,
+            out.resends,
+            count,
+            noted.last_reply.word(),
+            u64::from(noted.is_interrupted),
+            u64::from(out.is_enquired),
+            u64::from(out.may_receive),
+        ]
     }
 
     pub fn count(&self) -> u64 {
         match *self {
-            Master::Closed(count) | Master::Idle(count) | Master::Waiting(_, count) => count,
+            Master::Closed(count) | Master::Idle(_, count) | Master::Waiting(_, _, count) => count,
         }
     }
 }
@@ -243,7 +335,7 @@ pub enum MasterActed {
 fn taken(act: &MasterAct, words: &[u64], report_words: usize) -> Result<Master, u64> {
     match *act {
         MasterAct::Start { block_size: 0, .. } => return Err(1),
-        MasterAct::Reply { reply, .. } if !(REPLY_ACK..=REPLY_DAMAGED).contains(&reply) => {
+        MasterAct::Reply { reply, .. } if !(REPLY_ACK..=REPLY_RINT).contains(&reply) => {
             return Err(1);
         }
         _ => {}
@@ -274,39 +366,38 @@ pub fn numbered_act(
         Ok(master) => master,
         Err(number) => return MasterActed::Refused(number),
     };
+    let now = |noted, count| Opened {
+        noted,
+        count,
+        numbering,
+    };
     match (*act, master) {
-        (MasterAct::Open, _) => MasterActed::Done(Master::Idle(0), Report::nothing(0, 0)),
-        (
-            MasterAct::Start {
-                message_length,
-                block_size,
-            },
-            Master::Idle(count),
-        ) => sends(
-            BlockOut::first(message_length, block_size),
-            count,
-            numbering,
-        ),
-        (MasterAct::Close, Master::Idle(count)) => ends(End::ByDriver, count),
-        (MasterAct::Start { .. } | MasterAct::Close, _) => MasterActed::Refused(11),
-        (MasterAct::Timer, Master::Waiting(out, count)) => sends_again(out, count, numbering),
-        (MasterAct::Reply { reply, number }, Master::Waiting(out, count)) => {
-            replied(reply, number, out, count, numbering)
+        (MasterAct::Open, _) => stays(Master::Idle(Noted::default(), 0)),
+        (MasterAct::Timer, Master::Waiting(out, noted, count)) => {
+            now(noted, count).sends_again(out)
         }
-        (
-            MasterAct::Reply {
-                reply: REPLY_EOT, ..
-            },
-            Master::Idle(count),
-        ) => ends(End::BySlave, count),
+        (MasterAct::Reply { reply, .. }, Master::Idle(_, count) | Master::Waiting(_, _, count))
+            if reply == REPLY_EOT =>
+        {
+            ends(End::BySlave, count)
+        }
+        (MasterAct::Reply { reply, .. }, Master::Idle(noted, count)) => {
+            stays(Master::Idle(noted.with(reply), count))
+        }
+        (MasterAct::Reply { reply, number }, Master::Waiting(out, noted, count)) => {
+            now(noted, count).replied(out, reply, number)
+        }
         (MasterAct::Reply { .. } | MasterAct::Timer, _) => stays(master),
+        (_, Master::Closed(_)) => MasterActed::Refused(11),
+        (_, Master::Idle(noted, count)) => now(noted, count).idle_act(act),
+        (_, Master::Waiting(out, noted, count)) => now(noted, count).waiting_act(out, act),
     }
 }
 
 fn stays(master: Master) -> MasterActed {
     let resends = match master {
-        Master::Waiting(out, _) => out.resends,
-        Master::Closed(_) | Master::Idle(_) => 0,
+        Master::Waiting(out, ..) => out.resends,
+        Master::Closed(_) | Master::Idle(..) => 0,
     };
     MasterActed::Done(master, Report::nothing(master.count(), resends))
 }
@@ -315,77 +406,119 @@ fn ends(end: End, count: u64) -> MasterActed {
     MasterActed::Done(Master::Closed(count), Report::ended(end, count))
 }
 
-/// The block out goes onto the line, and the master waits for its reply.
-fn sends(out: BlockOut, count: u64, numbering: Numbering) -> MasterActed {
-    let left = out.message_length - out.offset;
-    let transmit = Transmit::Block {
-        number: numbering.number(&out, count),
-        ending: if left <= out.block_size { ETX } else { ETB },
-        text: Part {
-            offset: out.offset,
-            length: left.min(out.block_size),
-        },
-    };
-    let report = Report {
-        transmit,
-        ..Report::nothing(count, out.resends)
-    };
-    MasterActed::Done(Master::Waiting(out, count), report)
-}
-
-/// "at most 5 times a block (000's L); the next time it sends EOT and reports failure"
-fn sends_again(out: BlockOut, count: u64, numbering: Numbering) -> MasterActed {
-    if out.resends == MOST_RESENDS {
-        return ends(End::Failed, count);
-    }
-    let resends = out.resends + 1;
-    sends(BlockOut { resends, ..out }, count, numbering)
-}
-
-/// A reply while a block is out.
-fn replied(
-    reply: u64,
-    number: u64,
-    out: BlockOut,
+/// An open master but for the block out.
+#[derive(Clone, Copy)]
+struct Opened {
+    noted: Noted,
     count: u64,
     numbering: Numbering,
-) -> MasterActed {
-    let own = numbering.number(&out, count);
-    match reply {
-        REPLY_EOT => ends(End::BySlave, count),
-        REPLY_NAK => sends_again(out, count, numbering),
-        REPLY_ACK if number == own => match count.checked_add(1) {
-            Some(count) => goes_on(out, count, numbering),
-            None => stays(Master::Waiting(out, count)),
-        },
-        REPLY_ACK if number == number_just_before(own) => sends_again(out, count, numbering),
-        _ => stays(Master::Waiting(out, count)),
-    }
 }
 
-/// The block out is acknowledged, the count being so much with it.
-fn goes_on(out: BlockOut, count: u64, numbering: Numbering) -> MasterActed {
-    let left = out.message_length - out.offset;
-    let is_last = left <= out.block_size;
-    let (master, report) = if is_last {
-        (Master::Idle(count), Report::nothing(count, 0))
-    } else {
-        let next = BlockOut {
-            offset: out.offset + out.block_size,
-            resends: 0,
-            ..out
+impl Opened {
+    /// What the driver wishes with no block out.
+    fn idle_act(self, act: &MasterAct) -> MasterActed {
+        match *act {
+            MasterAct::Start {
+                message_length,
+                block_size,
+            } => self.sends(BlockOut::first(message_length, block_size)),
+            MasterAct::Close => ends(End::ByDriver, self.count),
+            MasterAct::MayReceive if self.noted.is_interrupted => ends(End::Reversed, self.count),
+            _ => MasterActed::Refused(11),
+        }
+    }
+
+    /// What the driver wishes while a block is out.
+    fn waiting_act(self, out: BlockOut, act: &MasterAct) -> MasterActed {
+        match *act {
+            MasterAct::Enquire => {
+                let is_enquired = true;
+                self.says(BlockOut { is_enquired, ..out }, Transmit::Enq)
+            }
+            MasterAct::MayReceive if self.noted.is_interrupted => {
+                let may_receive = true;
+                self.waits(BlockOut { may_receive, ..out })
+            }
+            _ => MasterActed::Refused(11),
+        }
+    }
+
+    fn waits(self, out: BlockOut) -> MasterActed {
+        stays(Master::Waiting(out, self.noted, self.count))
+    }
+
+    fn says(self, out: BlockOut, transmit: Transmit<Part>) -> MasterActed {
+        let report = Report {
+            transmit,
+            ..Report::nothing(self.count, out.resends)
         };
-        let MasterActed::Done(master, report) = sends(next, count, numbering) else {
-            unreachable!("sending is not refused");
+        MasterActed::Done(Master::Waiting(out, self.noted, self.count), report)
+    }
+
+    /// The block out goes onto the line, and the master waits for its reply.
+    fn sends(self, out: BlockOut) -> MasterActed {
+        let text = Part {
+            offset: out.offset,
+            length: (out.message_length - out.offset).min(out.block_size),
         };
-        (master, report)
-    };
-    let report = Report {
-        acknowledged: true,
-        done: is_last,
-        ..report
-    };
-    MasterActed::Done(master, report)
+        let block = Transmit::Block {
+            number: self.numbering.number(&out, self.count),
+            ending: if out.is_last() { ETX } else { ETB },
+            text,
+        };
+        let is_enquired = false;
+        self.says(BlockOut { is_enquired, ..out }, block)
+    }
+
+    /// "at most 5 times a block (000's L); the next time it sends EOT and reports failure"
+    fn sends_again(self, out: BlockOut) -> MasterActed {
+        if out.resends == MOST_RESENDS {
+            return ends(End::Failed, self.count);
+        }
+        let resends = out.resends + 1;
+        self.sends(BlockOut { resends, ..out })
+    }
+
+    /// A reply other than EOT while a block is out.
+    fn replied(self, out: BlockOut, reply: u64, number: u64) -> MasterActed {
+        let own = self.numbering.number(&out, self.count);
+        let is_doubtful = self.noted.makes_rint_doubtful(out.is_enquired);
+        let noted = self.noted.with(reply);
+        let then = Opened { noted, ..self };
+        match reply {
+            REPLY_ACK if number == own => then.acknowledged(out),
+            REPLY_RINT if !is_doubtful => then.acknowledged(out),
+            REPLY_ACK if number == number_just_before(own) => then.sends_again(out),
+            REPLY_NAK | REPLY_RINT => then.sends_again(out),
+            _ => then.waits(out),
+        }
+    }
+
+    /// The block out is acknowledged, if that can be counted.
+    fn acknowledged(self, out: BlockOut) -> MasterActed {
+        let Some(count) = self.count.checked_add(1) else {
+            return self.waits(out);
+        };
+        let then = Opened { count, ..self };
+        let next = match out.is_last() {
+            _ if out.may_receive => ends(End::Reversed, count),
+            true => stays(Master::Idle(self.noted, count)),
+            false => then.sends(BlockOut {
+                offset: out.offset + out.block_size,
+                resends: 0,
+                ..out
+            }),
+        };
+        let MasterActed::Done(master, report) = next else {
+            unreachable!("an acknowledgment is not refused");
+        };
+        let report = Report {
+            acknowledged: true,
+            done: out.is_last(),
+            ..report
+        };
+        MasterActed::Done(master, report)
+    }
 }
 
 /// What the driver tells the master, with the message itself.
@@ -396,6 +529,8 @@ pub enum Told<'a> {
     Reply { reply: u64, number: u64 },
     Timer,
     Close,
+    Enquire,
+    MayReceive,
 }
 
 impl Told<'_> {
@@ -412,6 +547,8 @@ impl Told<'_> {
             Told::Reply { reply, number } => MasterAct::Reply { reply, number },
             Told::Timer => MasterAct::Timer,
             Told::Close => MasterAct::Close,
+            Told::Enquire => MasterAct::Enquire,
+            Told::MayReceive => MasterAct::MayReceive,
         }
     }
 }
@@ -429,6 +566,11 @@ struct Opening<'a> {
     /// The blocks of the message that are not yet acknowledged; the first of them is out.
     blocks: VecDeque<&'a [u8]>,
     sends: u64,
+    /// All undamaged replies.
+    replies: Vec<u64>,
+    /// Whether each that was sent is an ENQ, and not a block.
+    sent_enq: Vec<bool>,
+    may_receive: bool,
 }
 
 /// "a message cut into blocks at a given size"; "an empty message goes as one empty block".
@@ -440,8 +582,9 @@ pub fn blocks_of(message: &[u8], block_size: u64) -> Vec<&[u8]> {
 }
 
 /// What the master says to each of these, from before the first opening. Here the number of a block
-/// follows from that of the block before it, its ending from the blocks left of its message, and its
-/// resends are the sends after the first.
+/// follows from that of the block before it, its ending from the blocks left of its message, its resends
+/// are the sends after the first, and whether a RINT is an acceptance from the lists of what came and of
+/// what was sent.
 pub fn answers<'a>(told: &[Told<'a>]) -> Vec<Answer<'a>> {
     let mut opening = Opening::default();
     told.iter().map(|act| opening.answer(act)).collect()
@@ -452,8 +595,10 @@ impl<'a> Opening<'a> {
         let is_waiting = !self.blocks.is_empty();
         match *told {
             Told::Start { block_size: 0, .. } => Err(1),
-            Told::Reply { reply, .. } if reply == 0 || reply > REPLY_DAMAGED => Err(1),
+            Told::Reply { reply, .. } if reply == 0 || reply > REPLY_RINT => Err(1),
             Told::Start { .. } | Told::Close if !self.is_open || is_waiting => Err(11),
+            Told::Enquire if !is_waiting => Err(11),
+            Told::MayReceive if !self.replies.contains(&REPLY_RINT) => Err(11),
             Told::Open => {
                 *self = Opening::default();
                 self.is_open = true;
@@ -468,6 +613,8 @@ impl<'a> Opening<'a> {
                 Ok(self.send())
             }
             Told::Close => Ok(self.end(End::ByDriver)),
+            Told::Enquire => Ok(self.enquire()),
+            Told::MayReceive => Ok(self.leave_to_receive()),
             Told::Timer if is_waiting => Ok(self.send()),
             Told::Reply { reply, number } if self.is_open => Ok(self.reply(reply, number)),
             Told::Timer | Told::Reply { .. } => Ok(self.nothing()),
@@ -478,11 +625,14 @@ impl<'a> Opening<'a> {
         Report::nothing(self.acknowledged, self.sends.saturating_sub(1))
     }
 
+    /// Only the count is kept.
     fn end(&mut self, end: End) -> Report<&'a [u8]> {
-        self.is_open = false;
-        self.blocks.clear();
-        self.sends = 0;
-        Report::ended(end, self.acknowledged)
+        let acknowledged = self.acknowledged;
+        *self = Opening {
+            acknowledged,
+            ..Opening::default()
+        };
+        Report::ended(end, acknowledged)
     }
 
     /// The block out is sent, or the sends are used up: one and five more.
@@ -491,6 +641,7 @@ impl<'a> Opening<'a> {
             return self.end(End::Failed);
         }
         self.sends += 1;
+        self.sent_enq.push(false);
         let transmit = Transmit::Block {
             number: (self.newest + 1) % 8,
             ending: if self.blocks.len() == 1 { ETX } else { ETB },
@@ -502,15 +653,53 @@ impl<'a> Opening<'a> {
         }
     }
 
+    fn enquire(&mut self) -> Report<&'a [u8]> {
+        self.sent_enq.push(true);
+        Report {
+            transmit: Transmit::Enq,
+            ..self.nothing()
+        }
+    }
+
+    /// "ends with EOT when the block out is accepted, at once if none is out"
+    fn leave_to_receive(&mut self) -> Report<&'a [u8]> {
+        if self.blocks.is_empty() {
+            return self.end(End::Reversed);
+        }
+        self.may_receive = true;
+        self.nothing()
+    }
+
+    /// "no acceptance if the last undamaged reply before it .. was a RINT, or was a NAK and the master last
+    /// sent ENQ"
+    fn is_rint_accepted(&self) -> bool {
+        let was_enq = self.sent_enq.last() == Some(&true);
+        match self.replies.last() {
+            Some(&REPLY_RINT) => false,
+            Some(&REPLY_NAK) => !was_enq,
+            _ => true,
+        }
+    }
+
     /// A reply to an open master.
     fn reply(&mut self, reply: u64, number: u64) -> Report<&'a [u8]> {
-        let is_waiting = !self.blocks.is_empty();
+        let is_rint_accepted = self.is_rint_accepted();
         match reply {
-            REPLY_EOT => self.end(End::BySlave),
-            REPLY_NAK if is_waiting => self.send(),
-            REPLY_ACK if is_waiting && number == self.newest => self.send(),
-            REPLY_ACK if is_waiting && number == (self.newest + 1) % 8 => self.acknowledged(number),
-            _ => self.nothing(),
+            REPLY_EOT => return self.end(End::BySlave),
+            REPLY_DAMAGED => return self.nothing(),
+            _ => self.replies.push(reply),
+        }
+        let own = (self.newest + 1) % 8;
+        let is_acceptance = match reply {
+            _ if self.blocks.is_empty() => return self.nothing(),
+            REPLY_ACK if number == own => true,
+            REPLY_ACK if number == self.newest => false,
+            REPLY_ACK => return self.nothing(),
+            _ => reply == REPLY_RINT && is_rint_accepted,
+        };
+        match is_acceptance {
+            true => self.acknowledged(own),
+            false => self.send(),
         }
     }
 
@@ -519,7 +708,11 @@ impl<'a> Opening<'a> {
         self.acknowledged += 1;
         self.blocks.pop_front();
         let done = self.blocks.is_empty();
-        let then = if done { self.nothing() } else { self.send() };
+        let then = match done {
+            _ if self.may_receive => self.end(End::Reversed),
+            true => self.nothing(),
+            false => self.send(),
+        };
         Report {
             acknowledged: true,
             done,

@@ -46,6 +46,20 @@ pub mod raw {
             report: *mut u64,
             report_words: usize,
         ) -> u64;
+
+        pub fn gmv_station_bare_enq(
+            state: *mut u64,
+            state_words: usize,
+            report: *mut u64,
+            report_words: usize,
+        ) -> u64;
+
+        pub fn gmv_station_interrupt(
+            state: *mut u64,
+            state_words: usize,
+            report: *mut u64,
+            report_words: usize,
+        ) -> u64;
     }
 }
 
@@ -67,6 +81,10 @@ pub fn station_act(unit: &Unit, buffer: &mut [u8], state: &mut [u64], report: &m
             Unit::Bad => raw::gmv_station_bad(words, length, report_pointer, report_words),
             Unit::Enquiry => raw::gmv_station_enquiry(words, length, report_pointer, report_words),
             Unit::End => raw::gmv_station_end(words, length, report_pointer, report_words),
+            Unit::BareEnq => raw::gmv_station_bare_enq(words, length, report_pointer, report_words),
+            Unit::Interrupt => {
+                raw::gmv_station_interrupt(words, length, report_pointer, report_words)
+            }
             Unit::Block {
                 number,
                 ending,

@@ -7,18 +7,21 @@ use crate::guarded::same;
 use crate::make_master::{self, sizes_around, PlannedTold};
 use host::master_model::{
     self, Answer, End, Master, Report, Told, Transmit, REPLY_ACK, REPLY_DAMAGED, REPLY_NAK,
+    REPLY_RINT,
 };
+use host::station_model::LastReply;
 
 /// A master in the middle of its history, and what it said so far.
-struct History {
-    memory: MasterMemory,
+#[derive(Clone)]
+pub struct History {
+    pub memory: MasterMemory,
     told: Vec<PlannedTold>,
     said: Vec<MasterAnswer>,
 }
 
 impl History {
     /// Before the first opening.
-    fn new(compare: &mut Compare) -> Result<History, String> {
+    pub fn new(compare: &mut Compare) -> Result<History, String> {
         Ok(History {
             memory: MasterMemory::fresh(compare)?,
             told: Vec::new(),
@@ -26,7 +29,11 @@ impl History {
         })
     }
 
-    fn act(&mut self, compare: &mut Compare, planned: PlannedTold) -> Result<MasterAnswer, String> {
+    pub fn act(
+        &mut self,
+        compare: &mut Compare,
+        planned: PlannedTold,
+    ) -> Result<MasterAnswer, String> {
         let answer = compare.master_act(&mut self.memory, &planned.told().act())?;
         self.said.push(answer);
         self.told.push(planned);
@@ -53,7 +60,7 @@ impl History {
     }
 
     /// The whole history gives what was said, act by act.
-    fn end(&self) -> Outcome {
+    pub fn end(&self) -> Outcome {
         let told: Vec<Told> = self.told.iter().map(PlannedTold::told).collect();
         let expected = master_model::answers(&told);
         same("answer of a history", &self.answers()?, &expected)
@@ -79,13 +86,15 @@ fn said<'a>(answer: &MasterAnswer, message: &'a [u8]) -> Result<Answer<'a>, Stri
                 text,
             }
         }
-        _ => Transmit::Eot,
+        2 => Transmit::Eot,
+        _ => Transmit::Enq,
     };
     let end = match end {
         0 => End::No,
         1 => End::Failed,
         2 => End::BySlave,
-        _ => End::ByDriver,
+        3 => End::ByDriver,
+        _ => End::Reversed,
     };
     Ok(Ok(Report {
         transmit,
@@ -99,7 +108,7 @@ fn said<'a>(answer: &MasterAnswer, message: &'a [u8]) -> Result<Answer<'a>, Stri
 
 /// Any acts at any time.
 pub fn master_histories(compare: &mut Compare) -> Outcome {
-    for _ in 0..30_000 {
+    for _ in 0..36_000 {
         let mut history = History::new(compare)?;
         for _ in 0..compare.random.between(1, 120) {
             let master = history.memory.master()?;
@@ -111,12 +120,21 @@ pub fn master_histories(compare: &mut Compare) -> Outcome {
     Ok(())
 }
 
-/// A reply of a line that works well: now and then a block is sent again, and never six times.
+/// What a master with a block out noted as the last reply.
+fn last_reply(master: &Master) -> LastReply {
+    match master {
+        Master::Waiting(_, noted, _) => noted.last_reply,
+        Master::Closed(_) | Master::Idle(..) => LastReply::Nothing,
+    }
+}
+
+/// A reply of a line that works well: now and then a block is sent again, and never six times; an enquiry
+/// comes between, and RINT in place of ACK where that was the last reply.
 fn good_reply(compare: &mut Compare, master: &Master) -> PlannedTold {
     let own = make_master::own_number(master);
     let resends = match master {
-        Master::Waiting(out, _) => out.resends,
-        Master::Closed(_) | Master::Idle(_) => 0,
+        Master::Waiting(out, ..) => out.resends,
+        Master::Closed(_) | Master::Idle(..) => 0,
     };
     let ack = |number| PlannedTold::Reply {
         reply: REPLY_ACK,
@@ -126,6 +144,11 @@ fn good_reply(compare: &mut Compare, master: &Master) -> PlannedTold {
         return ack(own);
     }
     match compare.random.below(24) {
+        5 | 6 if last_reply(master) == LastReply::Ack => PlannedTold::Reply {
+            reply: REPLY_RINT,
+            number: own,
+        },
+        7 => PlannedTold::Enquire,
         0 => PlannedTold::Timer,
         1 => PlannedTold::Reply {
             reply: REPLY_NAK,
@@ -231,7 +254,11 @@ pub fn master_limit(compare: &mut Compare) -> Outcome {
         for number in (1..=before).map(|index| index % 8) {
             let causes = compare.random.below(6);
             causes_in_a_row(compare, &mut history, number, causes)?;
-            let reply = REPLY_ACK;
+            let is_rint = last_reply(&history.memory.master()?) == LastReply::Ack;
+            let reply = match is_rint && compare.random.one_in(2) {
+                true => REPLY_RINT,
+                false => REPLY_ACK,
+            };
             answer = history.act(compare, PlannedTold::Reply { reply, number })?;
         }
         let mut sends = 0;
@@ -260,12 +287,19 @@ fn causes_in_a_row(
 ) -> Result<MasterAnswer, String> {
     let mut last = Err("no cause".to_string());
     for _ in 0..causes {
-        let planned = match compare.random.below(3) {
+        let before = last_reply(&history.memory.master()?);
+        if before == LastReply::Nak && compare.random.one_in(3) {
+            history.act(compare, PlannedTold::Enquire)?;
+            last = history.act(compare, rint());
+            continue;
+        }
+        let planned = match compare.random.below(4) {
             0 => PlannedTold::Timer,
             1 => PlannedTold::Reply {
                 reply: REPLY_NAK,
                 number: compare.random.draw(),
             },
+            2 if before == LastReply::Rint => rint(),
             _ => PlannedTold::Reply {
                 reply: REPLY_ACK,
                 number: master_model::number_just_before(own),
@@ -277,4 +311,11 @@ fn causes_in_a_row(
         return Ok(history.said[history.said.len() - 1]);
     }
     last
+}
+
+fn rint() -> PlannedTold {
+    PlannedTold::Reply {
+        reply: REPLY_RINT,
+        number: 0,
+    }
 }

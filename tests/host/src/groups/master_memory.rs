@@ -37,6 +37,9 @@ pub fn master_guard_pages(compare: &mut Compare) -> Outcome {
                 at_end,
             )?;
         }
+        for act in [MasterAct::Enquire, MasterAct::MayReceive] {
+            guarded_act(compare, &mut guarded, &mut words, &act, at_end)?;
+        }
     }
     Ok(())
 }

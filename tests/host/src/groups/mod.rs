@@ -20,8 +20,10 @@ mod refusals;
 mod sender;
 mod sender_interruptions;
 mod sender_words;
+mod short_histories;
 mod states;
 mod station;
+mod station_interrupts;
 mod station_memory;
 mod station_words;
 mod stations_links;
@@ -36,7 +38,7 @@ use crate::compare::{Compare, Outcome};
 
 pub type Group = fn(&mut Compare) -> Outcome;
 
-pub const ALL: &[(&str, Group)] = &[
+const ALL: &[(&str, Group)] = &[
     ("version", version::version),
     ("every_file_of_cases", cases::every_file),
     ("cases_of_blocks", |compare| cases::file(compare, "blocks")),
@@ -165,6 +167,12 @@ pub const ALL: &[(&str, Group)] = &[
     ("station_histories", station::station_histories),
     ("station_progress", station::station_progress),
     ("station_repeats", station::station_repeats),
+    (
+        "station_short_histories",
+        short_histories::station_short_histories,
+    ),
+    ("station_interrupts", station_interrupts::station_interrupts),
+    ("station_enquiries", station_interrupts::station_enquiries),
     ("station_large_buffers", station::station_large_buffers),
     ("station_opened_again", station::station_opened_again),
     ("station_other_lengths", station::station_other_lengths),
@@ -173,6 +181,7 @@ pub const ALL: &[(&str, Group)] = &[
         station_words::station_corrupt_words,
     ),
     ("station_small_words", station_words::station_small_words),
+    ("station_reply_words", station_words::station_reply_words),
     ("station_refusals", station_words::station_refusals),
     ("station_short_words", station_words::station_short_words),
     ("station_guard_pages", station_memory::station_guard_pages),
@@ -180,6 +189,10 @@ pub const ALL: &[(&str, Group)] = &[
     ("master_numbers", master_words::master_numbers),
     ("master_pairs", master_words::master_pairs),
     ("master_histories", master::master_histories),
+    (
+        "master_short_histories",
+        short_histories::master_short_histories,
+    ),
     ("master_messages", master::master_messages),
     ("master_sizes", master::master_sizes),
     ("master_limit", master::master_limit),
@@ -188,11 +201,38 @@ pub const ALL: &[(&str, Group)] = &[
     ("master_large_parts", master_words::master_large_parts),
     ("master_corrupt_words", master_words::master_corrupt_words),
     ("master_small_words", master_words::master_small_words),
+    ("master_reply_words", master_words::master_reply_words),
     ("master_refusals", master_words::master_refusals),
     ("master_short_words", master_words::master_short_words),
     ("master_guard_pages", master_memory::master_guard_pages),
     ("stations_links", stations_links::stations_links),
     ("broken_premises", stations_links::broken_premises),
+    ("wrong_readings", stations_links::wrong_readings),
     ("premise_runs", stations_runs::premise_runs),
+    ("reading_runs", stations_runs::reading_runs),
     ("stations_walk", stations_walk::stations_walk),
+    (
+        "stations_turning_walk",
+        stations_walk::stations_turning_walk,
+    ),
+    ("stations_long_walk", stations_walk::stations_long_walk),
+    ("stations_noisy_walk", stations_walk::stations_noisy_walk),
 ];
+
+/// Groups that take too long for every run, and run only where they are named.
+const APART: &[(&str, Group)] = &[("stations_large_walk", stations_walk::stations_large_walk)];
+
+pub fn is_apart(name: &str) -> bool {
+    APART.iter().any(|(apart, _)| *apart == name)
+}
+
+/// The groups to run: the one of this name, or all but those apart.
+pub fn named(only: Option<&str>) -> Vec<(&'static str, Group)> {
+    match only {
+        None => ALL.to_vec(),
+        Some(wanted) => {
+            let known = ALL.iter().chain(APART);
+            known.filter(|(name, _)| *name == wanted).copied().collect()
+        }
+    }
+}

@@ -6,20 +6,20 @@ use crate::compare_station::{StationAnswer, StationCall, StationMemory};
 use crate::guarded::same;
 use crate::make_station::{self, Planned};
 use host::prng::Random;
-use host::station_model::{self, Answer, Reply, Station, Unit, ETB, STATION_REPORT_WORDS};
+use host::station_model::{self, Answer, Reply, Said, Station, Unit, ETB, STATION_REPORT_WORDS};
 
 /// A station in the middle of its history, and what it said so far.
 #[derive(Clone)]
-struct History {
-    memory: StationMemory,
+pub struct History {
+    pub memory: StationMemory,
     units: Vec<Planned>,
-    said: Vec<Answer>,
+    pub said: Vec<Said>,
 }
 
 /// What the histories of a group came to; a group in which something hardly happened tests little.
 #[derive(Default)]
 struct Seen {
-    replies: [u64; 4],
+    replies: [u64; 5],
     messages: u64,
     in_several_blocks: u64,
     most_in_one_opening: u64,
@@ -29,7 +29,7 @@ struct Seen {
 
 impl History {
     /// Before the first opening.
-    fn new(compare: &mut Compare, space: usize) -> Result<History, String> {
+    pub fn new(compare: &mut Compare, space: usize) -> Result<History, String> {
         Ok(History {
             memory: StationMemory::fresh(compare, space)?,
             units: Vec::new(),
@@ -41,9 +41,11 @@ impl History {
         self.memory.buffer().len()
     }
 
-    fn act(&mut self, compare: &mut Compare, planned: Planned) -> Outcome {
+    /// Only asking for RINT may be refused, by 11.
+    pub fn act(&mut self, compare: &mut Compare, planned: Planned) -> Outcome {
         let answer = compare.station_act(&mut self.memory, &planned.unit())?;
-        if answer.number != 0 {
+        let is_asking = matches!(planned, Planned::Interrupt);
+        if answer.number != 0 && !(is_asking && answer.number == 11) {
             let unit = planned.unit();
             return Err(format!("{unit:?} was refused by {}", answer.number));
         }
@@ -52,13 +54,20 @@ impl History {
         Ok(())
     }
 
-    fn messages(&self) -> Vec<&[u8]> {
-        let messages = self.said.iter().map(|answer| answer.message.as_deref());
-        messages.flatten().collect()
+    pub fn messages(&self) -> Vec<&[u8]> {
+        let answers = self.said.iter().flatten();
+        answers
+            .flat_map(|answer| answer.message.as_deref())
+            .collect()
+    }
+
+    pub fn last_reply(&self) -> Option<Reply> {
+        let said = self.said.last()?.as_ref();
+        said.ok().map(|answer| answer.reply)
     }
 
     /// The whole history gives what was said, unit by unit.
-    fn end(&self) -> Outcome {
+    pub fn end(&self) -> Outcome {
         let units: Vec<Unit> = self.units.iter().map(Planned::unit).collect();
         let expected = station_model::answers(&units, self.space());
         same("answer of a history", &self.said, &expected)
@@ -66,38 +75,43 @@ impl History {
 }
 
 /// What a report says: the reply, and the message that stands at the buffer's start.
-fn said(answer: &StationAnswer, memory: &StationMemory) -> Answer {
+fn said(answer: &StationAnswer, memory: &StationMemory) -> Said {
+    if answer.number != 0 {
+        return Err(answer.number);
+    }
     let [reply, number, complete, length] = answer.report;
     let message = &memory.buffer()[..length as usize];
-    Answer {
+    Ok(Answer {
         reply: match reply {
             0 => Reply::Nothing,
             1 => Reply::Ack(number),
             2 => Reply::Nak,
-            _ => Reply::Eot,
+            3 => Reply::Eot,
+            _ => Reply::Rint,
         },
         message: (complete == 1).then(|| message.to_vec()),
-    }
+    })
 }
 
 impl Seen {
     fn count(&mut self, history: &History) {
         let (mut messages, mut blocks, mut held, mut newest) = (0, 0, 0, 0);
-        for (planned, answer) in history.units.iter().zip(&history.said) {
-            let reply = match answer.reply {
-                Reply::Nothing => 0,
-                Reply::Ack(_) => 1,
-                Reply::Nak => 2,
-                Reply::Eot => 3,
+        for (planned, said) in history.units.iter().zip(&history.said) {
+            let Ok(answer) = said else {
+                continue;
             };
-            self.replies[reply] += 1;
+            self.replies[reply_index(answer.reply)] += 1;
             if matches!(planned, Planned::Opened) {
                 (messages, blocks, held, newest) = (0, 0, 0, 0);
             }
-            if let Reply::Ack(number) = answer.reply {
-                let taken = u64::from(number != newest);
-                (blocks, held, newest) = (blocks + taken, held + taken, number);
-            }
+            let is_block = matches!(planned, Planned::Block { .. });
+            let acknowledged = match answer.reply {
+                Reply::Ack(number) => number,
+                Reply::Rint if is_block => (newest + 1) % 8,
+                _ => newest,
+            };
+            let taken = u64::from(acknowledged != newest);
+            (blocks, held, newest) = (blocks + taken, held + taken, acknowledged);
             if answer.message.is_some() {
                 messages += 1;
                 self.messages += 1;
@@ -116,6 +130,7 @@ impl Seen {
             ("replies ACK", self.replies[1], least),
             ("replies NAK", self.replies[2], least),
             ("replies EOT", self.replies[3], least),
+            ("replies RINT", self.replies[4], least),
             ("messages", self.messages, least),
             ("messages in several blocks", self.in_several_blocks, least),
             ("messages in one opening", self.most_in_one_opening, 8),
@@ -127,6 +142,16 @@ impl Seen {
             }
         }
         Ok(())
+    }
+}
+
+fn reply_index(reply: Reply) -> usize {
+    match reply {
+        Reply::Nothing => 0,
+        Reply::Ack(_) => 1,
+        Reply::Nak => 2,
+        Reply::Eot => 3,
+        Reply::Rint => 4,
     }
 }
 
@@ -143,7 +168,7 @@ fn any_space(random: &mut Random) -> usize {
 /// Any units at any time, with buffers of 0 to 400 bytes.
 pub fn station_histories(compare: &mut Compare) -> Outcome {
     let mut seen = Seen::default();
-    for _ in 0..10_000 {
+    for _ in 0..20_000 {
         let space = any_space(&mut compare.random);
         let mut history = History::new(compare, space)?;
         for _ in 0..compare.random.between(1, 120) {
@@ -159,7 +184,7 @@ pub fn station_histories(compare: &mut Compare) -> Outcome {
 
 /// A unit of a line that works well: short blocks, and now and then one sent twice, damaged or out of
 /// order.
-fn good_unit(random: &mut Random, station: &Station, space: usize) -> Planned {
+pub fn good_unit(random: &mut Random, station: &Station, space: usize) -> Planned {
     let (expected, left) = make_station::expected_and_left(station, space);
     if *station == Station::Closed {
         return Planned::Opened;
@@ -235,8 +260,11 @@ fn report_to_both(
     once.act(compare, planned.clone())?;
     for _ in 0..compare.random.between(1, 5) {
         repeated.act(compare, planned.clone())?;
-        let reply = repeated.said.last().map(|answer| answer.reply);
-        same("reply", &[reply], &[Some(Reply::Ack(number))])?;
+        same(
+            "reply",
+            &[repeated.last_reply()],
+            &[Some(Reply::Ack(number))],
+        )?;
         same("word", &repeated.memory.state, &once.memory.state)?;
         same("buffer", repeated.memory.buffer(), once.memory.buffer())?;
     }
@@ -331,7 +359,7 @@ pub fn station_opened_again(compare: &mut Compare) -> Outcome {
 }
 
 /// The driver lends a shorter or a longer part of its buffer than before: each call is answered by its
-/// own words and lengths, and none refused.
+/// own words and lengths, and none refused but asking for RINT.
 pub fn station_other_lengths(compare: &mut Compare) -> Outcome {
     let mut too_long = 0;
     for _ in 0..4_000 {
@@ -350,11 +378,11 @@ pub fn station_other_lengths(compare: &mut Compare) -> Outcome {
             };
             let block = matches!(call.unit, Unit::Block { .. });
             too_long += u64::from(block && memory.state[2] > length as u64);
-            same(
-                "number",
-                &[compare.station_call(&mut memory, &call)?.number],
-                &[0],
-            )?;
+            let is_asking = matches!(call.unit, Unit::Interrupt);
+            let answer = compare.station_call(&mut memory, &call)?;
+            if !is_asking {
+                same("number", &[answer.number], &[0])?;
+            }
         }
     }
     if too_long < 2_000 {

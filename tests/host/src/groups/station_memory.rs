@@ -4,7 +4,7 @@ use super::memory::Pages;
 use crate::compare::{Compare, Outcome};
 use crate::compare_station::{text_of, unit_text, with_text};
 use crate::guarded::same;
-use crate::make_station::{any_unit, block};
+use crate::make_station::{any_unit, block, open_words};
 use host::station_ffi;
 use host::station_model::{
     self, Acted, Lengths, Station, Unit, ETX, STATION_REPORT_WORDS, STATION_WORDS,
@@ -35,8 +35,11 @@ pub fn station_guard_pages(compare: &mut Compare) -> Outcome {
             _ => compare.random.below(300),
         };
         let mut words = match compare.random.below(2) {
-            0 => [0, 0, 0],
-            _ => [1, compare.random.below(8) as u64, 0],
+            0 => [0; STATION_WORDS],
+            _ => {
+                let expected = compare.random.below(8) as u64;
+                open_words(&mut compare.random, expected, 0)
+            }
         };
         for _ in 0..8 {
             let station = Station::decode(&words).ok_or_else(|| format!("no state: {words:?}"))?;
@@ -45,14 +48,10 @@ pub fn station_guard_pages(compare: &mut Compare) -> Outcome {
             guarded_act(compare, &mut guarded, &mut words, space, &unit, at_end)?;
         }
         let (number, text) = (words[1], compare.random.bytes(space));
-        guarded_act(
-            compare,
-            &mut guarded,
-            &mut words,
-            space,
-            &block(number, ETX, &text),
-            at_end,
-        )?;
+        let last = block(number, ETX, &text);
+        for unit in [Unit::Interrupt, Unit::BareEnq, last] {
+            guarded_act(compare, &mut guarded, &mut words, space, &unit, at_end)?;
+        }
     }
     Ok(())
 }

@@ -1,16 +1,18 @@
-//! Links of the library's two X3.28 stations, under what document 02, §3, allows; and with a premise
-//! broken, which must be found.
+//! Links of the library's two X3.28 stations, under what document 02, §3 and §14, allow; and with a premise
+//! broken or a station that reads §14 wrongly, which must be found.
 
 use crate::compare::{Compare, Outcome};
 use crate::make_master::sizes_around;
 use crate::stations_counts::{StationsCounts, StationsKind as Kind};
-use crate::stations_link::{Back, Beginning, Link, LinkAct, MasterOf, Way};
+use crate::stations_link::{Beginning, Link, MasterOf};
 use crate::stations_plan::Plan;
+use crate::stations_readings::Reading;
+use crate::stations_units::{Back, LinkAct, Way, FORWARD_NOISE};
 use host::master_model::Numbering;
 use host::prng::Random;
 
 /// How many calls of the two stations a group of links makes.
-const CALLS: u64 = 20_000_000;
+const CALLS: u64 = 36_000_000;
 
 /// How many units a line holds.
 const CAPACITY: usize = 12;
@@ -26,12 +28,21 @@ enum Broken {
     EmptyLine,
     OneOpening,
     Numbers,
+    /// A NAK that the slave did not give comes in after a RINT that it gave.
+    NakAfterRint,
 }
 
 /// How often what happens, each once in so many acts.
 struct Weather {
     loss: usize,
     damage: usize,
+    noise: usize,
+    repetition: usize,
+    enquiry: usize,
+    asking: usize,
+    leave: usize,
+    /// An EOT of a driver that no station gave.
+    own_eot: usize,
     early_timer: usize,
     slave_opens: usize,
     eot_instead: usize,
@@ -48,6 +59,12 @@ impl Weather {
         Weather {
             loss: random.pick(&[6, 12, 30, 100, NEVER]),
             damage: random.pick(&[6, 12, 30, 100, NEVER]),
+            noise: random.pick(&[8, 20, 60, NEVER]),
+            repetition: random.pick(&[8, 20, 60, NEVER]),
+            enquiry: random.pick(&[3, 6, 20, 60, 200, NEVER]),
+            asking: random.pick(&[3, 10, 40, NEVER]),
+            leave: random.pick(&[20, 100, 400, NEVER, NEVER]),
+            own_eot: random.pick(&[100, 400, NEVER, NEVER, NEVER]),
             early_timer: random.pick(&[3, 6, 20, 60, 300, NEVER]),
             slave_opens: random.pick(&[1, 1, 1, 6, 20]),
             eot_instead: random.pick(&[80, 400, NEVER, NEVER]),
@@ -62,6 +79,12 @@ impl Weather {
         Weather {
             loss: NEVER,
             damage: NEVER,
+            noise: NEVER,
+            repetition: NEVER,
+            enquiry: NEVER,
+            asking: NEVER,
+            leave: NEVER,
+            own_eot: NEVER,
             early_timer: NEVER,
             slave_opens: 1,
             eot_instead: NEVER,
@@ -75,7 +98,7 @@ impl Weather {
 /// Some messages, each with a block size of its own.
 fn any_plan(random: &mut Random) -> Plan {
     let mut plan = Plan::default();
-    for _ in 0..random.between(1, 9) {
+    for _ in 0..random.between(1, 12) {
         let length = match random.below(8) {
             0 => 0,
             1 => random.between(20, 60),
@@ -103,8 +126,10 @@ fn any_beginning(random: &mut Random, plan: &Plan, master_of: MasterOf) -> Begin
     };
     Beginning {
         master_of,
+        reading: Reading::Right,
         capacity: CAPACITY,
         buffer_length,
+        answers_bids: random.one_in(2),
         with_corollaries: true,
     }
 }
@@ -127,24 +152,72 @@ fn any_unit(link: &Link, random: &mut Random) -> Option<(Way, usize)> {
     }
 }
 
-/// What disturbs a link, or is early.
-fn disturbance(link: &Link, random: &mut Random, weather: &Weather) -> Option<LinkAct> {
+/// What a reply that is damaged, or noise on its line, looks like. A NAK that the slave did not give does
+/// no harm as long as it has given no RINT.
+fn back_noise(link: &Link, random: &mut Random, broken: Broken) -> Back {
+    let may_be_nak = !link.progress.was_rint_given || broken == Broken::NakAfterRint;
+    match may_be_nak && random.one_in(2) {
+        true => Back::Nak,
+        false => Back::Damaged,
+    }
+}
+
+/// What the lines do.
+fn line_act(
+    link: &Link,
+    random: &mut Random,
+    weather: &Weather,
+    broken: Broken,
+) -> Option<LinkAct> {
+    if random.one_in(weather.loss) {
+        return any_unit(link, random).map(|(way, index)| LinkAct::Lose(way, index));
+    }
+    if random.one_in(weather.repetition) {
+        return any_unit(link, random).map(|(way, index)| LinkAct::Repeat(way, index));
+    }
+    if random.one_in(weather.damage) {
+        return any_unit(link, random).map(|(way, index)| match way {
+            Way::Forward => LinkAct::DamageUnit(index, random.pick(&FORWARD_NOISE)),
+            Way::Back => LinkAct::DamageReply(index, back_noise(link, random, broken)),
+        });
+    }
+    if random.one_in(weather.noise) {
+        return Some(if random.one_in(2) {
+            let index = random.below(link.forward.len() + 1);
+            LinkAct::UnitNoise(index, random.pick(&FORWARD_NOISE))
+        } else {
+            let index = random.below(link.back.len() + 1);
+            LinkAct::ReplyNoise(index, back_noise(link, random, broken))
+        });
+    }
+    None
+}
+
+/// What the drivers wish at any moment, or do too early.
+fn wish(link: &Link, random: &mut Random, weather: &Weather) -> Option<LinkAct> {
     if !link.was_slave_open && random.one_in(weather.slave_opens) {
         return Some(LinkAct::SlaveOpens);
     }
     if random.one_in(weather.early_timer) {
         return Some(LinkAct::TimerA);
     }
-    if random.one_in(weather.loss) {
-        return any_unit(link, random).map(|(way, index)| LinkAct::Lose(way, index));
+    if random.one_in(weather.enquiry) {
+        return Some(LinkAct::Enquire);
     }
-    if random.one_in(weather.damage) {
-        return any_unit(link, random).map(|(way, index)| LinkAct::Damage(way, index));
+    if random.one_in(weather.asking) {
+        return Some(LinkAct::Ask);
     }
-    if link.slave[0] == 1 && random.one_in(weather.timer_d) {
+    if random.one_in(weather.leave) {
+        return Some(LinkAct::MayReceive);
+    }
+    if link.is_slave_open() && random.one_in(weather.timer_d) {
         return Some(LinkAct::TimerD);
     }
-    None
+    let is_own_eot = random.one_in(weather.own_eot);
+    match is_own_eot && random.one_in(2) {
+        true if link.is_slave_open() => Some(LinkAct::SlaveEot),
+        _ => (is_own_eot && !link.is_closed()).then_some(LinkAct::MasterEot),
+    }
 }
 
 /// What happens next; nothing where the master is closed and the lines are empty.
@@ -154,8 +227,10 @@ fn next_act(
     weather: &Weather,
     broken: Broken,
 ) -> Option<LinkAct> {
-    if let Some(act) = disturbance(link, random, weather) {
-        return Some(act);
+    let disturbance = wish(link, random, weather);
+    let disturbance = disturbance.or_else(|| line_act(link, random, weather, broken));
+    if disturbance.is_some() {
+        return disturbance;
     }
     if link.is_idle() && (link.are_lines_empty() || random.one_in(weather.start)) {
         let is_last = link.progress.started == link.plan.messages.len();
@@ -213,6 +288,8 @@ fn run(random: &mut Random, master_of: MasterOf) -> Result<StationsCounts, Strin
     let one_more = progress.handed_over > progress.done;
     counts.add_if(Kind::OneMoreHandedOver, one_more);
     counts.add_if(Kind::AllDelivered, is_delivered);
+    let rints = counts.get(Kind::RintGiven);
+    counts.add_if(Kind::SeveralRints, rints > 1);
     Ok(link.counts)
 }
 
@@ -244,7 +321,7 @@ fn model_links(random: &mut Random) -> Outcome {
 /// How many runs may pass before what is wrong is found.
 const RUNS_TO_FIND: usize = 100_000;
 
-const PREMISES: [(Broken, &str); 4] = [
+const PREMISES: [(Broken, &str); 5] = [
     (Broken::Order, "order not kept"),
     (Broken::EmptyLine, "an old ACK on the line at the start"),
     (
@@ -252,10 +329,38 @@ const PREMISES: [(Broken, &str); 4] = [
         "the master opened again and the slave not",
     ),
     (Broken::Numbers, "numbers that restart with each message"),
+    (
+        Broken::NakAfterRint,
+        "a NAK that is none, after a RINT was given",
+    ),
 ];
 
-/// One run with a premise broken, in which only the three sentences are looked at.
-fn broken_run(random: &mut Random, broken: Broken) -> Outcome {
+const READINGS: [(Reading, &str); 6] = [
+    (Reading::NakIsNoReply, "no NAK is given again on ENQ"),
+    (
+        Reading::NakToEnqIsNoReply,
+        "a NAK to a damaged ENQ is not given again",
+    ),
+    (
+        Reading::RintForDuplicate,
+        "a duplicate of a block that got RINT gets it again",
+    ),
+    (
+        Reading::AskedWithoutAck,
+        "RINT is asked for with no ACK since the last",
+    ),
+    (
+        Reading::DoubtOnlyAfterEnq,
+        "a RINT after a RINT is refused only after ENQ",
+    ),
+    (
+        Reading::DamagedIsReply,
+        "a damaged reply counts as the reply before",
+    ),
+];
+
+/// One run with a premise broken or a wrong reading, in which only the sentences are looked at.
+fn broken_run(random: &mut Random, broken: Broken, reading: Reading) -> Outcome {
     let (first, plan) = (any_plan(random), any_plan(random));
     let master_of = match broken {
         Broken::Numbers => MasterOf::Model(Numbering::AnewWithEachMessage),
@@ -263,6 +368,7 @@ fn broken_run(random: &mut Random, broken: Broken) -> Outcome {
     };
     let beginning = Beginning {
         with_corollaries: false,
+        reading,
         ..any_beginning(random, &plan, master_of)
     };
     let mut link = Link::new(&plan, beginning)?;
@@ -273,7 +379,7 @@ fn broken_run(random: &mut Random, broken: Broken) -> Outcome {
             one_opening(&mut link, random)?;
             link.open_again(&plan)?;
         }
-        Broken::None | Broken::Order | Broken::Numbers => {}
+        Broken::None | Broken::Order | Broken::Numbers | Broken::NakAfterRint => {}
     }
     let weather = Weather::any(random);
     acts(&mut link, random, &weather, broken)
@@ -293,21 +399,35 @@ fn one_opening(link: &mut Link, random: &mut Random) -> Outcome {
     Ok(())
 }
 
-/// Each premise is needed: without it the three sentences find a run that breaks them.
+/// The sentences find a run that breaks them.
+fn is_found(random: &mut Random, broken: Broken, reading: Reading, what: &str) -> Outcome {
+    let failure = (1..=RUNS_TO_FIND).find_map(|number| {
+        let failure = broken_run(random, broken, reading).err();
+        failure.map(|why| (number, why))
+    });
+    match failure {
+        Some((number, why)) if why.contains("sentence (") => {
+            let why = why.split("; ").next().unwrap_or_default();
+            println!("  {what}: found in run {number} ({why})");
+            Ok(())
+        }
+        other => Err(format!("{what}: {other:?}")),
+    }
+}
+
+/// Each premise is needed: without it the sentences find a run that breaks them.
 pub fn broken_premises(compare: &mut Compare) -> Outcome {
     model_links(&mut compare.random)?;
     for (broken, what) in PREMISES {
-        let failure = (1..=RUNS_TO_FIND).find_map(|number| {
-            let failure = broken_run(&mut compare.random, broken).err();
-            failure.map(|why| (number, why))
-        });
-        match failure {
-            Some((number, why)) if why.contains("sentence (") => {
-                let why = why.split("; ").next().unwrap_or_default();
-                println!("  {what}: found in run {number} ({why})");
-            }
-            other => return Err(format!("{what}: {other:?}")),
-        }
+        is_found(&mut compare.random, broken, Reading::Right, what)?;
+    }
+    Ok(())
+}
+
+/// So it is with each wrong reading of §14 in one of the stations, all premises kept.
+pub fn wrong_readings(compare: &mut Compare) -> Outcome {
+    for (reading, what) in READINGS {
+        is_found(&mut compare.random, Broken::None, reading, what)?;
     }
     Ok(())
 }

@@ -1,57 +1,142 @@
 //! Every reachable state of a small link of the library's two X3.28 stations. A state is the words of both
-//! stations, the units on the lines and what the three sentences speak of; it goes from state to state by
-//! calls of the C functions. The sentences are held in every state.
+//! stations, the units on the lines and what the sentences speak of; it goes from state to state by calls of
+//! the C functions. The sentences are held in every state.
 
 use crate::compare::{Compare, Outcome};
 use crate::guarded::same;
-use crate::stations_checks::Progress;
+use crate::stations_checks::{Given, Heard, Progress};
 use crate::stations_counts::{StationsCounts, StationsKind as Kind};
-use crate::stations_link::{Back, Beginning, BlockUnit, Forward, Link, LinkAct, MasterOf, Way};
+use crate::stations_link::{Beginning, Link, MasterOf};
 use crate::stations_plan::Plan;
+use crate::stations_readings::Reading;
+use crate::stations_units::{Back, BlockUnit, Forward, LinkAct, Way};
 use std::collections::HashSet;
 use std::hash::{BuildHasherDefault, Hasher};
 
 /// How many units a key has bits for, each way.
 const MOST_UNITS: usize = 4;
 
+/// Which acts a walk has: those of request 3; enquiries, askings and leaves to receive as well; or also
+/// repetition, noise, what looks like an ENQ or a NAK, and EOTs of the drivers at any moment.
+#[derive(Clone, Copy, PartialEq, Eq, PartialOrd)]
+enum Acts {
+    Plain,
+    Turning,
+    Noisy,
+}
+
 /// A link to be walked: its messages by length and block size, how many units a line holds, the slave's
-/// buffer, and how many states it has.
+/// buffer, the acts, and how many states it has.
 struct Walked {
     what: &'static str,
     messages: &'static [(usize, u64)],
     capacity: usize,
     buffer_length: usize,
+    acts: Acts,
     states: usize,
 }
 
-const WALKED: [Walked; 4] = [
+/// Those with the acts of request 3.
+const PLAIN: [Walked; 3] = [
     Walked {
         what: "9 blocks in 2 messages, 3 units each way",
         messages: &[(9, 2), (4, 1)],
         capacity: 3,
         buffer_length: 9,
-        states: 256_554,
-    },
-    Walked {
-        what: "the same, 4 units each way",
-        messages: &[(9, 2), (4, 1)],
-        capacity: 4,
-        buffer_length: 9,
-        states: 1_265_423,
+        acts: Acts::Plain,
+        states: 553_807,
     },
     Walked {
         what: "18 blocks in 3 messages, 3 units each way",
         messages: &[(9, 1), (0, 7), (15, 2)],
         capacity: 3,
         buffer_length: 15,
-        states: 533_631,
+        acts: Acts::Plain,
+        states: 1_158_149,
     },
     Walked {
         what: "10 blocks in 3 messages, the last too long for the slave, 3 units each way",
         messages: &[(5, 1), (0, 1), (7, 2)],
         capacity: 3,
         buffer_length: 5,
-        states: 246_018,
+        acts: Acts::Plain,
+        states: 531_400,
+    },
+];
+
+/// Those with the acts of request 14.
+const TURNING: [Walked; 2] = [
+    Walked {
+        what: "3 blocks in 2 messages, 2 units each way, with RINT and ENQ",
+        messages: &[(2, 1), (1, 1)],
+        capacity: 2,
+        buffer_length: 2,
+        acts: Acts::Turning,
+        states: 700_866,
+    },
+    Walked {
+        what: "3 blocks in 2 messages, the last too long for the slave, 2 units each way, with RINT and ENQ",
+        messages: &[(1, 1), (3, 2)],
+        capacity: 2,
+        buffer_length: 2,
+        acts: Acts::Turning,
+        states: 512_828,
+    },
+];
+
+/// One in which the numbers go round.
+const LONG: [Walked; 1] = [Walked {
+    what: "9 blocks in 2 messages, 2 units each way, with RINT and ENQ",
+    messages: &[(9, 2), (4, 1)],
+    capacity: 2,
+    buffer_length: 9,
+    acts: Acts::Turning,
+    states: 2_534_346,
+}];
+
+/// One with noise.
+const NOISY: [Walked; 1] = [Walked {
+    what: "2 blocks in 1 message, 2 units each way, with RINT, ENQ and noise",
+    messages: &[(2, 1)],
+    capacity: 2,
+    buffer_length: 2,
+    acts: Acts::Noisy,
+    states: 921_300,
+}];
+
+/// Those that are too large for every run.
+const APART: [Walked; 4] = [
+    Walked {
+        what: "9 blocks in 2 messages, 4 units each way",
+        messages: &[(9, 2), (4, 1)],
+        capacity: 4,
+        buffer_length: 9,
+        acts: Acts::Plain,
+        states: 2_542_319,
+    },
+    Walked {
+        what: "3 blocks in 2 messages, 2 units each way, with RINT, ENQ and noise",
+        messages: &[(2, 1), (1, 1)],
+        capacity: 2,
+        buffer_length: 2,
+        acts: Acts::Noisy,
+        states: 1_676_417,
+    },
+    Walked {
+        what: "2 blocks in 1 message, 3 units each way, with RINT and ENQ",
+        messages: &[(2, 1)],
+        capacity: 3,
+        buffer_length: 2,
+        acts: Acts::Turning,
+        states: 4_319_901,
+    },
+    Walked {
+        what: "3 blocks in 2 messages, 3 units each way, with RINT and ENQ",
+        messages: &[(2, 1), (1, 1)],
+        capacity: 3,
+        buffer_length: 2,
+        acts: Acts::Turning,
+        states: 8_154_389,
     },
 ];
 
@@ -99,20 +184,22 @@ impl Bits {
     }
 }
 
-const MASTER_WIDTHS: [u32; 6] = [2, 6, 4, 6, 3, 6];
-const SLAVE_WIDTHS: [u32; 3] = [1, 3, 6];
+const MASTER_WIDTHS: [u32; 10] = [2, 6, 4, 6, 3, 6, 3, 1, 1, 1];
+const SLAVE_WIDTHS: [u32; 5] = [1, 3, 6, 3, 2];
 const FORWARD_WIDTH: u32 = 6;
 const BACK_WIDTH: u32 = 4;
 
-/// What stands on the forward line: nothing is 0, and a block is its index and 3.
+/// What stands on the forward line: nothing is 0, and a block is its index and 4. What a damaged unit was
+/// makes no difference to the library.
 fn forward_code(plan: &Plan, unit: &Forward) -> Result<u64, String> {
     match unit {
         Forward::Eot => Ok(1),
-        Forward::Damaged => Ok(2),
+        Forward::Damaged | Forward::DamagedEnq => Ok(2),
+        Forward::Enq => Ok(3),
         Forward::Block(block) if *block == block_of(plan, block.index) => {
-            Ok(3 + block.index as u64)
+            Ok(4 + block.index as u64)
         }
-        Forward::Block(block) => Err(format!("{block:?} is not block {}", block.index)),
+        Forward::Block(_) | Forward::BlockEndedByEnq => Err(format!("{unit:?} on the line")),
     }
 }
 
@@ -130,7 +217,8 @@ fn forward_unit(plan: &Plan, code: u64) -> Option<Forward> {
         0 => None,
         1 => Some(Forward::Eot),
         2 => Some(Forward::Damaged),
-        _ => Some(Forward::Block(block_of(plan, code as usize - 3))),
+        3 => Some(Forward::Enq),
+        _ => Some(Forward::Block(block_of(plan, code as usize - 4))),
     }
 }
 
@@ -140,7 +228,8 @@ fn back_code(unit: &Back) -> u64 {
         Back::EotByStation => 2,
         Back::EotByDriver => 3,
         Back::Damaged => 4,
-        Back::Ack(number) => 5 + number,
+        Back::Rint => 5,
+        Back::Ack(number) => 6 + number,
     }
 }
 
@@ -151,7 +240,8 @@ fn back_unit(code: u64) -> Option<Back> {
         2 => Some(Back::EotByStation),
         3 => Some(Back::EotByDriver),
         4 => Some(Back::Damaged),
-        _ => Some(Back::Ack(code - 5)),
+        5 => Some(Back::Rint),
+        _ => Some(Back::Ack(code - 6)),
     }
 }
 
@@ -174,7 +264,7 @@ impl Link<'_> {
         Ok(())
     }
 
-    fn key(&self) -> Result<u128, String> {
+    fn key(&self, acts: Acts) -> Result<u128, String> {
         self.check_held()?;
         let mut bits = Bits::default();
         for (word, width) in self.master.into_iter().zip(MASTER_WIDTHS) {
@@ -184,6 +274,8 @@ impl Link<'_> {
             bits.put(word, width);
         }
         bits.put(u64::from(self.was_slave_open), 1);
+        let was_rint_given = acts == Acts::Noisy && self.progress.was_rint_given;
+        bits.put(u64::from(was_rint_given), 1);
         let progress = &self.progress;
         bits.put(progress.sent as u64, 6);
         bits.put(progress.accepted as u64, 6);
@@ -213,6 +305,7 @@ impl Link<'_> {
         self.slave = SLAVE_WIDTHS.map(|width| bits.take(width));
         self.was_slave_open = bits.take(1) == 1;
         self.progress = Progress {
+            was_rint_given: bits.take(1) == 1,
             sent: bits.take(6) as usize,
             accepted: bits.take(6) as usize,
             started: bits.take(2) as usize,
@@ -220,6 +313,7 @@ impl Link<'_> {
             done: bits.take(2) as usize,
             resends: self.master[4],
         };
+        self.load_given();
         self.forward.clear();
         self.back.clear();
         for _ in 0..MOST_UNITS {
@@ -234,59 +328,124 @@ impl Link<'_> {
         }
     }
 
-    /// All that may happen now.
-    fn put_acts(&self, acts: &mut Vec<LinkAct>) {
-        acts.clear();
-        acts.push(LinkAct::TimerA);
+    /// What was given and heard needs no bits of its own: the words say it, which is held after each act.
+    fn load_given(&mut self) {
+        let [_, expected, _, last_reply, interrupt] = self.slave;
+        self.given = Given {
+            last: match last_reply {
+                0 => None,
+                1 => Some(Back::Ack((expected + 7) % 8)),
+                2 => Some(Back::Nak),
+                _ => Some(Back::Rint),
+            },
+            rinted: (interrupt == 2).then(|| self.progress.accepted.wrapping_sub(1)),
+            is_asked: interrupt == 1,
+        };
+        let [.., last, interrupted, enquired, may_receive] = self.master;
+        self.heard = Heard {
+            last,
+            was_interrupted: interrupted == 1,
+            is_enquired: enquired == 1,
+            may_receive: may_receive == 1,
+        };
+    }
+
+    /// All that may happen now; what the drivers wish also where it is refused.
+    fn put_acts(&self, acts: Acts, all: &mut Vec<LinkAct>) {
+        all.clear();
+        all.push(LinkAct::TimerA);
+        if acts >= Acts::Turning {
+            all.extend([LinkAct::Enquire, LinkAct::Ask, LinkAct::MayReceive]);
+        }
         if self.is_idle() {
-            acts.push(LinkAct::Close);
+            all.push(LinkAct::Close);
             if self.progress.started < self.plan.messages.len() {
-                acts.push(LinkAct::Start);
+                all.push(LinkAct::Start);
             }
         }
         if !self.was_slave_open {
-            acts.push(LinkAct::SlaveOpens);
+            all.push(LinkAct::SlaveOpens);
         }
-        if self.slave[0] == 1 {
-            acts.push(LinkAct::TimerD);
+        if self.is_slave_open() {
+            all.push(LinkAct::TimerD);
         }
-        for (index, unit) in self.forward.iter().enumerate() {
-            acts.push(LinkAct::Lose(Way::Forward, index));
-            if *unit != Forward::Damaged {
-                acts.push(LinkAct::Damage(Way::Forward, index));
-            }
-        }
-        for (index, unit) in self.back.iter().enumerate() {
-            acts.push(LinkAct::Lose(Way::Back, index));
-            if *unit != Back::Damaged {
-                acts.push(LinkAct::Damage(Way::Back, index));
-            }
-        }
+        self.put_losses(all);
         if !self.forward.is_empty() {
-            acts.extend([false, true].map(|eot_instead| LinkAct::UnitComes {
+            all.extend([false, true].map(|eot_instead| LinkAct::UnitComes {
                 index: 0,
                 eot_instead,
             }));
         }
         if !self.back.is_empty() {
-            acts.push(LinkAct::ReplyComes(0));
+            all.push(LinkAct::ReplyComes(0));
+        }
+        if acts == Acts::Noisy {
+            self.put_noise(all);
+        }
+    }
+
+    /// Each unit may be lost, or damaged where it is not.
+    fn put_losses(&self, all: &mut Vec<LinkAct>) {
+        for index in 0..self.forward.len() {
+            all.push(LinkAct::Lose(Way::Forward, index));
+            if self.forward[index] != Forward::Damaged {
+                all.push(LinkAct::DamageUnit(index, Forward::Damaged));
+            }
+        }
+        for index in 0..self.back.len() {
+            all.push(LinkAct::Lose(Way::Back, index));
+            if self.back[index] != Back::Damaged {
+                all.push(LinkAct::DamageReply(index, Back::Damaged));
+            }
+        }
+    }
+
+    /// What else may happen on bad lines, and the drivers' EOTs. A NAK that the slave did not give comes
+    /// only as long as it has given no RINT.
+    fn put_noise(&self, all: &mut Vec<LinkAct>) {
+        let may_be_nak = !self.progress.was_rint_given;
+        for index in 0..self.forward.len() {
+            all.push(LinkAct::Repeat(Way::Forward, index));
+            all.push(LinkAct::DamageUnit(index, Forward::Enq));
+        }
+        for index in 0..self.back.len() {
+            all.push(LinkAct::Repeat(Way::Back, index));
+            if may_be_nak {
+                all.push(LinkAct::DamageReply(index, Back::Nak));
+            }
+        }
+        for index in 0..=self.forward.len() {
+            let noise = [Forward::Damaged, Forward::Enq];
+            all.extend(noise.map(|unit| LinkAct::UnitNoise(index, unit)));
+        }
+        for index in 0..=self.back.len() {
+            all.push(LinkAct::ReplyNoise(index, Back::Damaged));
+            if may_be_nak {
+                all.push(LinkAct::ReplyNoise(index, Back::Nak));
+            }
+        }
+        if !self.is_closed() {
+            all.push(LinkAct::MasterEot);
+        }
+        if self.is_slave_open() {
+            all.push(LinkAct::SlaveEot);
         }
     }
 }
 
 /// The states found, and the counts of all acts from them.
-fn walk(link: &mut Link) -> Result<usize, String> {
+fn walk(link: &mut Link, acts: Acts) -> Result<usize, String> {
     let mut found: HashSet<u128, BuildHasherDefault<KeyHasher>> = HashSet::default();
-    let first = link.key()?;
+    let first = link.key(acts)?;
     let mut waiting = vec![first];
     found.insert(first);
-    let mut acts = Vec::new();
+    let mut all = Vec::new();
     while let Some(key) = waiting.pop() {
         link.load(key);
-        link.put_acts(&mut acts);
-        for act in &acts {
+        link.put_acts(acts, &mut all);
+        for act in &all {
             link.load(key);
-            let next = link.act(act).and_then(|()| link.key());
+            let next = link.act(act).and_then(|()| link.key(acts));
             let next = next.map_err(|why| {
                 link.load(key);
                 let (master, slave) = (link.master, link.slave);
@@ -302,7 +461,7 @@ fn walk(link: &mut Link) -> Result<usize, String> {
 }
 
 /// A walk in which one of these never happened visited no whole link.
-const KINDS: [(Kind, &str); 8] = [
+const PLAIN_KINDS: [(Kind, &str); 8] = [
     (Kind::Done, "done"),
     (Kind::Duplicate, "duplicate"),
     (Kind::Failed, "failure"),
@@ -316,9 +475,43 @@ const KINDS: [(Kind, &str); 8] = [
     (Kind::TimerD, "Timer D"),
 ];
 
-fn enough(counts: &StationsCounts, short_buffer: bool) -> Outcome {
-    let missing = KINDS.iter().find(|(kind, _)| counts.get(*kind) == 0);
-    if let Some((_, what)) = missing {
+/// The same of one with RINT and ENQ.
+const TURNING_KINDS: [(Kind, &str); 17] = [
+    (Kind::AckAgain, "ACK given again"),
+    (Kind::NakAgain, "NAK given again"),
+    (Kind::RintAgain, "RINT given again"),
+    (Kind::NakToFirstEnq, "ENQ before any reply"),
+    (Kind::RintedDuplicate, "duplicate of a block that got RINT"),
+    (Kind::AskRefused, "asking that is refused"),
+    (Kind::EnquiryRefused, "enquiry that is refused"),
+    (Kind::LeaveRefused, "leave to receive that is refused"),
+    (Kind::RintAccepted, "RINT that acknowledged"),
+    (Kind::RintAfterRint, "RINT refused after a RINT"),
+    (Kind::RintAfterNakAndEnq, "RINT refused after NAK and ENQ"),
+    (Kind::RintNoneOut, "RINT with no block out"),
+    (Kind::LeaveBlockOut, "leave with a block out"),
+    (Kind::LeaveNoneOut, "leave with none out"),
+    (Kind::ReversedDone, "reversal, the message done"),
+    (Kind::ReversedNotDone, "reversal, the message not done"),
+    (Kind::ReversedNoneOut, "reversal with no block out"),
+];
+
+/// The same of one with noise.
+const NOISY_KINDS: [(Kind, &str); 7] = [
+    (Kind::EnqRepeated, "repeated ENQ"),
+    (Kind::RintRepeated, "repeated RINT"),
+    (Kind::DamagedIntoEnq, "unit damaged into ENQ"),
+    (Kind::DamagedIntoNak, "reply damaged into NAK"),
+    (Kind::NakNoise, "NAK that is noise"),
+    (Kind::MasterEot, "EOT of the master's driver"),
+    (Kind::SlaveEot, "EOT of the slave's driver at any moment"),
+];
+
+fn enough(counts: &StationsCounts, acts: Acts, short_buffer: bool) -> Outcome {
+    let turning = TURNING_KINDS.iter().filter(|_| acts >= Acts::Turning);
+    let noisy = NOISY_KINDS.iter().filter(|_| acts == Acts::Noisy);
+    let mut kinds = PLAIN_KINDS.iter().chain(turning).chain(noisy);
+    if let Some((_, what)) = kinds.find(|(kind, _)| counts.get(*kind) == 0) {
         return Err(format!("a walk without {what}"));
     }
     if short_buffer != (counts.get(Kind::EotByStation) > 0) {
@@ -327,25 +520,56 @@ fn enough(counts: &StationsCounts, short_buffer: bool) -> Outcome {
     Ok(())
 }
 
-/// All states of each link, and how many there are.
 pub fn stations_walk(compare: &mut Compare) -> Outcome {
-    for walked in WALKED {
-        let plan = Plan::of_letters(walked.messages);
-        let beginning = Beginning {
-            master_of: MasterOf::Library,
-            capacity: walked.capacity,
-            buffer_length: walked.buffer_length,
-            with_corollaries: true,
-        };
-        let mut link = Link::new(&plan, beginning)?;
-        let states = walk(&mut link).map_err(|why| format!("{}: {why}", walked.what))?;
-        let acts = link.counts.acts();
-        println!("  {}: {states} states, {acts} acts", walked.what);
-        compare.walk_acts += acts;
-        compare.walk_states += states as u64;
-        let longest = plan.messages.iter().map(|message| message.length).max();
-        enough(&link.counts, longest > Some(walked.buffer_length))?;
-        same("states", &[states], &[walked.states])?;
-    }
-    Ok(())
+    walk_each(compare, &PLAIN)
+}
+
+/// The same with the reverse interrupt and the enquiry.
+pub fn stations_turning_walk(compare: &mut Compare) -> Outcome {
+    walk_each(compare, &TURNING)
+}
+
+/// The same, and the numbers go round.
+pub fn stations_long_walk(compare: &mut Compare) -> Outcome {
+    walk_each(compare, &LONG)
+}
+
+/// The same on worse lines.
+pub fn stations_noisy_walk(compare: &mut Compare) -> Outcome {
+    walk_each(compare, &NOISY)
+}
+
+/// The same of larger links.
+pub fn stations_large_walk(compare: &mut Compare) -> Outcome {
+    walk_each(compare, &APART)
+}
+
+fn walk_each(compare: &mut Compare, walks: &[Walked]) -> Outcome {
+    walks
+        .iter()
+        .try_for_each(|walked| walk_all(compare, walked))
+}
+
+/// All states of a link, and how many there are.
+fn walk_all(compare: &mut Compare, walked: &Walked) -> Outcome {
+    let plan = Plan::of_letters(walked.messages);
+    let beginning = Beginning {
+        master_of: MasterOf::Library,
+        reading: Reading::Right,
+        capacity: walked.capacity,
+        buffer_length: walked.buffer_length,
+        answers_bids: false,
+        with_corollaries: true,
+    };
+    let mut link = Link::new(&plan, beginning)?;
+    let states = walk(&mut link, walked.acts);
+    let states = states.map_err(|why| format!("{}: {why}", walked.what))?;
+    let acts = link.counts.acts();
+    println!("  {}: {states} states, {acts} acts", walked.what);
+    compare.walk_acts += acts;
+    compare.walk_states += states as u64;
+    let longest = plan.messages.iter().map(|message| message.length).max();
+    let is_short = longest > Some(walked.buffer_length);
+    enough(&link.counts, walked.acts, is_short)?;
+    same("states", &[states], &[walked.states])
 }
