@@ -11,7 +11,7 @@ use Rattle.lists.proofs.Tests.{cond-ind}
 use Rattle.station.specs.Station.{precedes}
 use Rattle.station.specs.History.{Block, messagesOf}
 use Rattle.master.specs.Master.{outstanding, blockNumber, validOutstanding, isLast, masterActed, unchanged, refusedMaster, resent, resendOf, nextOut, acknowledgedOf, acceptedOf, ackOf, waitingReply, idleReply, startNow, startOf, masterReplyOf, timerAOf, closeOf}
-use Rattle.master.specs.Reversal.{answerOf, isAcknowledged, reversedOf, enquireOf, mayReceiveNow, mayReceiveOf, masterState}
+use Rattle.master.specs.Reversal.{answerOf, isAcknowledged, reversedOf, enquireOf, mayReceiveNow, mayReceiveOf, masterState, countIn}
 use Rattle.master.specs.declared.Reversal.{Reversal}
 use Rattle.master.specs.declared.MasterAnswer.{MasterAnswer}
 use Rattle.master.specs.declared.Transmission.the-variants.{SendEot}
@@ -25,7 +25,6 @@ use Rattle.master.specs.declared.End.{End}
 use Rattle.master.specs.declared.End.the-variants.{NotEnded, Failed, BySlave, ByDriver, Reversed}
 use Rattle.master.specs.declared.MasterActed.{MasterActed}
 use Rattle.station_link.specs.System.{Started, firstSent, resendsTold, doneAfter, endAfter}
-use Rattle.station_link.specs.Promise.{countOf}
 use Rattle.station_link.proofs.Queues.{Fine, fine}
 use Rattle.station_link.proofs.MasterSteps.{goneOn, reversedWhen, not-reversed, resend-plain, idle-plain}
 
@@ -39,8 +38,8 @@ abbrev pub Told : End → Master → List Block → ℕ → Bool → Type 0
 Told NotEnded m sent d eots = isClosed m ≡ false
 Told Failed m sent d eots = isClosed m ≡ true
 Told BySlave m sent d eots = (isClosed m ≡ true) × (eots ≡ true)
-Told ByDriver m sent d eots = (isClosed m ≡ true) × (length sent ≡ countOf m)
-Told Reversed m sent d eots = (isClosed m ≡ true) × ((length sent ≡ countOf m) × (length (messagesOf sent) ≡ d))
+Told ByDriver m sent d eots = (isClosed m ≡ true) × (length sent ≡ countIn m)
+Told Reversed m sent d eots = (isClosed m ≡ true) × ((length sent ≡ countIn m) × (length (messagesOf sent) ≡ d))
 
 -- with no block out, as many blocks were sent as counted, and with one out one more; and the messages in them are done, but for the one that the last block completes
 abbrev pub Idled : Master → List Block → ℕ → Type 0
@@ -162,7 +161,7 @@ module _ (message : List ℕ) (e : End) (sent : List Block) (d : ℕ) (eots : Bo
 
 -- ---- the count never falls
 abbrev Grows : ℕ → MasterActed → Type 0
-Grows count a = count ≤ countOf (a .master)
+Grows count a = count ≤ countIn (a .master)
 
 resend-grows : (o : Outstanding) → Grows (o .count) (resendOf o)
 unfolding resendOf
@@ -213,7 +212,7 @@ idle-grows Eot a = omega arith
 idle-grows Damaged a = omega arith
 idle-grows Rint a = omega arith
 
-pub reply-grows : (v : Reversal) (refuses : Bool) (q : Response) (m : Master) → Grows (countOf m) (reversedOf v (masterReplyOf refuses q m))
+pub reply-grows : (v : Reversal) (refuses : Bool) (q : Response) (m : Master) → Grows (countIn m) (reversedOf v (masterReplyOf refuses q m))
 unfolding masterReplyOf
 reply-grows v refuses q (Closed a) = subst (Grows a) (sym (not-reversed v (unchanged (Closed a)) refl)) (omega arith)
 reply-grows v refuses q (Idle a) = subst (Grows a) (sym (not-reversed v (idleReply q a) (idle-plain q a))) (idle-grows q a)
@@ -221,39 +220,39 @@ reply-grows v refuses q (Waiting o) =
     cond-ind (λ (a : MasterActed). Grows (o .count) (reversedOf v a)) (validOutstanding o) _ _ (λ h. waiting-grows v o refuses q)
     (λ h. subst (Grows (o .count)) (sym (not-reversed v (refusedMaster 11 (Waiting o)) refl)) (omega arith))
 
-pub enquire-grows : (m : Master) → Grows (countOf m) (enquireOf m)
+pub enquire-grows : (m : Master) → Grows (countIn m) (enquireOf m)
 unfolding enquireOf
 enquire-grows (Closed a) = omega arith
 enquire-grows (Idle a) = omega arith
 enquire-grows (Waiting o) = cond-ind (Grows (o .count)) (validOutstanding o) _ _ (λ h. omega arith) (λ h. omega arith)
 
-may-grows-now : (m : Master) (v : Reversal) → Grows (countOf m) (mayReceiveNow m v .acted)
+may-grows-now : (m : Master) (v : Reversal) → Grows (countIn m) (mayReceiveNow m v .acted)
 unfolding answerOf
 may-grows-now (Closed a) v = omega arith
 may-grows-now (Idle a) v = omega arith
 may-grows-now (Waiting o) v = cond-ind (λ (x : MasterAnswer). Grows (o .count) (x .acted)) (validOutstanding o) _ _ (λ h. omega arith) (λ h. omega arith)
 
-pub may-grows : (m : Master) (v : Reversal) → Grows (countOf m) (mayReceiveOf (masterState m v) .acted)
+pub may-grows : (m : Master) (v : Reversal) → Grows (countIn m) (mayReceiveOf (masterState m v) .acted)
 unfolding mayReceiveOf answerOf
-may-grows m v = cond-ind (λ (x : MasterAnswer). Grows (countOf m) (x .acted)) (v .interrupted) _ _ (λ h. may-grows-now m v) (λ h. omega arith)
+may-grows m v = cond-ind (λ (x : MasterAnswer). Grows (countIn m) (x .acted)) (v .interrupted) _ _ (λ h. may-grows-now m v) (λ h. omega arith)
 
-pub timer-grows : (m : Master) → Grows (countOf m) (timerAOf m)
+pub timer-grows : (m : Master) → Grows (countIn m) (timerAOf m)
 unfolding timerAOf
 timer-grows (Closed a) = omega arith
 timer-grows (Idle a) = omega arith
 timer-grows (Waiting o) = cond-ind (Grows (o .count)) (validOutstanding o) _ _ (λ h. resend-grows o) (λ h. omega arith)
 
-pub close-grows : (m : Master) → Grows (countOf m) (closeOf m)
+pub close-grows : (m : Master) → Grows (countIn m) (closeOf m)
 unfolding closeOf
 close-grows (Closed a) = omega arith
 close-grows (Idle a) = omega arith
 close-grows (Waiting o) = omega arith
 
-pub start-grows : (n size : ℕ) (m : Master) → Grows (countOf m) (startOf n size m)
+pub start-grows : (n size : ℕ) (m : Master) → Grows (countIn m) (startOf n size m)
 unfolding startOf
-start-grows n size m = cond-ind (Grows (countOf m)) (leb 1 size) _ _ (λ h. now m) (λ h. omega arith)
+start-grows n size m = cond-ind (Grows (countIn m)) (leb 1 size) _ _ (λ h. now m) (λ h. omega arith)
   where
-    now : (m : Master) → Grows (countOf m) (startNow n size m)
+    now : (m : Master) → Grows (countIn m) (startNow n size m)
     now (Closed a) = omega arith
     now (Idle a) = omega arith
     now (Waiting o) = omega arith

@@ -23,7 +23,7 @@ use Rattle.station.specs.History.{Unit, good, bad, enquiry, eot, bareEnq, asks,
 use Rattle.station.specs.Retransmission.{inOrder}
 use Rattle.station.proofs.History.{stands, replies}
 use Rattle.master.specs.Master.{blockNumber, isLast, startOf}
-use Rattle.master.specs.Reversal.{answerOf, refusesRint, mayReceiveOf, startAnswer, replyAnswer, timerAnswer, closeAnswer, enquireAnswer}
+use Rattle.master.specs.Reversal.{answerOf, refusesRint, mayReceiveOf, startAnswer, replyAnswer, timerAnswer, closeAnswer, enquireAnswer, countIn}
 use Rattle.master.specs.declared.MasterAnswer.{MasterAnswer}
 use Rattle.master.specs.declared.Outstanding.{Outstanding}
 use Rattle.master.specs.declared.Master.{Master}
@@ -36,7 +36,7 @@ use Rattle.master.specs.declared.MasterActed.{MasterActed}
 use Rattle.station_link.specs.System.{damagedReply, Started, Receiving, System, system, beginning, messageOut, doneAfter, endAfter, masterDid, stateIn, responsesOf, isEot, isRint, refusedReply, isReplaced, receivingAfter, openedReceiving}
 use Rattle.station_link.specs.System.{LinkAct, starts, timerRuns, closes, masterEot, enquires, mayReceive, slaveOpens, grants, asksRint, slaveEnds, arrives, arrivesUnstored, replyArrives, loses, losesReply, repeats, repeatsReply, damages, damagesReply, disturbs, disturbsReply}
 use Rattle.station_link.specs.System.{stationReply, storedAfter, arrived, arrivedUnstored, replyArrived, mayGrant, linkAct, linkRun}
-use Rattle.station_link.specs.Promise.{accepted, handed, countOf, Exact, OneShort, failed, refused, Ends, OneOfTwo, expected-one, one-before, Numbered}
+use Rattle.station_link.specs.Promise.{accepted, handed, Exact, OneShort, failed, refused, Ends, OneOfTwo, expected-one, one-before, Numbered}
 use Rattle.station_link.proofs.Queues.{Fine, fine, All, none, also, all-appended, all-as, all-lost, all-repeated, all-replaced, all-inserted}
 use Rattle.station_link.proofs.Content.{AllSent, Partly, started-length, last-complete, whole-messages}
 use Rattle.station_link.proofs.Stretches.{Stretch, oldOthers, newOthers, old-ack, new-ack, Between, next as then, bounded}
@@ -101,12 +101,12 @@ module _ (b : List ℕ) where
   pub record EndsKept (y : System) : Type 0 where
     pub stand : StandOf b y
     pub closed : y .receiving .stationEot ≡ true → pastOf c (y .receiving .received) .closed ≡ true
-    pub exact : y .receiving .stationEot ≡ true → length (accepted b y) ≡ countOf (y .sending .master)
+    pub exact : y .receiving .stationEot ≡ true → length (accepted b y) ≡ countIn (y .sending .master)
     pub known : All (EotKnown (eots y)) (y .backward)
     pub told : Told (y .sending .ended) (y .sending .master) (y .sending .sent) (y .sending .done) (eots y)
     pub finished : Finished (y .sending .ended) (y .sending .started) (y .sending .done)
 
-  stand-counts : (y : System) → StandOf b y → Counts (y .sending .started) (y .sending .done) (accepted b y) (y .sending .sent) (y .forward) (y .backward) (takenIn y) (givenIn b y) (countOf (y .sending .master))
+  stand-counts : (y : System) → StandOf b y → Counts (y .sending .started) (y .sending .done) (accepted b y) (y .sending .sent) (y .forward) (y .backward) (takenIn y) (givenIn b y) (countIn (y .sending .master))
   stand-counts y s = counts (y .sending .started) (y .sending .done) (accepted b y) (y .sending .sent) (y .forward) (y .backward) (takenIn y) (givenIn b y) (y .sending .master) s
 
   -- the messages in what was sent
@@ -136,7 +136,7 @@ module _ (b : List ℕ) where
 
   -- ---- the master acts: what the slave accepted stays
   module _ (y : System) (k : EndsKept y) (a : MasterAnswer) (ms : List Started) (rs : List Response)
-      (grows : countOf (y .sending .master) ≤ countOf (a .acted .master))
+      (grows : countIn (y .sending .master) ≤ countIn (a .acted .master))
       (known : All (EotKnown (eots y)) rs)
       (told : ToldAfter (messageOut ms) (y .sending .ended) (y .sending .sent) (y .sending .done) (eots y) (a .acted))
       (finished : Finished (endAfter (a .acted .end) (y .sending .ended)) ms (doneAfter (a .acted .progress) (y .sending .done))) where
@@ -199,17 +199,17 @@ module _ (b : List ℕ) where
 
   -- then the block was not counted either
   module _ (ms : List Started) (d : ℕ) (bs sent : List Block) (us : List Unit) (rs : List Response) (r z : Bool) (m : Master) (v : Turn) where
-    good-uncounted : (n : ℕ) (x : Ending) (t : List ℕ) → Stand ms d bs sent (good n x t ∷ us) rs r z m → isEot (openReply c bs v (good n x t)) ≡ true → length bs ≡ countOf m
+    good-uncounted : (n : ℕ) (x : Ending) (t : List ℕ) → Stand ms d bs sent (good n x t ∷ us) rs r z m → isEot (openReply c bs v (good n x t)) ≡ true → length bs ≡ countIn m
     good-uncounted n x t s h = go (arriving ms d bs sent (good n x t) us rs r z n x t refl m s)
       where
-        go : Arriving ms d bs sent (good n x t) us rs r z n x t m → length bs ≡ countOf m
+        go : Arriving ms d bs sent (good n x t) us rs r z n x t m → length bs ≡ countIn m
         go (duplicate q) = absurd (true≢false (sym h ∙ ap isEot (dup-reply c bs n x t q v)))
         go (next k e s2) =
             let f = counts ms d bs sent (good n x t ∷ us) rs r z m s .most in
             let g = counts ms d (k ∷ bs) sent us rs r false m (s2 false) .least in
             omega (arith, f, g)
 
-    uncounted : (u : Unit) → Stand ms d bs sent (u ∷ us) rs r z m → isEot (openReply c bs v u) ≡ true → length bs ≡ countOf m
+    uncounted : (u : Unit) → Stand ms d bs sent (u ∷ us) rs r z m → isEot (openReply c bs v u) ≡ true → length bs ≡ countIn m
     uncounted (good n x t) s h = good-uncounted n x t s h
     uncounted bad s h = absurd (true≢false (sym h))
     uncounted enquiry s h = absurd (true≢false (sym h))
@@ -220,7 +220,7 @@ module _ (b : List ℕ) where
   -- ---- a unit arrives
   record Settled (bs : List Block) (m : Master) (p : Past) : Type 0 where
     shut : p .closed ≡ true
-    even : length (p .blocks) ≡ countOf m
+    even : length (p .blocks) ≡ countIn m
 
   module _ (ms : List Started) (d : ℕ) (bs sent : List Block) (us : List Unit) (rs : List Response) (r z : Bool) (m : Master) (v : Turn) (u : Unit)
       (s : Stand ms d bs sent (u ∷ us) rs r z m) where
@@ -230,11 +230,11 @@ module _ (b : List ℕ) where
         let x = open-closes bs v u h in
         record { shut = x .now-closed; even = ap length (x .same) ∙ uncounted ms d bs sent us rs r z m v u s h }
 
-    by-closed : (k : Bool) → k ≡ true → length bs ≡ countOf m → Settled bs m (cond k (past bs k) (unitAfter c bs u))
+    by-closed : (k : Bool) → k ≡ true → length bs ≡ countIn m → Settled bs m (cond k (past bs k) (unitAfter c bs u))
     by-closed true h e = record { shut = refl; even = e }
     by-closed false h e = absurd (true≢false (sym h))
 
-    settled : (k w a : Bool) → w ≡ isEot (replyOf c (past bs k) v u) → (a ≡ true → k ≡ true) → (a ≡ true → length bs ≡ countOf m) → (w || a) ≡ true
+    settled : (k w a : Bool) → w ≡ isEot (replyOf c (past bs k) v u) → (a ≡ true → k ≡ true) → (a ≡ true → length bs ≡ countIn m) → (w || a) ≡ true
         → Settled bs m (cond k (past bs k) (unitAfter c bs u))
     settled k true a e f g h = by-eot k (sym e)
     settled k false a e f g h = by-closed k (f h) (g h)
@@ -477,7 +477,7 @@ module _ (b : List ℕ) where
   -- ---- what follows
   module _ (y : System) (k : EndsKept y) where
     abbrev count : ℕ
-    count = countOf (y .sending .master)
+    count = countIn (y .sending .master)
 
     -- all that was sent is counted
     all-counted : length (y .sending .sent) ≡ count → Exact b y
@@ -491,7 +491,7 @@ module _ (b : List ℕ) where
         go (all-but-one z e) = let n = ap length e in absurd (omega (arith, n, h, most))
 
     idle-is : (a : ℕ) → y .sending .master ≡ Idle a → Exact b y
-    idle-is a e = all-counted (subst (λ (m : Master). Idled m (y .sending .sent) (y .sending .done)) e (idled y (k .stand)) .0 ∙ sym (ap countOf e))
+    idle-is a e = all-counted (subst (λ (m : Master). Idled m (y .sending .sent) (y .sending .done)) e (idled y (k .stand)) .0 ∙ sym (ap countIn e))
 
     idle-all : (a : ℕ) → y .sending .master ≡ Idle a → y .sending .done ≡ length (y .sending .started)
     idle-all a e = go (subst (λ (m : Master). Stand (y .sending .started) (y .sending .done) (accepted b y) (y .sending .sent) (y .forward) (y .backward) (takenIn y) (givenIn b y) m) e (k .stand))
@@ -534,7 +534,7 @@ module _ (b : List ℕ) where
     short-is a m l = go (y .sending .ended) refl (k .told)
       where
         inexact : Exact b y → ⊥
-        inexact x = let z = ap countOf m in omega (arith, x, z, l)
+        inexact x = let z = ap countIn m in omega (arith, x, z, l)
 
         go : (e : End) → y .sending .ended ≡ e → Told e (y .sending .master) (y .sending .sent) (y .sending .done) (eots y) → OneShort y
         go NotEnded e t = absurd (true≢false (sym (ap isClosed m) ∙ t))

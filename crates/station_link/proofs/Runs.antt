@@ -12,13 +12,13 @@ use Rattle.station.specs.History.{Unit, Block, block, expectedAfter, textHeld, 
 use Rattle.station.specs.Retransmission.{repliesTo}
 use Rattle.fragments.specs.Fragments.{fragmentsOf, dividedIn, extentAt}
 use Rattle.master.specs.Master.{blockNumber, resendOf, acknowledgedOf, acceptedOf, ackOf, startOf, masterReplyOf, timerAOf, closeOf}
-use Rattle.master.specs.Reversal.{answerOf, reversedOf, enquireOf, mayReceiveOf}
+use Rattle.master.specs.Reversal.{answerOf, reversedOf, enquireOf, mayReceiveOf, countIn}
 use Rattle.master.specs.declared.Response.{Response}
 use Rattle.master.specs.declared.End.{End}
 use Rattle.master.specs.declared.End.the-variants.{Failed, BySlave, ByDriver, Reversed}
 use Rattle.station_link.specs.System.{lostAt, replacedAt, insertedAt, asBad, asEnquiry, asBareEnq, System, beginning, linkAct}
 use Rattle.station_link.specs.System.{LinkAct, starts, timerRuns, closes, enquires, mayReceive, slaveOpens, grants, asksRint, arrives, arrivesUnstored, replyArrives, slaveEnds, loses, losesReply, damages, damagesReply, disturbs}
-use Rattle.station_link.specs.Promise.{oldestFirst, messagesStarted, accepted, handed, countOf, Safe}
+use Rattle.station_link.specs.Promise.{oldestFirst, messagesStarted, accepted, handed, Safe}
 use Rattle.station_link.specs.Needed.{unitAt, newestNoNak, overtakes, masterReopens, slaveReopens, numbersRestart, turnsIntoNak, enqWithoutNak, duplicateRint, rintAfterEnqOnly, damagedNoted, Step, act, breach, stepRun, oldAck}
 
 -- a buffer of so many bytes
@@ -40,7 +40,7 @@ seen n y =
       handed = oldestFirst (handed (buffer n) y);
       stored = oldestFirst (y .receiving .stored);
       blocks = length (accepted (buffer n) y);
-      count = countOf (y .sending .master);
+      count = countIn (y .sending .master);
       done = y .sending .done;
       ended = y .sending .ended;
     }

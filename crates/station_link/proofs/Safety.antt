@@ -23,7 +23,7 @@ use Rattle.station.specs.History.{Unit, good, bad, enquiry, eot, bareEnq, asks,
 use Rattle.station.proofs.Turns.{good-cases, turn-fits, fresh-only}
 use Rattle.station.proofs.History.{stands, replies}
 use Rattle.master.specs.Master.{startOf}
-use Rattle.master.specs.Reversal.{answerOf}
+use Rattle.master.specs.Reversal.{answerOf, countIn}
 use Rattle.master.specs.declared.Reversal.{Reversal}
 use Rattle.master.specs.declared.Master.{Master}
 use Rattle.master.specs.declared.Master.the-variants.{Closed, Idle, Waiting}
@@ -33,7 +33,7 @@ use Rattle.master.specs.MasterHistory.{isRintKind}
 use Rattle.station_link.specs.System.{lostAt, replacedAt, insertedAt, repeatedAt, Noise, asBad, asEnquiry, asBareEnq, damagedUnit, damagedReply, Started, System, system, beginning, refusedReply}
 use Rattle.station_link.specs.System.{LinkAct, starts, timerRuns, closes, masterEot, enquires, mayReceive, slaveOpens, grants, asksRint, slaveEnds, arrives, arrivesUnstored, replyArrives, loses, losesReply, repeats, repeatsReply, damages, damagesReply, disturbs, disturbsReply}
 use Rattle.station_link.specs.System.{stationReply, arrived, arrivedUnstored, replyArrived, mayGrant, linkAct, linkRun}
-use Rattle.station_link.specs.Promise.{oldestFirst, startedBlocks, messagesStarted, accepted, handed, countOf, FirstOf}
+use Rattle.station_link.specs.Promise.{oldestFirst, startedBlocks, messagesStarted, accepted, handed, FirstOf}
 use Rattle.station_link.proofs.Queues.{fine, All, none, Phases, all-appended, all-lost, all-repeated, all-replaced, all-inserted, new-behind, phases-lost, phases-repeated, phases-replaced, phases-inserted}
 use Rattle.station_link.proofs.Stretches.{oldOthers, end, Other, in-old, NoRint, between-lost, between-repeated, between-damaged, between-disturbed, nak-replaced, nak-inserted}
 use Rattle.station_link.proofs.Content.{first-of, outOf, Good, complete-good, acknowledged-good, out-good}
@@ -74,7 +74,7 @@ module _ (ms : List Started) (d : ℕ) (bs sent : List Block) (us : List Unit) (
     pub most : count ≤ length bs
     pub least : length bs ≤ count + 1
 
-  pub counts : (m : Master) → Stand ms d bs sent us rs r z m → Counts (countOf m)
+  pub counts : (m : Master) → Stand ms d bs sent us rs r z m → Counts (countIn m)
   counts (Idle a) (idle e l c h u w) = record { most = omega (arith, l); least = omega (arith, l) }
   counts (Waiting o) (pending p v e l h u w) = record { most = omega (arith, l); least = omega (arith, l) }
   counts (Waiting o) (taken p v e l h u w) =
@@ -98,7 +98,7 @@ givenIn b y = rintGiven b (y .receiving .received)
 pub record Basis (b : List ℕ) (y : System) : Type 0 where
   pub accepted-first : FirstOf (oldestFirst (accepted b y)) (oldestFirst (y .sending .sent))
   pub sent-first : FirstOf (oldestFirst (y .sending .sent)) (startedBlocks (y .sending .started))
-  pub count : Counts (y .sending .started) (y .sending .done) (accepted b y) (y .sending .sent) (y .forward) (y .backward) (takenIn y) (givenIn b y) (countOf (y .sending .master))
+  pub count : Counts (y .sending .started) (y .sending .done) (accepted b y) (y .sending .sent) (y .forward) (y .backward) (takenIn y) (givenIn b y) (countIn (y .sending .master))
   pub good : Good (y .sending .started) (y .sending .done) (accepted b y)
   pub handed-is : handed b y ≡ messagesOf (accepted b y)
 

@@ -10,7 +10,7 @@ use Rattle.station.specs.Station.{precedes}
 use Rattle.station.specs.declared.Ending.{Ending}
 use Rattle.station.specs.History.{Unit, good, Block, block, expectedAfter, pastOf, stationRun}
 use Rattle.master.specs.Master.{blockNumber, endingOfPart}
-use Rattle.master.specs.declared.Master.{Master}
+use Rattle.master.specs.Reversal.{countIn}
 use Rattle.master.specs.declared.Master.the-variants.{Closed, Idle, Waiting}
 use Rattle.master.specs.declared.Outstanding.{Outstanding}
 use Rattle.master.specs.declared.Response.{Response}
@@ -44,12 +44,6 @@ accepted b y = pastOf (length b) (y .receiving .received) .blocks
 abbrev pub handed : List ℕ → System → List (List ℕ)
 handed b y = stationRun b (y .receiving .received) .run .messages
 
--- the master's count, which outlives the closing
-abbrev pub countOf : Master → ℕ
-countOf (Closed count) = count
-countOf (Idle count) = count
-countOf (Waiting o) = o .count
-
 -- k of a list are its first k
 abbrev pub FirstOf : {A : Type 0} → List A → List A → Type 0
 FirstOf xs ys = xs ≡ take (length xs) ys
@@ -58,9 +52,9 @@ pub record Safe (b : List ℕ) (y : System) : Type 0 where
   -- the blocks accepted are the first k of those first sent, and these the first of the messages started: each once, in order, byte for byte
   pub accepted-first : FirstOf (oldestFirst (accepted b y)) (oldestFirst (y .sending .sent))
   pub sent-first : FirstOf (oldestFirst (y .sending .sent)) (startedBlocks (y .sending .started))
-  -- the count is k or k less one
-  pub count-most : countOf (y .sending .master) ≤ length (accepted b y)
-  pub count-least : length (accepted b y) ≤ countOf (y .sending .master) + 1
+  -- the master's count, which outlives the closing, is k or k less one
+  pub count-most : countIn (y .sending .master) ≤ length (accepted b y)
+  pub count-least : length (accepted b y) ≤ countIn (y .sending .master) + 1
   -- the messages handed over are the first ones started, as many as were reported done or one more
   pub messages-first : FirstOf (oldestFirst (handed b y)) (oldestFirst (messagesStarted (y .sending .started)))
   pub done-most : y .sending .done ≤ length (handed b y)
@@ -73,7 +67,7 @@ pub record Safe (b : List ℕ) (y : System) : Type 0 where
 
 -- ---- when the count is k exactly
 abbrev pub Exact : List ℕ → System → Type 0
-Exact b y = countOf (y .sending .master) ≡ length (accepted b y)
+Exact b y = countIn (y .sending .master) ≡ length (accepted b y)
 
 -- what may leave it one short: failure, and an EOT that the slave's driver sends of its own or in place of a reply
 pub data OneShort (y : System) : Type 0 where
@@ -115,7 +109,7 @@ pub record Delivered (b : List ℕ) (ms : List Started) (y : System) : Type 0 wh
   pub all-handed : handed b y ≡ messagesStarted ms
   pub stored : y .receiving .stored ≡ messagesStarted ms
   pub done : y .sending .done ≡ length ms
-  pub count : countOf (y .sending .master) ≡ length (startedBlocks ms)
+  pub count : countIn (y .sending .master) ≡ length (startedBlocks ms)
   pub closed : y .sending .ended ≡ ByDriver
 
 pub record DeliveringRun (b : List ℕ) (ms : List Started) : Type 0 where
