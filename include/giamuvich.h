@@ -7,8 +7,9 @@
  *     checked whole, and written.
  *   - Messages. Of the messages in the blocks the header fields are read that sequence numbers need,
  *     a message is read field by field, and answers and control messages are written.
- *   - The receiver of sequence numbers. It says what to persist of each block, and writes the reply
- *     block. It has messages stored that carry a sequence number (MSH-13), and rejects the others.
+ *   - The receiver of sequence numbers. It decides what to persist of each block. Once that is reported
+ *     stored, and not before, it writes the answer block. It has messages stored that carry a sequence
+ *     number (MSH-13), and rejects the others.
  *   - The sender of sequence numbers. It says what to send now, counts the sends, and says which
  *     transactions are delivered. The messages stay in the host's log.
  *   - The X3.28 receiving station (appendix C.3.1.5 and C.3.3.2). It says what to reply to each
@@ -48,17 +49,18 @@
  *
  * Every function but gmv_version returns a number of the table below; 0 says that the call was done.
  * A check returns the number of the block that it was given, 0 or 3 to 8. A read returns 0 also where
- * the block that it found is refused: that block's number is verdict[GMV_VERDICT_NUMBER]. So do a
- * receiver and a sender that are told of a refused block, or find data without a header (9): its
- * number is in their report.
+ * the block that it found is refused: that block's number is verdict[GMV_VERDICT_NUMBER]. So does a
+ * sender that is told of a refused block, and so do a receiver's decision and a sender that find data
+ * without a header (9): its number is in their report.
  *
  * Look at every number (HOST-6 says what to do by each). 1 and 2 say that the driver called wrongly,
  * and 11 that words encode no state, so that a stored word is bad: stop the link. But a sender also
  * answers 11 to an act that does not apply now, and that is ordinary: to a submission while it is
  * frozen, and to a timer or a block while no circuit is open, so to the next block after it gave up or
- * froze. So does a master, to an act of its driver that does not apply now: an EOT of the slave may have
- * come before. So does a station that is asked for a RINT, where one is pending, none may follow the last
- * one yet, or it has closed.
+ * froze. So does a receiver, to a decision and to an N reply while a decision is open. So does a master,
+ * to an act of its driver that does not apply now: an EOT of the slave may have come before. So does a
+ * station that is asked for a RINT, where one is pending, none may follow the last one yet, or it has
+ * closed.
  *
  * A call that is refused by 1 or 2 changes nothing: a verdict, a report or fields still hold what an
  * earlier call left there. So it is with the 11 of a reader, a receiver, a station and a master, and with
@@ -68,9 +70,9 @@
  *
  * Refusals come in the order 1, 2, 11, and then those of the block: reading 8, 4, 5, 3, 6, 7;
  * writing 4, 5, 3. Minimal reading has 8, 4, 5, 3 only, and 5 there means only EB without CR. For
- * messages: reading 2, 9 (gmv_field_next: 2 only); writing 1, 2, 3, 9, 10. A receiver, a
- * station and a master have 1, 2, 11 only, and so has a sender but for gmv_sender_submit: 1, 2, 11, 4,
- * 3, 9, 10.
+ * messages: reading 2, 9 (gmv_field_next: 2 only); writing 1, 2, 3, 9, 10. A receiver (its 9 is in a
+ * report), a station and a master have 1, 2, 11 only, and so has a sender but for gmv_sender_submit: 1,
+ * 2, 11, 4, 3, 9, 10.
  */
 #ifndef GIAMUVICH_H
 #define GIAMUVICH_H
@@ -87,10 +89,10 @@ typedef char gmv_size_is_64_bits[sizeof(size_t) == 8 ? 1 : -1];
 
 /* The version of this header, MAJOR.MINOR.PATCH: its parts, as text, and as one number that grows
  * with it. A change of what a function takes or answers raises the first part. */
-#define GMV_VERSION_MAJOR 2
+#define GMV_VERSION_MAJOR 3
 #define GMV_VERSION_MINOR 0
 #define GMV_VERSION_PATCH 0
-#define GMV_VERSION "2.0.0"
+#define GMV_VERSION "3.0.0"
 #define GMV_VERSION_NUMBER \
     (GMV_VERSION_MAJOR * UINT64_C(1000000) + GMV_VERSION_MINOR * UINT64_C(1000) + GMV_VERSION_PATCH)
 
@@ -119,8 +121,9 @@ enum {
                             this number, or no number is left */
     GMV_STATE = 11       /* a reader's words encode no state, or the stream's offsets are used up; a
                             receiver's, a sender's, a station's or a master's words encode no state; a
-                            sender's act does not apply now (no circuit is open, or one is, or frozen,
-                            or not frozen), or a master's (it is closed, a block is out, or none is,
+                            receiver's act does not apply now (a decision is open, or none is), or a
+                            sender's (no circuit is open, or one is, or frozen, or not frozen), or a
+                            master's (it is closed, a block is out, or none is,
                             or no RINT came), or a station's (gmv_station_interrupt) */
 };
 
@@ -382,91 +385,149 @@ uint64_t gmv_control_write(const uint8_t *type, size_t type_length, uint64_t num
  *   HOST-12  at each new circuit the reader starts afresh (gmv_reader_fresh),
  *   HOST-31  replies not yet sent, sends not yet written and blocks not yet acted on are dropped with
  *            their circuit, and by a crash,
- *   HOST-35  a call changes the state in memory: a driver that cannot persist it drops every reply not
- *            yet sent and every send not yet written, and goes on from what is persisted; a sender's
- *            circuit is over then, a receiver may go on on the same one,
+ *   HOST-35  storing that fails: a receiver's driver reports it (HOST-63), and the circuit goes on. A
+ *            sender's call has changed the state in memory: its driver drops every send not yet written,
+ *            and goes on from what is persisted; the circuit is over then,
  *   HOST-36  what is found at a start, the log too, is made durable before anything rests on it,
  *   HOST-39  each tenant begins with a new sender (gmv_sender_fresh) and a log of its own. */
 
 /* ---- The receiver of sequence numbers ----
  *
+ * Four steps for each block that was accepted: decide (gmv_receiver_decide), store what its report
+ * says, report it stored or not (gmv_hybrid_answer, gmv_minimal_answer), send what that wrote. No
+ * function gives an answer before its decision is reported stored. A block that was refused, by its
+ * reader or by a decision (9), is answered by gmv_hybrid_nak; on a minimal link it is dropped.
+ *
  * The driver's duties besides those of both ends:
- *   HOST-15, HOST-16  the state and the transaction named in the report are persisted, as one act,
- *            before the reply goes out,
- *   HOST-17  and before the next block is decided,
- *   HOST-18  blocks are offered in the order in which they were read; one whose call was refused, or
- *            whose change could not be persisted, is offered again first, or dropped,
- *   HOST-2   the reply buffer is not the reader's buffer: the data of the block still lies in that. */
+ *   HOST-15, HOST-16  the transaction and the expected number of a decision (GMV_DECISION_EXPECTED, not
+ *            the state's word, which is the old one until the report) are persisted, as one act and
+ *            once, before it is reported stored; and the answer goes out as the report wrote it,
+ *   HOST-62  a report is of the decision that is open: a crash, and a restart from what is persisted,
+ *            end every report that is still under way,
+ *   HOST-63  a decision is reported failed only where nothing of it was persisted and nothing will be.
+ *            A driver that cannot tell reports nothing: when no write of it can land any more, it starts
+ *            again from what is persisted,
+ *   HOST-17  one decision at a time: every block that comes while one is open is refused by 11,
+ *   HOST-18  blocks are offered in the order in which they were read; one that was refused by 11 is
+ *            offered again first and on its own circuit, or dropped. One whose decision failed is
+ *            dropped: the sender sends it again,
+ *   HOST-64  a tenancy begins with no decision open: one that is still open is not persisted for the
+ *            next tenant,
+ *   HOST-2   the reply buffer is not the reader's buffer: the data of the block lies in that until it is
+ *            persisted. */
 
-/* The words of a receiver's state. All of it is persisted. */
+/* The words of a receiver's state. The first is what is persisted, and after a crash it is restored; the
+ * others are lost then, and are 0. While a decision is open the first word is still the old one: between
+ * storing and report it is behind what is persisted, and is never written there. */
 enum {
     GMV_RECEIVER_EXPECTED = 0, /* 0: none; else the expected sequence number, 1 to 999999999999999 */
-    GMV_RECEIVER_WORDS = 1
+    GMV_RECEIVER_PERSISTED_WORDS = 1,
+    /* the open decision: the code of its answer (GMV_CODE_AA, _AE or _AR); 0: none is open, and the
+       words below count for nothing */
+    GMV_RECEIVER_CODE = 1,
+    GMV_RECEIVER_NUMBER = 2,            /* the number of its answer (MSA-4); 0: -1 */
+    GMV_RECEIVER_TRANSACTION = 3,       /* the number of its transaction; 0: none */
+    GMV_RECEIVER_NEW_EXPECTED = 4,      /* what GMV_RECEIVER_EXPECTED is once it is reported stored */
+    GMV_RECEIVER_CONTROL_ID_LENGTH = 5, /* the control ID that it answers, 1 to 20 bytes, .. */
+    GMV_RECEIVER_CONTROL_ID = 6,        /* .. in three words, eight bytes in each, the first one lowest,
+                                           and 0 behind them */
+    GMV_RECEIVER_WORDS = 9
 };
 
-/* The words of a receiver's report. */
+/* The words of a decision's report. */
 enum {
-    GMV_RECEIVED_TRANSACTION = 0,  /* the number of the transaction to persist with the state (its
-                                      message is the block's data as it came: HOST-19); 0: none */
-    GMV_RECEIVED_REPLY_LENGTH = 1, /* the bytes of the reply block; 0: no reply */
-    GMV_RECEIVED_BLOCK = 2,        /* the block's number: 0, or 3 to 9 */
-    GMV_RECEIVED_WORDS = 3
+    GMV_DECISION_BLOCK = 0,       /* the block's number: 0, or 9 */
+    GMV_DECISION_OPENED = 1,      /* 1: a decision is open now, and is to be reported; 0: none is, as the
+                                     block was dropped (an N block) or refused (9). Then the words below
+                                     are 0, the state's first word and 0: nothing is to be persisted */
+    GMV_DECISION_TRANSACTION = 2, /* the number of the transaction to persist with the expected number
+                                     (its message is the block's data as it came: HOST-19); 0: none */
+    GMV_DECISION_EXPECTED = 3,    /* the expected number to persist as GMV_RECEIVER_EXPECTED; 0: none */
+    GMV_DECISION_CHANGES = 4,     /* 1: it differs from what is persisted; 0: there is nothing to persist */
+    GMV_DECISION_WORDS = 5
 };
 
-/* The state before anything was received: no number expected.
+/* Whether what a decision says is persisted. */
+enum { GMV_NOT_STORED = 0, GMV_STORED = 1 };
+
+/* The state before anything was received: no number expected, no decision open.
  * Returns 0, or 2 (state_words below GMV_RECEIVER_WORDS) with nothing changed. Words from
- * GMV_RECEIVER_WORDS on are not changed. */
+ * GMV_RECEIVER_WORDS on are not changed. After a crash the state is this one, with the persisted word in
+ * its place. */
 uint64_t gmv_receiver_fresh(uint64_t *state, size_t state_words);
 
-/* The receiver's act on a block that its reader gave.
- *
- * block_number is the verdict's number (0 accepted, or 3 to 8), block_type its type, and data the
- * data of an accepted block; of a refused block the words of the verdict are passed as they are (type
- * 0, length 0). data_limit is at least 128.
+/* Decides on a block that the reader accepted: its type and its data. Serves hybrid and minimal links.
  *
  * application is the application's verdict on a transaction that is due, GMV_CODE_AA or GMV_CODE_AE
  * (it is looked at only for such a one, but must be one of the two). To ask the application about
- * what is due and about nothing else (HOST-14), act on a copy of the state first, with GMV_CODE_AA;
- * where GMV_RECEIVED_TRANSACTION is not 0 then, ask it; then act on the state itself, with its verdict.
- * Nothing is kept between calls, and what the first one wrote is written over.
+ * what is due and about nothing else (HOST-14), decide on a copy of the state first, with GMV_CODE_AA;
+ * where GMV_DECISION_TRANSACTION is not 0 then, ask it; then decide on the state itself, with its
+ * verdict. Nothing is kept between calls.
  *
- * The reply block is written into the buffer from offset start on, of which only the reply's bytes
- * change; the buffer from start on has at least data_limit + 15 bytes (minimal: + 3), whatever the
- * reply. An answer is that of gmv_answer_write in a data block. By MSH-13 and the expected number E,
- * its code and number and what is persisted with it are:
+ * By MSH-13 and the expected number E, the code and number of the answer and what is to be persisted are:
  *     -1             any state           AA, -1          none expected
  *     0              none expected       AA, -1          none expected
  *     0              E expected          AA, E           E expected
  *     n              none, or n expected application, n  transaction n, and n + 1 expected
  *     n              E, not n, expected  AR, E           E expected
  *     no number      any state           AR, E or -1     as before
+ * A decision that changes nothing is open like any other, and is reported.
  *
- * Hybrid: an accepted N block (block_type GMV_NAK_BLOCK) is dropped; every other type counts as a
- * data block. A refused block is answered by an N block: C for 6, X for 7, B for 4, G for 3, 5 and 8.
- * A data block without a readable header or control ID (9; as gmv_header_read, and a control ID with
- * a byte that data may not have is not readable either) is answered by an N block with G. Minimal:
- * refused blocks, also by 9, are dropped without a reply, and block_type is not looked at.
- * Of the data nothing but these fields is looked at, nor is its length compared with data_limit.
- * Words from GMV_RECEIVER_WORDS and GMV_RECEIVED_WORDS on are not changed.
+ * An N block (block_type GMV_NAK_BLOCK) is dropped. A data block without a readable header or control ID
+ * (9; as gmv_header_read, and a control ID with a byte that data may not have is not readable either)
+ * opens nothing: on a hybrid link gmv_hybrid_nak answers it. Of the data nothing but these fields is
+ * looked at.
  *
- * Returns 0 with state, report and buffer written; or, in this order and with nothing changed:
- *   1  a setting is outside its range, data_limit is below 128, application is neither code,
- *      block_number is none of 0, 3 to 8
- *   2  state_words below GMV_RECEIVER_WORDS, report_words below GMV_RECEIVED_WORDS, or the buffer is
- *      too short
- *   11 state[GMV_RECEIVER_EXPECTED] is over 999999999999999 */
-uint64_t gmv_hybrid_receive(uint64_t start_block, uint64_t end_block, uint64_t data_limit,
-                            uint64_t application, uint64_t *state, size_t state_words,
-                            uint64_t block_number, uint64_t block_type,
-                            const uint8_t *data, size_t data_length,
+ * Returns 0 with the report written, and the state where a decision was opened; or, in this order and
+ * with nothing changed:
+ *   1  application is neither code, or block_type neither type
+ *   2  state_words below GMV_RECEIVER_WORDS, or report_words below GMV_DECISION_WORDS
+ *   11 a decision is open, whatever the block (ordinary: HOST-17, HOST-18), or the words encode no state:
+ *      state[GMV_RECEIVER_EXPECTED] is over 999999999999999, or the open decision is none that the table
+ *      above gives for it, or its control ID none that an answer can carry */
+uint64_t gmv_receiver_decide(uint64_t application, uint64_t block_type,
+                             const uint8_t *data, size_t data_length,
+                             uint64_t *state, size_t state_words,
+                             uint64_t *report, size_t report_words);
+
+/* Reports that what the open decision says is persisted (stored is GMV_STORED), or that it is not and
+ * will not be (GMV_NOT_STORED). No decision is open then.
+ *
+ * Stored: the state expects what the decision said, and its answer is written into the buffer from
+ * offset start on, that of gmv_answer_write in a data block; of the buffer only the answer's bytes
+ * change. Not stored: nothing is written and nothing is to be sent (block length 0), and the state is
+ * the one before the decision. In both the words from GMV_RECEIVER_CODE on are 0. The buffer from start
+ * on has at least data_limit + 15 bytes (minimal: + 3), whatever is reported.
+ *
+ * Returns 0 with state and report written (GMV_REPORT_WORDS words: the block's length, 0); or, in this
+ * order and with nothing changed, so that the decision is still open:
+ *   1  a setting is outside its range, data_limit is below 128, or stored is neither 0 nor 1
+ *   2  state_words below GMV_RECEIVER_WORDS, report_words below GMV_REPORT_WORDS, or the buffer is too
+ *      short
+ *   11 no decision is open, or the words encode no state */
+uint64_t gmv_hybrid_answer(uint64_t start_block, uint64_t end_block, uint64_t data_limit,
+                           uint64_t stored, uint64_t *state, size_t state_words,
+                           uint8_t *buffer, size_t buffer_length, size_t start,
+                           uint64_t *report, size_t report_words);
+uint64_t gmv_minimal_answer(uint64_t data_limit,
+                            uint64_t stored, uint64_t *state, size_t state_words,
                             uint8_t *buffer, size_t buffer_length, size_t start,
                             uint64_t *report, size_t report_words);
-uint64_t gmv_minimal_receive(uint64_t data_limit,
-                             uint64_t application, uint64_t *state, size_t state_words,
-                             uint64_t block_number, uint64_t block_type,
-                             const uint8_t *data, size_t data_length,
-                             uint8_t *buffer, size_t buffer_length, size_t start,
-                             uint64_t *report, size_t report_words);
+
+/* The reply to a block that was refused: block_number is the number of its verdict, 3 to 8, or 9 of a
+ * decision's report. An N block is written into the buffer from offset start on: C for 6, X for 7, B for
+ * 4, G for 3, 5, 8 and 9. The state is not changed. On a minimal link such a block is dropped, and there
+ * is no such call.
+ *
+ * Returns 0 with the report written (GMV_REPORT_WORDS words: the block's length, 0); or, in this order
+ * and with nothing changed:
+ *   1  a setting is outside its range, data_limit is below 128, or block_number is none of 3 to 9
+ *   2  as for the answer
+ *   11 a decision is open, or the words encode no state */
+uint64_t gmv_hybrid_nak(uint64_t start_block, uint64_t end_block, uint64_t data_limit,
+                        uint64_t block_number, const uint64_t *state, size_t state_words,
+                        uint8_t *buffer, size_t buffer_length, size_t start,
+                        uint64_t *report, size_t report_words);
 
 /* ---- The sender of sequence numbers ----
  *
@@ -611,8 +672,10 @@ uint64_t gmv_sender_reset(uint64_t *state, size_t state_words,
 uint64_t gmv_sender_timer(uint64_t resends, uint64_t *state, size_t state_words,
                           uint64_t *report, size_t report_words);
 
-/* A block was read on the circuit: block_number, block_type and data as for the receiver.
- * block_type is as the reader gave it; on a minimal link the reader gives GMV_DATA_BLOCK.
+/* A block was read on the circuit. block_number is the verdict's number (0 accepted, or 3 to 8),
+ * block_type its type, and data the data of an accepted block; of a refused block the words of the
+ * verdict are passed as they are (type 0, length 0). Every type but GMV_NAK_BLOCK counts as a data
+ * block's; on a minimal link the reader gives GMV_DATA_BLOCK.
  *
  * An N block (block_type GMV_NAK_BLOCK) and a refused block, also by 9 (data that gmv_answer_read
  * refuses), do what the timer does. An answer whose MSA-2 is not the control ID of what waits is

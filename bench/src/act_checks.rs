@@ -4,10 +4,10 @@
 use crate::act_inputs::{accepted, answer, data_block, request, LARGEST_SENT};
 use crate::model_side;
 use host::ends_ffi;
-use host::ends_ffi::names::{ACT_WORDS, RECEIVED_WORDS, SENDER_WORDS};
+use host::ends_ffi::names::{ACT_WORDS, DECISION_WORDS, RECEIVER_WORDS, SENDER_WORDS};
 use host::ffi::names::MINUS_ONE;
-use host::model::Settings;
-use host::receiver_model::Incoming;
+use host::model::{Layer, Settings};
+use host::receiver_model::ReceiverAct;
 use host::sender_model::Act;
 
 /// States of every kind, and words that are none.
@@ -111,57 +111,82 @@ fn all_settings() -> [Settings; 6] {
     ]
 }
 
+/// Decisions on all messages, and on those that opened one its reports; N replies; and words that are no
+/// state, among them each state with one word changed.
 fn compare_receivers(messages: &[Vec<u8>]) {
-    for settings in all_settings() {
-        for state in [0, 1, 2, LARGEST_SENT, LARGEST_SENT + 1, LARGEST_SENT + 2] {
-            for message in messages {
-                for block_type in [b'D', b'N'] {
-                    let block = accepted(block_type, message);
-                    compare_receive(&settings, state, &block);
-                }
-            }
-            for number in 0..12 {
-                let mut block = accepted(b'D', b"");
-                block.number = number;
-                compare_receive(&settings, state, &block);
+    for expected in [0, 1, 2, LARGEST_SENT, LARGEST_SENT + 1, LARGEST_SENT + 2] {
+        let mut closed = [0; RECEIVER_WORDS];
+        closed[0] = expected;
+        compare_replies(&closed);
+        for message in messages {
+            let opened = compare_decisions(&closed, message);
+            compare_replies(&opened);
+            for index in 0..RECEIVER_WORDS {
+                let mut changed = opened;
+                changed[index] = changed[index].wrapping_add(1);
+                compare_decisions(&changed, message);
+                compare_replies(&changed);
             }
         }
     }
 }
 
-fn compare_receive(settings: &Settings, state: u64, block: &Incoming) {
-    for (application, length, start) in [
-        (1, 146, 2),
-        (2, 143, 0),
-        (1, 142, 0),
-        (1, 130, 0),
-        (0, 150, 0),
+/// The state after the decision on a data block.
+fn compare_decisions(state: &[u64; RECEIVER_WORDS], data: &[u8]) -> [u64; RECEIVER_WORDS] {
+    let decide = |application: u64, block_type: u8| ReceiverAct::Decide {
+        application,
+        block_type: block_type.into(),
+        data,
+    };
+    for act in [
+        decide(2, b'D'),
+        decide(1, b'N'),
+        decide(0, b'D'),
+        decide(1, b'E'),
     ] {
-        let (mut states, mut reports) = ([[state]; 2], [[7; RECEIVED_WORDS]; 2]);
-        let mut buffers = [vec![7; length], vec![7; length]];
-        let [library, model] = &mut buffers;
-        let [state, other_state] = &mut states;
-        let [report, other_report] = &mut reports;
-        let numbers = [
-            ends_ffi::receive(settings, application, state, block, library, start, report),
-            model_side::receive(
-                settings,
-                application,
-                other_state,
-                block,
-                model,
-                start,
-                other_report,
-            ),
-        ];
-        assert!(
-            numbers[0] == numbers[1],
-            "{numbers:?}: {settings:?}, {block:?}"
-        );
-        assert_eq!(states[0], states[1], "{settings:?}, {block:?}");
-        assert_eq!(reports[0], reports[1], "{settings:?}, {block:?}");
-        assert!(buffers[0] == buffers[1], "the replies differ: {block:?}");
+        compare_receiver(&act, state, 0, 0);
     }
+    compare_receiver(&decide(1, b'D'), state, 0, 0)
+}
+
+fn compare_replies(state: &[u64; RECEIVER_WORDS]) {
+    for settings in all_settings() {
+        for (length, start) in [(146, 2), (143, 0), (142, 0), (130, 0)] {
+            for stored in 0..3 {
+                let act = ReceiverAct::Report { settings, stored };
+                compare_receiver(&act, state, length, start);
+            }
+            for number in [0, 3, 4, 6, 7, 9, 10] {
+                let act = ReceiverAct::Nak { settings, number };
+                if settings.layer == Layer::Hybrid {
+                    compare_receiver(&act, state, length, start);
+                }
+            }
+        }
+    }
+}
+
+/// One act on both sides, from these words; gives those that it leaves.
+fn compare_receiver(
+    act: &ReceiverAct,
+    words: &[u64; RECEIVER_WORDS],
+    length: usize,
+    start: usize,
+) -> [u64; RECEIVER_WORDS] {
+    let (mut states, mut reports) = ([*words; 2], [[7; DECISION_WORDS]; 2]);
+    let mut buffers = [vec![7; length], vec![7; length]];
+    let [library, model] = &mut buffers;
+    let [state, other_state] = &mut states;
+    let [report, other_report] = &mut reports;
+    let numbers = [
+        ends_ffi::receiver_act(act, state, library, start, report),
+        model_side::receiver_act(act, other_state, model, start, other_report),
+    ];
+    assert!(numbers[0] == numbers[1], "{numbers:?}: {act:?}, {words:?}");
+    assert_eq!(states[0], states[1], "{act:?}, {words:?}");
+    assert_eq!(reports[0], reports[1], "{act:?}, {words:?}");
+    assert!(buffers[0] == buffers[1], "the replies differ: {act:?}");
+    states[0]
 }
 
 fn compare_controls() {

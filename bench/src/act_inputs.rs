@@ -2,13 +2,14 @@
 
 use crate::inputs;
 use host::ends_ffi::names::{
-    ACT_WORDS, RECEIVED_WORDS, RESENDS_DEFAULT, SENDER_DELIVERED, SENDER_LAST, SENDER_WAITING,
-    SENDER_WORDS,
+    ACT_WORDS, DECISION_TRANSACTION, DECISION_WORDS, RECEIVER_WORDS, RESENDS_DEFAULT,
+    SENDER_DELIVERED, SENDER_LAST, SENDER_WAITING, SENDER_WORDS, STORED,
 };
-use host::ends_ffi::{receive, receiver_fresh, sender_act, sender_fresh};
+use host::ends_ffi::{answer as report_stored, decide, receiver_fresh, sender_act, sender_fresh};
+use host::ffi::names::{CODE_AA, REPORT_WORDS};
 use host::model::Settings;
 use host::prng::Random;
-use host::receiver_model::Incoming;
+use host::receiver_model::{Incoming, ReceiverAct};
 use host::sender_model::Act;
 
 pub const LIMIT: u64 = 99_994;
@@ -24,6 +25,7 @@ pub const MIDDLE: u64 = 100_000_000_000;
 pub const FEWEST: usize = 4;
 
 pub type SenderState = [u64; SENDER_WORDS];
+pub type ReceiverState = [u64; RECEIVER_WORDS];
 
 /// A request with this number, followed by further segments up to so many bytes.
 pub fn request(number: u64, length: usize) -> Vec<u8> {
@@ -111,17 +113,33 @@ pub fn sender_after(first: u64, acts: usize) -> SenderState {
     state
 }
 
+/// The decision on an accepted data block.
+pub fn decision(data: &[u8]) -> ReceiverAct<'_> {
+    ReceiverAct::Decide {
+        application: CODE_AA,
+        block_type: b'D'.into(),
+        data,
+    }
+}
+
+/// The library's receiver once it has decided on a request that is due.
+pub fn receiver_decided(state: &ReceiverState, data: &[u8]) -> ReceiverState {
+    let (mut state, mut said) = (*state, [0; DECISION_WORDS]);
+    let number = decide(CODE_AA, b'D'.into(), data, &mut state, &mut said);
+    assert!(number == 0 && said[DECISION_TRANSACTION] != 0);
+    state
+}
+
 /// The library's receiver after so many requests that it accepted, from this number on.
-pub fn receiver_after(settings: &Settings, first: u64, acts: usize) -> u64 {
-    let mut state = [0];
+pub fn receiver_after(settings: &Settings, first: u64, acts: usize) -> ReceiverState {
+    let mut state = [0; RECEIVER_WORDS];
     assert_eq!(receiver_fresh(&mut state), 0);
     let mut buffer = vec![0; settings.limit as usize + settings.overhead()];
-    let mut report = [0; RECEIVED_WORDS];
     for number in (first..).take(acts) {
-        let data = request(number, 0);
-        let block = accepted(b'D', &data);
-        let answered = receive(settings, 1, &mut state, &block, &mut buffer, 0, &mut report);
-        assert_eq!([answered, report[0]], [0, number]);
+        state = receiver_decided(&state, &request(number, 0));
+        let report = &mut [0; REPORT_WORDS];
+        let answered = report_stored(settings, STORED, &mut state, &mut buffer, 0, report);
+        assert_eq!([answered, state[0]], [0, number + 1]);
     }
-    state[0]
+    state
 }

@@ -4,7 +4,9 @@
 use crate::act_inputs::{
     self, data_block, perform, SenderState, CALLS, FEWEST, LARGEST_SENT, LIMIT, MIDDLE,
 };
-use crate::acts::{ControlWork, ReceiverCall, ReceiverWork, SenderCall, SenderWork, Step};
+use crate::acts::{
+    ControlWork, ReceiverCall, ReceiverStep, ReceiverWork, SenderCall, SenderWork, Step,
+};
 use crate::timing::{self, Work};
 use host::ends_ffi::names::{RESENDS_DEFAULT, SENDER_DELIVERED, SENDER_LAST};
 use host::ffi::names::MINUS_ONE;
@@ -45,10 +47,15 @@ fn hybrid(limit: u64) -> Settings {
     Settings::hybrid(0x0B, 0x1C, limit)
 }
 
-fn layer_name(settings: &Settings) -> &'static str {
-    match settings.layer {
-        Layer::Hybrid => "gmv_hybrid_receive",
-        Layer::Minimal => "gmv_minimal_receive",
+/// The receiver's act on a kind of link.
+fn receiver_name(step: ReceiverStep, settings: &Settings) -> &'static str {
+    match (step, settings.layer) {
+        (ReceiverStep::Decide, _) => "gmv_receiver_decide",
+        (ReceiverStep::Answer, Layer::Hybrid) => "gmv_hybrid_answer",
+        (ReceiverStep::Answer, Layer::Minimal) => "gmv_minimal_answer",
+        (ReceiverStep::Nak, _) => "gmv_hybrid_nak",
+        (ReceiverStep::Both, Layer::Hybrid) => "decision and report, hybrid",
+        (ReceiverStep::Both, Layer::Minimal) => "decision and report, minimal",
     }
 }
 
@@ -220,56 +227,97 @@ fn sender_variants(step: Step, beginnings: &[Beginning]) -> Vec<Variant> {
     variants
 }
 
-/// Requests of so many bytes that are due after so many others.
-fn receiver_variant(
-    label: String,
+/// Acts on requests of so many bytes that are due after so many others.
+#[derive(Clone, Copy)]
+struct Receiving {
+    step: ReceiverStep,
     settings: Settings,
-    firsts: &[u64],
     acts: usize,
     length: usize,
-) -> Variant {
+}
+
+/// A receiver's calls: a decision is made from a state with none open, a report with the one on the
+/// request that is due.
+fn receiver_variant(label: String, firsts: &[u64], receiving: Receiving) -> Variant {
+    let Receiving {
+        step,
+        settings,
+        acts,
+        length,
+    } = receiving;
     let calls = firsts.iter().map(|&first| {
         let state = act_inputs::receiver_after(&settings, first, acts);
-        let data = act_inputs::request(state, length);
+        let data = act_inputs::request(state[0], length);
+        let state = match step {
+            ReceiverStep::Answer => act_inputs::receiver_decided(&state, &data),
+            _ => state,
+        };
         ReceiverCall { state, data }
     });
     let calls: Vec<ReceiverCall> = calls.collect();
-    let read = segments(&calls[0].data, 1);
-    let mut work = ReceiverWork::new(settings, calls);
+    let is_deciding = matches!(step, ReceiverStep::Decide | ReceiverStep::Both);
+    let (given, read) = match is_deciding {
+        true => (calls[0].data.len(), segments(&calls[0].data, 1)),
+        false => (0, 0),
+    };
+    let mut work = ReceiverWork::new(settings, step, calls);
     work.library();
     Variant {
         label,
-        given: work.length(),
+        given,
         read,
         written: work.reply_length() as usize,
         work: Box::new(work),
     }
 }
 
-/// All variants of the receiver's act; the first state comes first.
-fn receiver_variants(settings: Settings) -> Vec<Variant> {
+/// The receiver's act in a first state.
+fn first_receiving(step: ReceiverStep, settings: Settings) -> Receiving {
+    Receiving {
+        step,
+        settings,
+        acts: 1,
+        length: LENGTHS[0],
+    }
+}
+
+/// All variants of one of the receiver's acts; the first state comes first.
+fn receiver_variants(step: ReceiverStep, settings: Settings) -> Vec<Variant> {
     let middle = firsts(MIDDLE, 1_000_000);
-    let variant = |label: String, firsts: &[u64], acts: usize, length: usize| {
-        receiver_variant(label, settings, firsts, acts, length)
-    };
-    let mut variants = vec![variant("first state".to_string(), &middle, 1, LENGTHS[0])];
+    let first = first_receiving(step, settings);
+    let mut variants = vec![receiver_variant("first state".to_string(), &middle, first)];
     for acts in HISTORIES {
         let label = format!("{acts} acts before");
-        variants.push(variant(label, &middle, acts, LENGTHS[0]));
+        variants.push(receiver_variant(
+            label,
+            &middle,
+            Receiving { acts, ..first },
+        ));
     }
     for (label, firsts) in first_numbers() {
-        variants.push(variant(label.to_string(), &firsts, 1, LENGTHS[0]));
+        variants.push(receiver_variant(label.to_string(), &firsts, first));
     }
-    for length in &LENGTHS[1..] {
-        let label = "further segments".to_string();
-        variants.push(variant(label, &middle, 1, *length));
+    if step == ReceiverStep::Decide {
+        for length in LENGTHS.into_iter().skip(1) {
+            let label = "further segments".to_string();
+            variants.push(receiver_variant(
+                label,
+                &middle,
+                Receiving { length, ..first },
+            ));
+        }
+        return variants;
     }
-    let small = Settings {
+    let settings = Settings {
         limit: 128,
         ..settings
     };
     let label = "data limit 128".to_string();
-    variants.push(receiver_variant(label, small, &middle, 1, LENGTHS[0]));
+    variants.push(receiver_variant(
+        label,
+        &middle,
+        Receiving { settings, ..first },
+    ));
     variants
 }
 
@@ -347,7 +395,8 @@ const GROWTH_TEXT: &str = "\
 Each act by the same act of the library in a first state: ns per call; medians. Given: the bytes
 of the message or of the block's data; read: those that the act has to look at (submitting: all, and
 the first segment again); written: those of the reply. First state: the fewest acts before it (4; a
-receiver 1), numbers of 12 digits, r of 3, data limit 99,994. Each other row changes one thing.
+receiver: 1 transaction stored), numbers of 12 digits, r of 3, data limit 99,994. Each other row
+changes one thing.
 
 | act | state | given | read | written | library ns | model ns | by the first | spread \
 | bytes by the first |
@@ -356,9 +405,20 @@ receiver 1), numbers of 12 digits, r of 3, data limit 99,994. Each other row cha
 fn growth_table(rounds: usize) {
     println!("{GROWTH_TEXT}");
     let mut growth = Growth::default();
-    for settings in [hybrid(LIMIT), Settings::minimal(LIMIT)] {
-        let variants = receiver_variants(settings);
-        print_variants(layer_name(&settings), variants, rounds, &mut growth);
+    let minimal = Settings::minimal(LIMIT);
+    for (step, settings) in [
+        (ReceiverStep::Decide, hybrid(LIMIT)),
+        (ReceiverStep::Answer, hybrid(LIMIT)),
+        (ReceiverStep::Answer, minimal),
+        (ReceiverStep::Nak, hybrid(LIMIT)),
+    ] {
+        let variants = receiver_variants(step, settings);
+        print_variants(
+            receiver_name(step, &settings),
+            variants,
+            rounds,
+            &mut growth,
+        );
     }
     let beginnings = beginnings();
     for (step, name) in STEPS {
@@ -408,10 +468,17 @@ call begins from words that are copied anew, which is timed on both sides.
 
 fn ratio_table(rounds: usize) {
     println!("{RATIO_TEXT}");
-    for settings in [hybrid(LIMIT), Settings::minimal(LIMIT)] {
-        let middle = firsts(MIDDLE, 1_000_000);
-        let variant = receiver_variant(String::new(), settings, &middle, 1, LENGTHS[0]);
-        print_ratio(layer_name(&settings), variant, rounds);
+    let (middle, minimal) = (firsts(MIDDLE, 1_000_000), Settings::minimal(LIMIT));
+    for (step, settings) in [
+        (ReceiverStep::Decide, hybrid(LIMIT)),
+        (ReceiverStep::Answer, hybrid(LIMIT)),
+        (ReceiverStep::Answer, minimal),
+        (ReceiverStep::Nak, hybrid(LIMIT)),
+        (ReceiverStep::Both, hybrid(LIMIT)),
+        (ReceiverStep::Both, minimal),
+    ] {
+        let variant = receiver_variant(String::new(), &middle, first_receiving(step, settings));
+        print_ratio(receiver_name(step, &settings), variant, rounds);
     }
     let first = beginning(String::new(), &firsts(MIDDLE, 1_000_000), FEWEST);
     for (step, name) in STEPS {

@@ -1,14 +1,16 @@
 //! The two sides of the acts of both ends: the library through its C interface, and the model. Each
 //! call begins from words that were prepared, and leaves its words and bytes for comparison.
 
-use crate::act_inputs::{accepted, data_block, SenderState, LIMIT};
+use crate::act_inputs::{accepted, data_block, decision, ReceiverState, SenderState, LIMIT};
 use crate::model_side;
 use crate::timing::Work;
 use host::ends_ffi;
-use host::ends_ffi::names::{ACT_WORDS, RECEIVED_WORDS, SENDER_WORDS};
-use host::ffi::names::{CODE_AA, REPORT_WORDS};
+use host::ends_ffi::names::{
+    ACT_WORDS, DECISION_TRANSACTION, DECISION_WORDS, RECEIVER_WORDS, SENDER_WORDS, STORED,
+};
+use host::ffi::names::REPORT_WORDS;
 use host::model::Settings;
-use host::receiver_model::Incoming;
+use host::receiver_model::ReceiverAct;
 use host::sender_model::Act;
 use std::hint::black_box;
 
@@ -141,79 +143,114 @@ impl Work for SenderWork {
     }
 }
 
-/// A receiver's act on an accepted data block, from a state.
+/// The receiver's acts; the last makes a decision and the report that it is stored.
+#[derive(Clone, Copy, Debug, PartialEq, Eq)]
+pub enum ReceiverStep {
+    Decide,
+    Answer,
+    Nak,
+    Both,
+}
+
+/// The block that an N reply answers: its sum was wrong.
+const REFUSED: u64 = 7;
+
+/// A receiver's act from a state; on an accepted data block where it is a decision.
 pub struct ReceiverCall {
-    pub state: u64,
+    pub state: ReceiverState,
     pub data: Vec<u8>,
 }
 
-/// What a pass left: states, reports and replies.
+/// What a pass left: states, what decisions said, reports and replies.
 #[derive(Clone, PartialEq, Eq)]
 struct ReceiverResults {
-    states: Vec<u64>,
-    reports: Vec<[u64; RECEIVED_WORDS]>,
+    states: Vec<ReceiverState>,
+    decisions: Vec<[u64; DECISION_WORDS]>,
+    reports: Vec<[u64; REPORT_WORDS]>,
     buffer: Vec<u8>,
 }
 
 /// Acts of a receiver that both sides make.
 pub struct ReceiverWork {
     settings: Settings,
+    step: ReceiverStep,
     calls: Vec<ReceiverCall>,
     library: ReceiverResults,
     model: ReceiverResults,
 }
 
 impl ReceiverWork {
-    pub fn new(settings: Settings, calls: Vec<ReceiverCall>) -> ReceiverWork {
+    pub fn new(settings: Settings, step: ReceiverStep, calls: Vec<ReceiverCall>) -> ReceiverWork {
         let count = calls.len();
         let need = settings.limit as usize + settings.overhead();
         let results = ReceiverResults {
-            states: vec![0; count],
-            reports: vec![[0; RECEIVED_WORDS]; count],
+            states: vec![[0; RECEIVER_WORDS]; count],
+            decisions: vec![[0; DECISION_WORDS]; count],
+            reports: vec![[0; REPORT_WORDS]; count],
             buffer: vec![0; need + count * STRIDE],
         };
         ReceiverWork {
             settings,
+            step,
             calls,
             library: results.clone(),
             model: results,
         }
     }
 
-    pub fn length(&self) -> usize {
-        self.calls[0].data.len()
-    }
-
     /// The bytes of a reply, once some were written.
     pub fn reply_length(&self) -> u64 {
-        self.library.reports[0][1]
+        self.library.reports[0][0]
+    }
+
+    fn act_all(&self, act: ReceiverActs, results: &mut ReceiverResults) {
+        let settings = self.settings;
+        let (is_deciding, reply) = match self.step {
+            ReceiverStep::Decide => (true, None),
+            ReceiverStep::Answer => (false, Some(reported(settings))),
+            ReceiverStep::Both => (true, Some(reported(settings))),
+            ReceiverStep::Nak => (
+                false,
+                Some(ReceiverAct::Nak {
+                    settings,
+                    number: REFUSED,
+                }),
+            ),
+        };
+        for _ in 0..PASSES {
+            for (index, call) in self.calls.iter().enumerate() {
+                let (mut state, buffer) = (call.state, &mut results.buffer);
+                if is_deciding {
+                    let (act_on, said) = (decision(&call.data), &mut results.decisions[index]);
+                    let number = act(black_box(&act_on), &mut state, buffer, 0, said);
+                    assert_eq!(number, 0);
+                }
+                if let Some(reply) = &reply {
+                    let (start, report) = (index * STRIDE, &mut results.reports[index]);
+                    let number = act(black_box(reply), &mut state, buffer, start, report);
+                    assert_eq!(number, 0);
+                }
+                results.states[index] = state;
+            }
+        }
     }
 }
 
-type Receive = fn(&Settings, u64, &mut [u64], &Incoming, &mut [u8], usize, &mut [u64]) -> u64;
+fn reported(settings: Settings) -> ReceiverAct<'static> {
+    ReceiverAct::Report {
+        settings,
+        stored: STORED,
+    }
+}
 
-fn receive_all(
-    receive: Receive,
-    settings: &Settings,
-    calls: &[ReceiverCall],
-    results: &mut ReceiverResults,
-) {
-    for _ in 0..PASSES {
-        for (index, call) in calls.iter().enumerate() {
-            let block = accepted(b'D', &call.data);
-            let mut state = [call.state];
-            let number = receive(
-                settings,
-                CODE_AA,
-                &mut state,
-                black_box(&block),
-                &mut results.buffer,
-                index * STRIDE,
-                &mut results.reports[index],
-            );
-            assert_eq!(number, 0);
-            results.states[index] = state[0];
-        }
+type ReceiverActs = fn(&ReceiverAct, &mut [u64], &mut [u8], usize, &mut [u64]) -> u64;
+
+fn nothing() -> ReceiverResults {
+    ReceiverResults {
+        states: Vec::new(),
+        decisions: Vec::new(),
+        reports: Vec::new(),
+        buffer: Vec::new(),
     }
 }
 
@@ -223,19 +260,31 @@ impl Work for ReceiverWork {
     }
 
     fn library(&mut self) {
-        let results = &mut self.library;
-        receive_all(ends_ffi::receive, &self.settings, &self.calls, results);
+        let mut results = std::mem::replace(&mut self.library, nothing());
+        self.act_all(ends_ffi::receiver_act, &mut results);
+        self.library = results;
     }
 
     fn model(&mut self) {
-        let results = &mut self.model;
-        receive_all(model_side::receive, &self.settings, &self.calls, results);
+        let mut results = std::mem::replace(&mut self.model, nothing());
+        self.act_all(model_side::receiver_act, &mut results);
+        self.model = results;
     }
 
     fn compare(&self) {
         assert!(self.library == self.model, "the receiver's results differ");
-        let taken = self.library.reports.iter().all(|report| report[0] != 0);
-        assert!(taken, "a transaction that is due is not taken");
+        let decisions = &mut self.library.decisions.iter();
+        let is_taken = decisions.all(|said| said[DECISION_TRANSACTION] != 0);
+        let is_written = self.library.reports.iter().all(|report| report[0] != 0);
+        let is_deciding = matches!(self.step, ReceiverStep::Decide | ReceiverStep::Both);
+        assert!(
+            is_taken == is_deciding,
+            "a transaction that is due is not taken"
+        );
+        assert!(
+            is_written == (self.step != ReceiverStep::Decide),
+            "no reply"
+        );
     }
 }
 

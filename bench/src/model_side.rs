@@ -3,7 +3,7 @@
 
 use host::message_model::{self, Memory, Written, HEADER_WORDS, REPORT_WORDS};
 use host::model::Settings;
-use host::receiver_model::{self, Incoming, Received, RECEIVED_WORDS};
+use host::receiver_model::{self, ReceiverAct, RECEIVER_WORDS};
 use host::sender_model::{self, Act, Acted, ACT_WORDS, SENDER_WORDS};
 
 const OK: u64 = 0;
@@ -91,21 +91,25 @@ pub fn control_block(
     }
 }
 
-pub fn receive(
-    settings: &Settings,
-    application: u64,
+pub fn receiver_act(
+    act: &ReceiverAct,
     state: &mut [u64],
-    block: &Incoming,
     buffer: &mut [u8],
     start: usize,
     report: &mut [u64],
 ) -> u64 {
     let memory = memory(buffer, start, report);
-    match receiver_model::receive(settings, application, state, block, &memory) {
-        Received::Refused(number) => number,
-        Received::Taken(expected, words, reply) => {
-            state[0] = expected;
-            report[..RECEIVED_WORDS].copy_from_slice(&words);
+    match receiver_model::act_on_words(act, state, &memory) {
+        receiver_model::Acted::Refused(number) => number,
+        receiver_model::Acted::Done {
+            state: then,
+            report: words,
+            reply,
+        } => {
+            if let Some(then) = then {
+                state[..RECEIVER_WORDS].copy_from_slice(&then);
+            }
+            report[..words.len()].copy_from_slice(&words);
             put(&reply, buffer, start);
             OK
         }

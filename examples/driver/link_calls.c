@@ -58,31 +58,30 @@ uint64_t link_data_block(const settings *link, const uint8_t *message, size_t me
                              report, GMV_REPORT_WORDS);
 }
 
-uint64_t link_receive(const settings *link, uint64_t *state, const input *in, uint8_t *buffer,
-                      size_t buffer_length, uint64_t *report)
+uint64_t link_decide(const settings *link, uint64_t *state, const input *in, uint64_t *report)
 {
-    const uint64_t *verdict = in->verdict;
-
-    if (link->hybrid)
-        return gmv_hybrid_receive(link->start_block, link->end_block, link->data_limit,
-                                  link->application, state, GMV_RECEIVER_WORDS,
-                                  verdict[GMV_VERDICT_NUMBER], verdict[GMV_VERDICT_TYPE],
-                                  input_data(in), verdict[GMV_VERDICT_DATA_LENGTH], buffer,
-                                  buffer_length, 0, report, GMV_RECEIVED_WORDS);
-    return gmv_minimal_receive(link->data_limit, link->application, state, GMV_RECEIVER_WORDS,
-                               verdict[GMV_VERDICT_NUMBER], verdict[GMV_VERDICT_TYPE],
-                               input_data(in), verdict[GMV_VERDICT_DATA_LENGTH], buffer,
-                               buffer_length, 0, report, GMV_RECEIVED_WORDS);
+    return gmv_receiver_decide(link->application, in->verdict[GMV_VERDICT_TYPE], input_data(in),
+                               in->verdict[GMV_VERDICT_DATA_LENGTH], state, GMV_RECEIVER_WORDS, report,
+                               GMV_DECISION_WORDS);
 }
 
-/* The bytes of a block before its data and after it. An N block's one byte is no answer. */
-uint64_t link_reply_code(const settings *link, const uint8_t *reply, size_t length)
+uint64_t link_answer(const settings *link, uint64_t stored, uint64_t *state, uint8_t *buffer,
+                     size_t buffer_length, uint64_t *report)
 {
-    const size_t before = link->hybrid ? 5 : 1, around = link->hybrid ? BLOCK_OVERHEAD : 3;
-    uint64_t answer[GMV_ANSWER_WORDS];
+    if (link->hybrid)
+        return gmv_hybrid_answer(link->start_block, link->end_block, link->data_limit, stored, state,
+                                 GMV_RECEIVER_WORDS, buffer, buffer_length, 0, report,
+                                 GMV_REPORT_WORDS);
+    return gmv_minimal_answer(link->data_limit, stored, state, GMV_RECEIVER_WORDS, buffer,
+                              buffer_length, 0, report, GMV_REPORT_WORDS);
+}
 
-    if (length < around ||
-        gmv_answer_read(reply + before, length - around, answer, GMV_ANSWER_WORDS) != GMV_OK)
-        return GMV_CODE_OTHER;
-    return answer[GMV_ANSWER_CODE];
+uint64_t link_refusal(const settings *link, uint64_t block_number, const uint64_t *state,
+                      uint8_t *buffer, size_t buffer_length, uint64_t *report)
+{
+    if (link->hybrid)
+        return gmv_hybrid_nak(link->start_block, link->end_block, link->data_limit, block_number, state,
+                              GMV_RECEIVER_WORDS, buffer, buffer_length, 0, report, GMV_REPORT_WORDS);
+    report[GMV_REPORT_BLOCK_LENGTH] = 0; /* a minimal link has no such reply */
+    return GMV_OK;
 }

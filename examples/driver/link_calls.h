@@ -31,10 +31,13 @@ uint64_t link_control_block(const settings *link, uint64_t number, uint8_t *buff
                             size_t buffer_length, uint64_t *report);
 uint64_t link_data_block(const settings *link, const uint8_t *message, size_t message_length,
                          uint8_t *buffer, size_t buffer_length, uint64_t *report);
-uint64_t link_receive(const settings *link, uint64_t *state, const input *in, uint8_t *buffer,
-                      size_t buffer_length, uint64_t *report);
 
-/* The code of a reply that link_receive wrote: GMV_CODE_.. ; GMV_CODE_OTHER where it is an N block. */
-uint64_t link_reply_code(const settings *link, const uint8_t *reply, size_t length);
+/* The receiver's acts: the decision on the block that was just accepted, the report of it with its answer, and the reply to
+ * a block that was refused. */
+uint64_t link_decide(const settings *link, uint64_t *state, const input *in, uint64_t *report);
+uint64_t link_answer(const settings *link, uint64_t stored, uint64_t *state, uint8_t *buffer,
+                     size_t buffer_length, uint64_t *report);
+uint64_t link_refusal(const settings *link, uint64_t block_number, const uint64_t *state,
+                      uint8_t *buffer, size_t buffer_length, uint64_t *report);
 
 #endif

@@ -14,7 +14,7 @@ enum { RECORD_LENGTH = 4096 };
 #define SENDER_TITLE "giamuvich sender "
 #define SENDER_LIVE_TITLE "giamuvich sender live 2\n"
 #define RECEIVER_TITLE "giamuvich receiver "
-#define RECEIVER_LIVE_TITLE "giamuvich receiver live 2\n"
+#define RECEIVER_LIVE_TITLE "giamuvich receiver live 3\n"
 #define FORM_FILE "form" /* there once the folder's state has a check */
 
 /* The names of the words, in the library's order. */
@@ -24,16 +24,19 @@ static const char *const report_names[GMV_ACT_WORDS] = {
     "act_send", "act_send_number", "act_sends", "act_event", "act_delivered", "act_code",
     "act_block", "act_forbidden_offset"};
 static const char *const receiver_names[] = {"expected", "stored", "cleared", "cleared_after"};
+static const char *const decision_names[GMV_RECEIVER_WORDS - GMV_RECEIVER_PERSISTED_WORDS] = {
+    "code", "number", "transaction", "new_expected", "control_id_length", "control_id_1",
+    "control_id_2", "control_id_3"};
 static const char *const sender_count_names[] = {"circuits", "given_up", "given_up_since",
                                                  "refused_since", "last_refused", "dropped_since",
                                                  "errors", "last_error"};
 static const char *const count_names[] = {"circuits", "blocks", "refused", "last_refused", "rejected",
                                           "refused_since", "rejected_since", "wrong_at",
-                                          "cleared_since"};
+                                          "cleared_since", "unstored", "unstored_since", "unstored_at"};
 static const char *const running_names[] = {"process", "turned", "circuit_open", "since",
                                             "hung_up", "hung_up_at", "called", "called_at"};
-enum { FIRST_FORM_WORDS = 2, RECEIVER_RECORD_WORDS = 4, SENDER_COUNT_WORDS = 8, COUNT_WORDS = 9,
-       RUNNING_WORDS = 8 };
+enum { FIRST_FORM_WORDS = 2, RECEIVER_RECORD_WORDS = 4, SENDER_COUNT_WORDS = 8, COUNT_WORDS = 12,
+       RUNNING_WORDS = 8, DECISION_NAMES = sizeof decision_names / sizeof decision_names[0] };
 
 /* ---- text that is made */
 
@@ -93,10 +96,9 @@ static unsigned long check_of(const char *bytes, size_t length)
     return check ^ 0xFFFFFFFF;
 }
 
-static void store_text(const char *folder, text *made)
+static void add_check(text *to)
 {
-    add(made, "check %08lx\nend\n", check_of(made->bytes, made->length));
-    store_durably(folder, "state", made->bytes, made->length);
+    add(to, "check %08lx\nend\n", check_of(to->bytes, to->length));
 }
 
 /* ---- text that is read: what was made, line by line */
@@ -211,7 +213,7 @@ static const char *read_text(const char *folder, const char *name, char *bytes)
     if (length < 0)
         return errno == ENOENT ? RECORD_MISSING : RECORD_UNREADABLE;
     if (length == RECORD_LENGTH || memchr(bytes, '\0', (size_t)length) != NULL)
-        return "is damaged";
+        return RECORD_DAMAGED;
     bytes[length] = '\0';
     return NULL;
 }
@@ -237,6 +239,8 @@ void require_checks(const char *folder)
 
 /* ---- words that are a state: an act that applies to every state of that kind is tried on a copy */
 
+enum { LEAST_LIMIT = 128, MINIMAL_OVERHEAD = 3 }; /* any link's settings do for a trial */
+
 static int is_sender(const uint64_t *words)
 {
     uint64_t copy[GMV_SENDER_WORDS], report[GMV_ACT_WORDS], number;
@@ -251,17 +255,18 @@ static int is_sender(const uint64_t *words)
     return number == GMV_OK;
 }
 
-/* A refused minimal block changes nothing and is not answered. */
+/* An open decision can be reported; where none is, an N block is dropped. */
 static int is_receiver(const uint64_t *words)
 {
-    enum { LEAST_LIMIT = 128 };
-    uint64_t copy[GMV_RECEIVER_WORDS], report[GMV_RECEIVED_WORDS];
-    uint8_t buffer[LEAST_LIMIT + 3];
+    uint64_t copy[GMV_RECEIVER_WORDS], report[GMV_DECISION_WORDS];
+    uint8_t reply[LEAST_LIMIT + MINIMAL_OVERHEAD];
 
     memcpy(copy, words, sizeof copy);
-    return gmv_minimal_receive(LEAST_LIMIT, GMV_CODE_AA, copy, GMV_RECEIVER_WORDS, GMV_SHAPE, 0,
-                               NULL, 0, buffer, sizeof buffer, 0, report,
-                               GMV_RECEIVED_WORDS) == GMV_OK;
+    if (copy[GMV_RECEIVER_CODE] != 0)
+        return gmv_minimal_answer(LEAST_LIMIT, GMV_NOT_STORED, copy, GMV_RECEIVER_WORDS, reply, sizeof reply, 0, report,
+                                  GMV_DECISION_WORDS) == GMV_OK;
+    return gmv_receiver_decide(GMV_CODE_AA, GMV_NAK_BLOCK, NULL, 0, copy, GMV_RECEIVER_WORDS, report,
+                               GMV_DECISION_WORDS) == GMV_OK;
 }
 
 /* ---- the sender */
@@ -279,7 +284,7 @@ const char *read_sender(const char *folder, sender_record *record)
     if (!takes_title(&at, SENDER_TITLE, &record->unchecked) ||
         !takes_words(&at, sender_names, record->words, GMV_SENDER_PERSISTED_WORDS) ||
         !takes_freeze(&at, record) || !(record->unchecked || takes_check(&at, bytes)) || !takes_end(&at))
-        return "is damaged";
+        return RECORD_DAMAGED;
     if (!is_sender(record->words))
         return "has words that are no sender's state";
     return unchecked_problem(folder, record->unchecked);
@@ -314,7 +319,7 @@ const char *read_sender_live(const char *folder, sender_record *record, uint64_t
     if (!takes(&at, SENDER_LIVE_TITLE) || !takes_words(&at, sender_names, record->words, GMV_SENDER_WORDS) ||
         !takes_words(&at, report_names, report, GMV_ACT_WORDS) || !takes_sender_counts(&at, counts) ||
         !takes_running(&at, running) || !takes_freeze(&at, record) || !takes_end(&at))
-        return "is damaged";
+        return RECORD_DAMAGED;
     return is_sender(record->words) ? NULL : "has words that are no sender's state";
 }
 
@@ -325,7 +330,8 @@ void store_sender(const char *folder, const sender_record *record)
     add(&made, "%s2\n", SENDER_TITLE);
     add_words(&made, sender_names, record->words, GMV_SENDER_PERSISTED_WORDS);
     add_freeze(&made, record);
-    store_text(folder, &made);
+    add_check(&made);
+    store_durably(folder, "state", made.bytes, made.length);
 }
 
 void show_sender(const char *folder, const sender_record *record, const uint64_t *report,
@@ -371,7 +377,7 @@ const char *read_receiver(const char *folder, receiver_record *record)
     if (!takes_title(&at, RECEIVER_TITLE, &record->unchecked) ||
         !takes_words(&at, receiver_names, words, record->unchecked ? FIRST_FORM_WORDS : RECEIVER_RECORD_WORDS) ||
         !(record->unchecked || takes_check(&at, bytes)) || !takes_end(&at))
-        return "is damaged";
+        return RECORD_DAMAGED;
     problem = receiver_of(words, record);
     return problem != NULL ? problem : unchecked_problem(folder, record->unchecked);
 }
@@ -391,7 +397,10 @@ static int takes_receiver_counts(const char **at, receiver_counts *counts)
     counts->rejected_since = counted[6];
     counts->wrong_at = counted[7];
     counts->cleared = counted[8];
-    return 1;
+    counts->unstored = counted[9];
+    counts->unstored_since = counted[10];
+    counts->unstored_at = counted[11];
+    return takes_text(at, "unstored_reason", counts->unstored_reason, REASON_TEXT);
 }
 
 const char *read_receiver_live(const char *folder, receiver_record *record, receiver_counts *counts,
@@ -405,8 +414,9 @@ const char *read_receiver_live(const char *folder, receiver_record *record, rece
         return problem;
     memset(record, 0, sizeof *record);
     if (!takes(&at, RECEIVER_LIVE_TITLE) || !takes_words(&at, receiver_names, words, RECEIVER_RECORD_WORDS) ||
+        !takes_words(&at, decision_names, record->words + GMV_RECEIVER_PERSISTED_WORDS, DECISION_NAMES) ||
         !takes_receiver_counts(&at, counts) || !takes_running(&at, running) || !takes_end(&at))
-        return "is damaged";
+        return RECORD_DAMAGED;
     return receiver_of(words, record);
 }
 
@@ -418,13 +428,14 @@ static void add_receiver(text *to, const receiver_record *record)
     add_words(to, receiver_names, words, RECEIVER_RECORD_WORDS);
 }
 
-void store_receiver(const char *folder, const receiver_record *record)
+int store_receiver(const char *folder, const receiver_record *record)
 {
     text made = {"", 0};
 
     add(&made, "%s2\n", RECEIVER_TITLE);
     add_receiver(&made, record);
-    store_text(folder, &made);
+    add_check(&made);
+    return store_if_space(folder, "state", made.bytes, made.length);
 }
 
 void show_receiver(const char *folder, const receiver_record *record, const receiver_counts *counts,
@@ -432,12 +443,15 @@ void show_receiver(const char *folder, const receiver_record *record, const rece
 {
     const uint64_t counted[COUNT_WORDS] = {counts->circuits, counts->blocks, counts->refused,
                                            counts->last_refused, counts->rejected, counts->refused_since,
-                                           counts->rejected_since, counts->wrong_at, counts->cleared};
+                                           counts->rejected_since, counts->wrong_at, counts->cleared,
+                                           counts->unstored, counts->unstored_since, counts->unstored_at};
     text made = {"", 0};
 
     add(&made, "%s", RECEIVER_LIVE_TITLE);
     add_receiver(&made, record);
+    add_words(&made, decision_names, record->words + GMV_RECEIVER_PERSISTED_WORDS, DECISION_NAMES);
     add_words(&made, count_names, counted, COUNT_WORDS);
+    add(&made, "unstored_reason %s\n", counts->unstored_reason);
     add_running(&made, running);
     add(&made, "end\n");
     store_lightly(folder, "live", made.bytes, made.length);

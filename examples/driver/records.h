@@ -5,11 +5,12 @@
 
 #include "giamuvich.h"
 
-enum { FREEZE_TEXT = 81, RUNNING_TEXT = 256 };
+enum { FREEZE_TEXT = 81, RUNNING_TEXT = 256, REASON_TEXT = 81 };
 
-/* What a reader says where there is no file, and where it may not read it. */
+/* What a reader says where there is no file, where it may not read it, and where it is not what a driver writes. */
 #define RECORD_MISSING "is missing"
 #define RECORD_UNREADABLE "cannot be read"
+#define RECORD_DAMAGED "is damaged"
 
 /* What a frozen sender waited on, and the answer that it froze on (MSA-1, MSA-2 and MSA-4 as they
  * came, at most 80 bytes of each). Empty where it is not frozen. */
@@ -24,7 +25,7 @@ typedef struct {
 } sender_record;
 
 typedef struct {
-    uint64_t words[GMV_RECEIVER_WORDS];
+    uint64_t words[GMV_RECEIVER_WORDS]; /* read from what is persisted, all but the first are 0 */
     uint64_t stored;        /* how many transactions: FOLDER/transactions/1 to this */
     uint64_t cleared;       /* the expected number that the last -1 took away, 0: none did */
     uint64_t cleared_after; /* how many transactions were stored then */
@@ -55,6 +56,9 @@ typedef struct {
     uint64_t refused_since, rejected_since; /* since a transaction, or a resend of the last one, came */
     uint64_t wrong_at;       /* when one of these was last */
     uint64_t cleared;        /* expected numbers that -1 took away */
+    uint64_t unstored, unstored_since; /* decisions reported failed; those since one was stored */
+    uint64_t unstored_at;    /* when the last one was */
+    char unstored_reason[REASON_TEXT];
 } receiver_counts;
 
 /* Each reader returns NULL, or what is wrong in words. It accepts what the writer writes and, of a state,
@@ -69,7 +73,9 @@ const char *read_receiver_live(const char *folder, receiver_record *record, rece
 void store_sender(const char *folder, const sender_record *record);
 void show_sender(const char *folder, const sender_record *record, const uint64_t *report,
                  const sender_counts *counts, const running_details *running);
-void store_receiver(const char *folder, const receiver_record *record);
+
+/* Returns 0 when it is stored; or -1, with errno, where the disk has no room and the state is the one before. */
+int store_receiver(const char *folder, const receiver_record *record);
 void show_receiver(const char *folder, const receiver_record *record, const receiver_counts *counts,
                    const running_details *running);
 

@@ -18,11 +18,14 @@
 #define HUNG_UP "gmv_driver: %s took the call and soon hung up\n"
 #define NEW_CALLER "gmv_driver: a new caller, %s, ended the circuit with %s\n"
 #define CLEARED "gmv_driver: -1 from %s: the expected number %llu is forgotten, with %llu stored\n"
+#define UNSTORED "gmv_driver: %s is not stored: %s; it is not answered, and taken when it comes again\n"
+#define ROOM "gmv_driver: there is room again: %s is stored, after %s\n"
 #define PLAIN_DEVICE "gmv_driver: %s is a plain device: nobody empties this line between two circuits\n"
 #define REPEATED "gmv_driver: %s more since %s: %s\n"
 
 enum { LINE_LENGTH = 1024, FIRST_FOLD = 60000, MOST_FOLD = 3600000 /* milliseconds */ };
-enum sentence { LIFE, GIVING_UP, FREEZING, FILES, CALLS, HANGUPS, CALLERS, CLEARING, DEVICES, SENTENCES };
+enum sentence { LIFE, GIVING_UP, FREEZING, FILES, CALLS, HANGUPS, CALLERS, CLEARING, ROOMS, DEVICES,
+                SENTENCES };
 
 /* Of each sentence: the last line said, and how often it came again since. */
 static struct repeated {
@@ -145,6 +148,20 @@ void say_new_caller(const char *caller, const char *peer)
 void say_cleared(const char *peer, uint64_t expected, uint64_t stored)
 {
     say(CLEARING, 0, CLEARED, peer, (unsigned long long)expected, (unsigned long long)stored);
+}
+
+void say_unstored(uint64_t transaction, const char *reason)
+{
+    char words[COUNTED];
+
+    say(ROOMS, 0, UNSTORED, request_words(words, transaction), reason);
+}
+
+void say_space(uint64_t transaction, uint64_t failures)
+{
+    char words[COUNTED], times[COUNTED];
+
+    say(ROOMS, 0, ROOM, request_words(words, transaction), counted(times, failures, "failure", "failures"));
 }
 
 void say_plain_device(const char *path)

@@ -16,6 +16,8 @@ void say_called(void); /* a circuit is open: what is said of the next outage is 
 void say_hung_up(const char *peer);
 void say_new_caller(const char *caller, const char *peer);
 void say_cleared(const char *peer, uint64_t expected, uint64_t stored);
+void say_unstored(uint64_t transaction, const char *reason); /* 0: -1 */
+void say_space(uint64_t transaction, uint64_t failures);
 void say_plain_device(const char *path);
 
 /* The counts that are due now; at the driver's end all of them. */

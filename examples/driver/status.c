@@ -26,6 +26,8 @@
 #define R_REJECTED "%s answered AR since the last transaction"
 #define R_CALLED "%s ended by a new caller"
 #define R_CLEARED "-1 took the expected number %llu away after %s"
+#define R_UNSTORED "%s not stored since the last that was: %s"
+#define R_STORING "%s waits for the disk for %llu s"
 #define R_BEYOND "a file at position %llu, and %s stored"
 #define R_NO_FOLDER "%s/ is missing"
 
@@ -62,6 +64,9 @@
 #define EXPECTS_ANY \
     "receiver: expects any number (nothing stored since it was resynchronized), %s stored\n"
 #define CLEARED "the last -1 took the expected number %llu away, after %s\n"
+#define DECIDING "deciding on %s: not stored yet\n"
+#define DECIDED "deciding on %s: in the state, not answered yet\n"
+#define UNSTORED "%s not stored since the driver started, the last one %llu s ago: %s\n"
 #define RECEIVER_NO_DRIVER "no driver runs on this folder\n"
 #define RECEIVER_STARTS "the driver is starting, no circuit open\n"
 #define RECEIVER_UNKNOWN "it cannot be told whether a driver runs on this folder\n"
@@ -74,15 +79,23 @@
 #define PEER "peer: %s\n"
 #define NO_PEER "no peer: %s\n"
 
-/* Seconds after which a driver that does not turn, or a link without a circuit, is no passing thing; and after
- * which somebody waits for a result that is not delivered. */
-enum { PASSING = 10, LATE = 60, TOO_LATE = 300 };
+/* Seconds after which a disk is slow; after which a driver that does not turn, or a link without a circuit, is no passing
+ * thing; and after which somebody waits for a result that is not delivered. */
+enum { SLOW = 2, PASSING = 10, LATE = 60, TOO_LATE = 300 };
 /* As often as this one after the other, it is no passing thing either. */
 enum { TWICE = 2, OFTEN = 3 };
 
 const char *counted(char *words, uint64_t count, const char *one, const char *more)
 {
     snprintf(words, COUNTED, "%llu %s", (unsigned long long)count, count == 1 ? one : more);
+    return words;
+}
+
+const char *request_words(char *words, uint64_t transaction)
+{
+    if (transaction == 0)
+        return strcpy(words, "-1");
+    snprintf(words, COUNTED, "transaction %llu", (unsigned long long)transaction);
     return words;
 }
 
@@ -240,14 +253,31 @@ static void judge_requests(verdict *verdict, const receiver_status *status)
                    counted(words, status->record.cleared_after, "transaction", "transactions"));
 }
 
+/* A full disk, and a slow one. */
+static void judge_storing(verdict *verdict, const receiver_status *status)
+{
+    const uint64_t *words = status->record.words;
+    const receiver_counts *counts = &status->counts;
+    char request[COUNTED];
+
+    if (counts->unstored_since != 0 && seconds_since(counts->unstored_at) < TOO_LATE)
+        add_reason(verdict, CRITICAL, R_UNSTORED, counted(request, counts->unstored_since, "request", "requests"),
+                   counts->unstored_reason);
+    if (words[GMV_RECEIVER_CODE] != 0 && !status->in_state && seconds_since(status->running.turned) >= SLOW)
+        add_reason(verdict, WARNING, R_STORING, request_words(request, words[GMV_RECEIVER_TRANSACTION]),
+                   seconds_since(status->running.turned));
+}
+
 void judge_receiver(verdict *verdict, const receiver_status *status)
 {
     char stored[COUNTED];
 
     judge_running(verdict, status->presence, status->starting, &status->running);
     judge_circuit(verdict, status->presence, &status->running);
-    if (status->presence == DRIVER_RUNS)
+    if (status->presence == DRIVER_RUNS) {
+        judge_storing(verdict, status);
         judge_requests(verdict, status);
+    }
     if (status->lacks != NULL)
         add_reason(verdict, CRITICAL, R_NO_FOLDER, status->lacks);
     if (status->greatest > status->record.stored + 1)
@@ -369,11 +399,25 @@ void say_sender(FILE *out, const sender_status *status)
 
 /* ---- the receiver */
 
+static void say_storing(FILE *out, const receiver_status *status)
+{
+    const uint64_t *words = status->record.words;
+    const receiver_counts *counts = &status->counts;
+    char request[COUNTED];
+
+    if (words[GMV_RECEIVER_CODE] != 0)
+        fprintf(out, status->in_state ? DECIDED : DECIDING, request_words(request, words[GMV_RECEIVER_TRANSACTION]));
+    if (counts->unstored != 0)
+        fprintf(out, UNSTORED, counted(request, counts->unstored, "request", "requests"),
+                seconds_since(counts->unstored_at), counts->unstored_reason);
+}
+
 static void say_receiver_live(FILE *out, const receiver_status *status)
 {
     const receiver_counts *counts = &status->counts;
     char blocks[COUNTED], circuits[COUNTED];
 
+    say_storing(out, status);
     fprintf(out, status->running.circuit_open ? RECEIVER_CIRCUIT : RECEIVER_NO_CIRCUIT);
     fprintf(out, BLOCKS, counted(blocks, counts->blocks, "block", "blocks"),
             counted(circuits, counts->circuits, "circuit", "circuits"),

@@ -12,6 +12,9 @@ enum { COUNTED = 48, REASONS = 2048 };
 
 /* "1 time", "2 times". */
 const char *counted(char *words, uint64_t count, const char *one, const char *more);
+
+/* "transaction 17"; for 0 "-1": no other request without one has anything to be stored. */
+const char *request_words(char *words, uint64_t transaction);
 const char *or_nothing(const char *field, const char *otherwise);
 
 /* Whether a driver runs on the folder. One that starts has not shown yet what it holds. */
@@ -58,6 +61,7 @@ typedef struct {
     receiver_counts counts;
     running_details running;
     uint64_t greatest; /* the greatest position of a file of transactions/ */
+    int in_state;      /* the state has what the open decision says: it is stored, and not reported yet */
     const char *lacks;
 } receiver_status;
 

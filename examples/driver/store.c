@@ -73,45 +73,114 @@ static int set_time(int file, const struct timespec *written)
     return futimens(file, times);
 }
 
-/* A file that counts as written now has no time of its own: NULL. */
-static void store(const char *folder, const char *name, const void *bytes, size_t length,
-                  const struct timespec *written, int sync)
+/* Gives a new file its bytes. Returns NULL, or what could not be done. */
+static const char *fill(int file, const void *bytes, size_t length, const struct timespec *written, int sync)
+{
+    if (file < 0 || write_all(file, bytes, length) != 0 || (written != NULL && set_time(file, written) != 0))
+        return "write";
+    if (sync && fsync(file) != 0) /* before the name: else the name could survive without the bytes */
+        return "sync";
+    return NULL;
+}
+
+/* Only where there is no room it is known that nothing was done, and that room is all it lacks: what there is of the
+ * file holds room, and goes. Returns -1 with errno. Any other reason ends the program. */
+static int lacks_space(const char *new_path, const char *failed)
+{
+    const int error = errno;
+
+    if (error != ENOSPC && error != EDQUOT)
+        fail("cannot %s %s: %s", failed, new_path, strerror(error));
+    unlink(new_path);
+    errno = error;
+    return -1;
+}
+
+static int write_new(const char *new_path, const void *bytes, size_t length, const struct timespec *written, int sync)
+{
+    const char *failed;
+    int file, error;
+
+    /* a power cut may leave both names to one file: what is there is not written over */
+    if (unlink(new_path) != 0 && errno != ENOENT)
+        return lacks_space(new_path, "remove");
+    file = open(new_path, O_WRONLY | O_CREAT | O_EXCL, 0666);
+    failed = fill(file, bytes, length, written, sync);
+    error = errno;
+    if (file >= 0 && close(file) != 0 && failed == NULL) {
+        failed = "close";
+        error = errno;
+    }
+    errno = error;
+    return failed == NULL ? 0 : lacks_space(new_path, failed);
+}
+
+/* A rename that replaces a file and fails may have been done. A new name needs room in its folder, and is there or not. */
+static int rename_new(const char *new_path, const char *path)
+{
+    int error;
+
+    if (rename(new_path, path) == 0)
+        return 0;
+    error = errno;
+    if (!is_missing(path))
+        fail("cannot rename %s: %s", new_path, strerror(error));
+    errno = error;
+    return lacks_space(new_path, "rename");
+}
+
+/* A file that counts as written now has no time of its own: NULL. Returns 0, or -1 with errno where there is no room: then
+ * the name stands for what it stood for before. */
+static int store(const char *folder, const char *name, const void *bytes, size_t length,
+                 const struct timespec *written, int sync)
 {
     char path[PATH_LENGTH], new_path[PATH_LENGTH + 4];
-    int file;
 
     path_of(path, folder, name);
     snprintf(new_path, sizeof new_path, "%s.new", path);
-    /* a power cut may leave both names to one file: what is there is not written over */
-    if (unlink(new_path) != 0 && errno != ENOENT)
-        fail("cannot remove %s: %s", new_path, strerror(errno));
-    file = open(new_path, O_WRONLY | O_CREAT | O_EXCL, 0666);
-    if (file < 0 || write_all(file, bytes, length) != 0 || (written != NULL && set_time(file, written) != 0))
-        fail("cannot write %s: %s", new_path, strerror(errno));
-    if (sync && fsync(file) != 0) /* before the name: else the name could survive without the bytes */
-        fail("cannot sync %s: %s", new_path, strerror(errno));
-    if (close(file) != 0)
-        fail("cannot close %s: %s", new_path, strerror(errno));
-    if (rename(new_path, path) != 0)
-        fail("cannot rename %s: %s", new_path, strerror(errno));
+    if (write_new(new_path, bytes, length, written, sync) != 0 || rename_new(new_path, path) != 0)
+        return -1;
     if (sync)
         sync_folder(folder);
+    return 0;
+}
+
+int store_if_space(const char *folder, const char *name, const void *bytes, size_t length)
+{
+    return store(folder, name, bytes, length, NULL, 1);
 }
 
 void store_durably(const char *folder, const char *name, const void *bytes, size_t length)
 {
-    store(folder, name, bytes, length, NULL, 1);
+    store_as_of(folder, name, bytes, length, NULL);
 }
 
 void store_as_of(const char *folder, const char *name, const void *bytes, size_t length,
                  const struct timespec *written)
 {
-    store(folder, name, bytes, length, written, 1);
+    if (store(folder, name, bytes, length, written, 1) != 0)
+        fail("cannot write %s/%s: %s", folder, name, strerror(errno));
+}
+
+/* Its block is its own already: writing it over takes no room, but on a disk that copies what is written. There it stays as
+ * it is. */
+static void write_over(const char *path, const void *bytes, size_t length)
+{
+    const int file = open(path, O_WRONLY);
+
+    if (file >= 0 && write_all(file, bytes, length) == 0 && ftruncate(file, (off_t)length) != 0)
+        fail("cannot write %s: %s", path, strerror(errno));
+    if (file >= 0)
+        close(file);
 }
 
 void store_lightly(const char *folder, const char *name, const void *bytes, size_t length)
 {
-    store(folder, name, bytes, length, NULL, 0);
+    char path[PATH_LENGTH];
+
+    path_of(path, folder, name);
+    if (store(folder, name, bytes, length, NULL, 0) != 0)
+        write_over(path, bytes, length);
 }
 
 ssize_t read_file(const char *path, void *buffer, size_t size)

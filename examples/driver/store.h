@@ -18,14 +18,20 @@ void make_folder(const char *path);
 void sync_folder(const char *path);
 void sync_file(const char *path);
 
-/* Returns when the file survives a crash. Ends the program where it cannot be stored. */
+/* Returns 0 when the file survives a crash; or -1, with errno, where the disk has no room: then nothing was stored, and
+ * nothing will be. Ends the program where the disk is at fault otherwise, and where it cannot be told what it did: a
+ * rename of what is there already that failed, a sync that failed. */
+int store_if_space(const char *folder, const char *name, const void *bytes, size_t length);
+
+/* The same, where the program ends without room too. */
 void store_durably(const char *folder, const char *name, const void *bytes, size_t length);
 
 /* The same, and the file counts as written at that time: it is as old as the one that it was copied from. */
 void store_as_of(const char *folder, const char *name, const void *bytes, size_t length,
                  const struct timespec *written);
 
-/* The same without syncing, for what need not survive. */
+/* The same without syncing, for what need not survive. Without room the file is written over, as far as the disk lets: who
+ * reads it may find it half written. */
 void store_lightly(const char *folder, const char *name, const void *bytes, size_t length);
 
 /* Reads the first bytes of a file, at most size. Returns how many, or -1 with errno. */

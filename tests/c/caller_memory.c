@@ -136,16 +136,26 @@ static uint64_t receiver_fresh(const row *r, memory *m)
     return gmv_receiver_fresh(STATE_OF(m));
 }
 
-static uint64_t hybrid_receive(const row *r, memory *m)
+static uint64_t receiver_decide(const row *r, memory *m)
 {
-    return gmv_hybrid_receive(SB, EB, r->setting, GMV_CODE_AA, STATE_OF(m), r->other,
-                              GMV_DATA_BLOCK, INPUT(r), BUFFER_OF(m), START, REPORT_OF(m));
+    return gmv_receiver_decide(r->setting, r->other, INPUT(r), STATE_OF(m), REPORT_OF(m));
 }
 
-static uint64_t minimal_receive(const row *r, memory *m)
+static uint64_t hybrid_answer(const row *r, memory *m)
 {
-    return gmv_minimal_receive(r->setting, GMV_CODE_AA, STATE_OF(m), r->other, GMV_DATA_BLOCK,
-                               INPUT(r), BUFFER_OF(m), START, REPORT_OF(m));
+    return gmv_hybrid_answer(SB, EB, r->setting, r->other, STATE_OF(m), BUFFER_OF(m), START,
+                             REPORT_OF(m));
+}
+
+static uint64_t minimal_answer(const row *r, memory *m)
+{
+    return gmv_minimal_answer(r->setting, r->other, STATE_OF(m), BUFFER_OF(m), START, REPORT_OF(m));
+}
+
+static uint64_t hybrid_nak(const row *r, memory *m)
+{
+    return gmv_hybrid_nak(SB, EB, r->setting, r->other, STATE_OF(m), BUFFER_OF(m), START,
+                          REPORT_OF(m));
 }
 
 static uint64_t sender_fresh(const row *r, memory *m)
@@ -284,9 +294,9 @@ static uint64_t master_may_receive(const row *r, memory *m)
 enum {
     READER_FRESH, HYBRID_READ, MINIMAL_READ, HYBRID_CHECK, MINIMAL_CHECK, HYBRID_WRITE,
     MINIMAL_WRITE, HEADER_READ, ANSWER_READ, FIELD_NEXT, ANSWER_WRITE, CONTROL_WRITE,
-    HYBRID_CONTROL_BLOCK, MINIMAL_CONTROL_BLOCK, RECEIVER_FRESH, HYBRID_RECEIVE,
-    MINIMAL_RECEIVE, SENDER_FRESH, SENDER_SUBMIT, SENDER_OPEN, SENDER_ENDED, SENDER_RESET,
-    SENDER_TIMER, SENDER_BLOCK, STATION_FRESH, STATION_OPEN, STATION_BLOCK, STATION_BAD,
+    HYBRID_CONTROL_BLOCK, MINIMAL_CONTROL_BLOCK, RECEIVER_FRESH, RECEIVER_DECIDE, HYBRID_ANSWER,
+    MINIMAL_ANSWER, HYBRID_NAK, SENDER_FRESH, SENDER_SUBMIT, SENDER_OPEN, SENDER_ENDED,
+    SENDER_RESET, SENDER_TIMER, SENDER_BLOCK, STATION_FRESH, STATION_OPEN, STATION_BLOCK, STATION_BAD,
     STATION_ENQUIRY, STATION_END, STATION_BARE_ENQ, STATION_INTERRUPT, MASTER_FRESH, MASTER_OPEN,
     MASTER_START, MASTER_REPLY, MASTER_TIMER, MASTER_CLOSE, MASTER_ENQUIRE, MASTER_MAY_RECEIVE,
     FUNCTIONS
@@ -308,8 +318,10 @@ static const function functions[FUNCTIONS] = {
     {"hybrid_control_block", hybrid_control_block, 0, START + 48, GMV_REPORT_WORDS},
     {"minimal_control_block", minimal_control_block, 0, START + 36, GMV_REPORT_WORDS},
     {"receiver_fresh", receiver_fresh, GMV_RECEIVER_WORDS, 0, 0},
-    {"hybrid_receive", hybrid_receive, GMV_RECEIVER_WORDS, START + LIMIT + 15, GMV_RECEIVED_WORDS},
-    {"minimal_receive", minimal_receive, GMV_RECEIVER_WORDS, START + LIMIT + 3, GMV_RECEIVED_WORDS},
+    {"receiver_decide", receiver_decide, GMV_RECEIVER_WORDS, 0, GMV_DECISION_WORDS},
+    {"hybrid_answer", hybrid_answer, GMV_RECEIVER_WORDS, START + LIMIT + 15, GMV_REPORT_WORDS},
+    {"minimal_answer", minimal_answer, GMV_RECEIVER_WORDS, START + LIMIT + 3, GMV_REPORT_WORDS},
+    {"hybrid_nak", hybrid_nak, GMV_RECEIVER_WORDS, START + LIMIT + 15, GMV_REPORT_WORDS},
     {"sender_fresh", sender_fresh, GMV_SENDER_WORDS, 0, 0},
     {"sender_submit", sender_submit, GMV_SENDER_WORDS, 0, GMV_ACT_WORDS},
     {"sender_open", sender_open, GMV_SENDER_WORDS, 0, GMV_ACT_WORDS},
@@ -348,7 +360,11 @@ static const function functions[FUNCTIONS] = {
 #define TOO_LARGE UINT64_C(1000000000000000)
 
 static const uint64_t reader[] = {0, 0, 0, 0}, no_reader[] = {3, 0, 0, 0};
-static const uint64_t expects_6[] = {6}, no_receiver[] = {TOO_LARGE};
+static const uint64_t expects_6[] = {6, 0, 0, 0, 0, 0, 0, 0, 0};
+static const uint64_t open_on_6[] = {6, GMV_CODE_AA, 6, 6, 7, 1, '6', 0, 0};
+static const uint64_t open_on_5[] = {6, GMV_CODE_AR, 6, 0, 6, 1, '5', 0, 0};
+static const uint64_t no_receiver[] = {TOO_LARGE, 0, 0, 0, 0, 0, 0, 0, 0};
+static const uint64_t no_decision[] = {6, GMV_CODE_AA, 6, 6, 8, 1, '6', 0, 0};
 static const uint64_t closed[] = {5, 5, 5, 1, 0, GMV_WAITING_CLOSED, 0};
 static const uint64_t waits[] = {5, 5, 6, 1, 0, GMV_WAITING_TRANSACTION, 1};
 static const uint64_t frozen[] = {5, 5, 5, 1, 1, GMV_WAITING_CLOSED, 0};
@@ -450,24 +466,48 @@ static const row message_rows[] = {
 static const row receiver_rows[] = {
     {RECEIVER_FRESH, 0, KEPT, NONE, NULL, "", 0, 0, 0},
     {RECEIVER_FRESH, 2, KEPT, STATE, NULL, "", 0, 0, 0},
-    {HYBRID_RECEIVE, 0, REWRITTEN, NONE, expects_6, TEXT(REQUEST), LIMIT, 0},
-    {HYBRID_RECEIVE, 0, REWRITTEN, NONE, expects_6, "", 0, LIMIT, GMV_CHECK},
-    {HYBRID_RECEIVE, 0, REWRITTEN, NONE, expects_6, TEXT("x"), LIMIT, 0},
-    {HYBRID_RECEIVE, 1, KEPT, NONE, expects_6, TEXT(REQUEST), LIMIT - 1, 0},
-    {HYBRID_RECEIVE, 1, KEPT, NONE, expects_6, TEXT(REQUEST), LIMIT, GMV_HEAD},
-    {HYBRID_RECEIVE, 2, KEPT, STATE, expects_6, TEXT(REQUEST), LIMIT, 0},
-    {HYBRID_RECEIVE, 2, KEPT, BUFFER, expects_6, TEXT(REQUEST), LIMIT, 0},
-    {HYBRID_RECEIVE, 2, KEPT, REPORT, expects_6, TEXT(REQUEST), LIMIT, 0},
-    {HYBRID_RECEIVE, 11, KEPT, NONE, no_receiver, TEXT(REQUEST), LIMIT, 0},
-    {MINIMAL_RECEIVE, 0, REWRITTEN, NONE, expects_6, TEXT(REQUEST), LIMIT, 0},
-    {MINIMAL_RECEIVE, 0, REWRITTEN, NONE, expects_6, "", 0, LIMIT, GMV_LONG},
-    {MINIMAL_RECEIVE, 0, REWRITTEN, NONE, expects_6, TEXT("x"), LIMIT, 0},
-    {MINIMAL_RECEIVE, 1, KEPT, NONE, expects_6, TEXT(REQUEST), LIMIT - 1, 0},
-    {MINIMAL_RECEIVE, 1, KEPT, NONE, expects_6, TEXT(REQUEST), LIMIT, GMV_HEAD},
-    {MINIMAL_RECEIVE, 2, KEPT, STATE, expects_6, TEXT(REQUEST), LIMIT, 0},
-    {MINIMAL_RECEIVE, 2, KEPT, BUFFER, expects_6, TEXT(REQUEST), LIMIT, 0},
-    {MINIMAL_RECEIVE, 2, KEPT, REPORT, expects_6, TEXT(REQUEST), LIMIT, 0},
-    {MINIMAL_RECEIVE, 11, KEPT, NONE, no_receiver, TEXT(REQUEST), LIMIT, 0},
+    {RECEIVER_DECIDE, 0, REWRITTEN, NONE, expects_6, TEXT(REQUEST), GMV_CODE_AA, 'D'},
+    {RECEIVER_DECIDE, 0, REWRITTEN, NONE, expects_6, TEXT("x"), GMV_CODE_AE, 'D'},
+    {RECEIVER_DECIDE, 0, REWRITTEN, NONE, expects_6, TEXT("X"), GMV_CODE_AA, 'N'},
+    {RECEIVER_DECIDE, 1, KEPT, NONE, expects_6, TEXT(REQUEST), GMV_CODE_AR, 'D'},
+    {RECEIVER_DECIDE, 1, KEPT, NONE, expects_6, TEXT(REQUEST), GMV_CODE_AA, 0},
+    {RECEIVER_DECIDE, 2, KEPT, STATE, expects_6, TEXT(REQUEST), GMV_CODE_AA, 'D'},
+    {RECEIVER_DECIDE, 2, KEPT, REPORT, expects_6, TEXT(REQUEST), GMV_CODE_AA, 'D'},
+    {RECEIVER_DECIDE, 11, KEPT, NONE, open_on_6, TEXT(REQUEST), GMV_CODE_AA, 'D'},
+    {RECEIVER_DECIDE, 11, KEPT, NONE, open_on_6, TEXT("X"), GMV_CODE_AA, 'N'},
+    {RECEIVER_DECIDE, 11, KEPT, NONE, no_receiver, TEXT("X"), GMV_CODE_AA, 'N'},
+    {RECEIVER_DECIDE, 11, KEPT, NONE, no_decision, TEXT("X"), GMV_CODE_AA, 'N'},
+    {HYBRID_ANSWER, 0, REWRITTEN, NONE, open_on_6, "", 0, LIMIT, GMV_STORED},
+    {HYBRID_ANSWER, 0, REWRITTEN, NONE, open_on_5, "", 0, LIMIT, GMV_STORED},
+    {HYBRID_ANSWER, 0, REWRITTEN, NONE, open_on_6, "", 0, LIMIT, GMV_NOT_STORED},
+    {HYBRID_ANSWER, 1, KEPT, NONE, open_on_6, "", 0, LIMIT - 1, GMV_STORED},
+    {HYBRID_ANSWER, 1, KEPT, NONE, open_on_6, "", 0, LIMIT, 2},
+    {HYBRID_ANSWER, 2, KEPT, STATE, open_on_6, "", 0, LIMIT, GMV_STORED},
+    {HYBRID_ANSWER, 2, KEPT, BUFFER, open_on_6, "", 0, LIMIT, GMV_STORED},
+    {HYBRID_ANSWER, 2, KEPT, BUFFER, open_on_6, "", 0, LIMIT, GMV_NOT_STORED},
+    {HYBRID_ANSWER, 2, KEPT, REPORT, open_on_6, "", 0, LIMIT, GMV_STORED},
+    {HYBRID_ANSWER, 11, KEPT, NONE, expects_6, "", 0, LIMIT, GMV_STORED},
+    {HYBRID_ANSWER, 11, KEPT, NONE, no_decision, "", 0, LIMIT, GMV_STORED},
+    {MINIMAL_ANSWER, 0, REWRITTEN, NONE, open_on_6, "", 0, LIMIT, GMV_STORED},
+    {MINIMAL_ANSWER, 0, REWRITTEN, NONE, open_on_5, "", 0, LIMIT, GMV_STORED},
+    {MINIMAL_ANSWER, 0, REWRITTEN, NONE, open_on_6, "", 0, LIMIT, GMV_NOT_STORED},
+    {MINIMAL_ANSWER, 1, KEPT, NONE, open_on_6, "", 0, LIMIT - 1, GMV_STORED},
+    {MINIMAL_ANSWER, 1, KEPT, NONE, open_on_6, "", 0, LIMIT, 2},
+    {MINIMAL_ANSWER, 2, KEPT, STATE, open_on_6, "", 0, LIMIT, GMV_STORED},
+    {MINIMAL_ANSWER, 2, KEPT, BUFFER, open_on_6, "", 0, LIMIT, GMV_STORED},
+    {MINIMAL_ANSWER, 2, KEPT, BUFFER, open_on_6, "", 0, LIMIT, GMV_NOT_STORED},
+    {MINIMAL_ANSWER, 2, KEPT, REPORT, open_on_6, "", 0, LIMIT, GMV_STORED},
+    {MINIMAL_ANSWER, 11, KEPT, NONE, expects_6, "", 0, LIMIT, GMV_STORED},
+    {MINIMAL_ANSWER, 11, KEPT, NONE, no_decision, "", 0, LIMIT, GMV_STORED},
+    {HYBRID_NAK, 0, REWRITTEN, NONE, expects_6, "", 0, LIMIT, GMV_CHECK},
+    {HYBRID_NAK, 0, REWRITTEN, NONE, expects_6, "", 0, LIMIT, GMV_HEAD},
+    {HYBRID_NAK, 1, KEPT, NONE, expects_6, "", 0, LIMIT - 1, GMV_CHECK},
+    {HYBRID_NAK, 1, KEPT, NONE, expects_6, "", 0, LIMIT, GMV_OK},
+    {HYBRID_NAK, 2, KEPT, STATE, expects_6, "", 0, LIMIT, GMV_CHECK},
+    {HYBRID_NAK, 2, KEPT, BUFFER, expects_6, "", 0, LIMIT, GMV_CHECK},
+    {HYBRID_NAK, 2, KEPT, REPORT, expects_6, "", 0, LIMIT, GMV_CHECK},
+    {HYBRID_NAK, 11, KEPT, NONE, open_on_6, "", 0, LIMIT, GMV_CHECK},
+    {HYBRID_NAK, 11, KEPT, NONE, no_receiver, "", 0, LIMIT, GMV_CHECK},
 };
 
 static const row sender_rows[] = {
@@ -719,7 +759,7 @@ static void test_rows(const char *name, const row *rows, size_t count)
 static void every_function_has_rows(void)
 {
     begin_test("lent memory: every function that takes any has its rows"); /* gmv_version takes none */
-    CHECK(FUNCTIONS == 40);
+    CHECK(FUNCTIONS == 42);
     for (int i = 0; i < FUNCTIONS; i++)
         CHECK(has_rows[i]);
 }

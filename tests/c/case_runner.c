@@ -65,8 +65,7 @@ static uint64_t *words_at(size_t i)
 #define READ "s4:state b:part h:buffer w8:verdict"
 #define CHECK_ONE "b:block w8:verdict"
 #define WRITE "o:buffer n:start w2:report"
-#define RECEIVE \
-    "n:application s1:state n:block_number n:block_type b:data o:buffer n:start w3:report"
+#define RECEIVER "s9:state "
 #define SENDER "s7:state w8:report"
 #define STATION "s5:state w4:report"
 #define MASTER "s10:state w10:report"
@@ -83,9 +82,12 @@ static uint64_t *words_at(size_t i)
     F(field_next, "b:message n:position w5:field", B(0), N(0), W(1)) \
     F(answer_write, "b:control_id n:code n:number " WRITE, B(0), N(0), N(1), B(1), N(2), W(2)) \
     F(control_write, "b:type n:number " WRITE, B(0), N(0), B(1), N(1), W(2)) \
-    F(receiver_fresh, "w1:state", W(0)) \
-    F(hybrid_receive, HYBRID RECEIVE, N(0), N(1), N(2), N(3), W(0), N(4), N(5), B(1), B(2), N(6), W(3)) \
-    F(minimal_receive, MINIMAL RECEIVE, N(0), N(1), W(0), N(2), N(3), B(1), B(2), N(4), W(3)) \
+    F(receiver_fresh, "w9:state", W(0)) \
+    F(receiver_decide, "n:application n:block_type b:data " RECEIVER "w5:report", \
+      N(0), N(1), B(0), W(1), W(2)) \
+    F(hybrid_answer, HYBRID "n:stored " RECEIVER WRITE, N(0), N(1), N(2), N(3), W(0), B(1), N(4), W(2)) \
+    F(minimal_answer, MINIMAL "n:stored " RECEIVER WRITE, N(0), N(1), W(0), B(1), N(2), W(2)) \
+    F(hybrid_nak, HYBRID "n:block_number " RECEIVER WRITE, N(0), N(1), N(2), N(3), W(0), B(1), N(4), W(2)) \
     F(sender_fresh, "n:first w7:state", N(0), W(0)) \
     F(sender_submit, "n:data_limit b:message " SENDER, N(0), B(0), W(1), W(2)) \
     F(sender_open, SENDER, W(0), W(1)) \

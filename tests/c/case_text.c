@@ -5,7 +5,7 @@
 #include <ctype.h>
 #include <string.h>
 
-enum { WORD = sizeof(uint64_t), CHOICES = 32, RANGES = 256 };
+enum { WORD = sizeof(uint64_t), TEXT_WORDS = 3, CHOICES = 32, RANGES = 256 };
 
 case_line line = {"", 0, "", 0};
 
@@ -131,26 +131,6 @@ uint64_t number_value(void)
     return skips("{") ? one_number() : plain_number();
 }
 
-size_t words_value(uint8_t *bytes)
-{
-    size_t size = 0;
-
-    expect_text("(");
-    while (!is_next(')') && !line.malformed) {
-        uint64_t word = number_value();
-
-        if (size + WORD > LARGEST_MEMORY)
-            no_case("too many words");
-        else
-            memcpy(bytes + size, &word, WORD);
-        size += WORD;
-        if (!skips(" ") && !is_next(')'))
-            no_case("no word");
-    }
-    expect_text(")");
-    return line.malformed ? 0 : size;
-}
-
 /* ---- bytes */
 
 /* The bytes of a value, as far as they are read. */
@@ -261,6 +241,54 @@ static void one_byte(text *t)
     expect_text("]");
     add(t, &bytes[choose(count)], 1, 1);
 }
+
+/* ---- words */
+
+static void add_word(text *t, uint64_t word)
+{
+    uint8_t bytes[WORD];
+
+    memcpy(bytes, &word, WORD);
+    add(t, bytes, WORD, 1);
+}
+
+/* A text among words: its length, and its bytes in three words, of which the first is the lowest. */
+static void add_text_words(text *t)
+{
+    static uint8_t bytes[LARGEST_MEMORY];
+    text quoted_text = {bytes, 0};
+
+    quoted(&quoted_text);
+    if (quoted_text.size > TEXT_WORDS * WORD)
+        no_case("too long a text among words");
+    add_word(t, quoted_text.size);
+    for (size_t i = 0; i < TEXT_WORDS && !line.malformed; i++) {
+        uint64_t word = 0;
+
+        for (size_t at = 0; at < WORD && i * WORD + at < quoted_text.size; at++)
+            word |= (uint64_t)bytes[i * WORD + at] << 8 * at;
+        add_word(t, word);
+    }
+}
+
+size_t words_value(uint8_t *bytes)
+{
+    text t = {bytes, 0};
+
+    expect_text("(");
+    while (!is_next(')') && !line.malformed) {
+        if (is_next('"'))
+            add_text_words(&t);
+        else
+            add_word(&t, number_value());
+        if (!skips(" ") && !is_next(')'))
+            no_case("no word");
+    }
+    expect_text(")");
+    return line.malformed ? 0 : t.size;
+}
+
+/* ---- values of bytes */
 
 size_t bytes_value(uint8_t *bytes)
 {

@@ -16,7 +16,8 @@ enum { LIMIT = 128, LONGEST_BLOCK = LIMIT + 3, MOST = 8 };
 /* ---- a receiver's host, on a minimal link */
 
 typedef struct {
-    uint64_t state[GMV_RECEIVER_WORDS], report[GMV_RECEIVED_WORDS];
+    uint64_t state[GMV_RECEIVER_WORDS], decision[GMV_DECISION_WORDS], report[GMV_REPORT_WORDS];
+    uint64_t expected; /* as it is persisted */
     uint8_t reply[LONGEST_BLOCK];
     uint64_t stored[MOST];
     size_t count;   /* transactions stored */
@@ -32,45 +33,61 @@ static receiving_host new_receiving_host(void)
     return h;
 }
 
-static uint64_t receive(receiving_host *h, uint64_t *state, uint64_t application,
-                        const uint8_t *data, size_t length, size_t space)
+static uint64_t decide(receiving_host *h, uint64_t *state, uint64_t application, const uint8_t *data,
+                       size_t length)
 {
-    return gmv_minimal_receive(LIMIT, application, state, GMV_RECEIVER_WORDS, GMV_OK,
-                               GMV_DATA_BLOCK, data, length, h->reply, space, 0, h->report,
-                               GMV_RECEIVED_WORDS);
+    return gmv_receiver_decide(application, GMV_DATA_BLOCK, data, length, state, GMV_RECEIVER_WORDS,
+                               h->decision, GMV_DECISION_WORDS);
 }
 
-/* Stores the transaction that the report names, if any. */
+/* Stores what the decision says, as one act. */
 static void store(receiving_host *h)
 {
-    if (h->report[GMV_RECEIVED_TRANSACTION] == 0)
+    h->expected = h->decision[GMV_DECISION_EXPECTED];
+    if (h->decision[GMV_DECISION_TRANSACTION] == 0)
         return;
     CHECK(h->count < MOST);
-    h->stored[h->count++ % MOST] = h->report[GMV_RECEIVED_TRANSACTION];
+    h->stored[h->count++ % MOST] = h->decision[GMV_DECISION_TRANSACTION];
+}
+
+static uint64_t report(receiving_host *h, uint64_t stored)
+{
+    return gmv_minimal_answer(LIMIT, stored, h->state, GMV_RECEIVER_WORDS, h->reply, LONGEST_BLOCK, 0,
+                              h->report, GMV_REPORT_WORDS);
+}
+
+/* A crash, or a start from what is persisted: the open decision is lost. */
+static void restart(receiving_host *h)
+{
+    memset(h->state, 0, sizeof h->state);
+    h->state[GMV_RECEIVER_EXPECTED] = h->expected;
 }
 
 static int replied(const receiving_host *h, const uint8_t *answer, size_t length)
 {
-    return h->report[GMV_RECEIVED_REPLY_LENGTH] == length + 3 &&
+    return h->report[GMV_REPORT_BLOCK_LENGTH] == length + 3 &&
            memcmp(h->reply + 1, answer, length) == 0;
 }
 
 /* ---- blocks are offered in the order in which they were read */
 
+/* Decided, stored, reported. */
 static void offer(receiving_host *h, const uint8_t *data, size_t length)
 {
-    CHECK(receive(h, h->state, GMV_CODE_AA, data, length, LONGEST_BLOCK) == GMV_OK);
+    CHECK(decide(h, h->state, GMV_CODE_AA, data, length) == GMV_OK);
     store(h);
+    CHECK(report(h, GMV_STORED) == GMV_OK);
 }
 
-/* -1 is offered, and the second -1 is refused by 2: nothing changes. */
+/* The second -1 is refused by 11 while the first is open: nothing changes. */
 static receiving_host second_refused(void)
 {
     receiving_host h = new_receiving_host();
-    const size_t short_room = LONGEST_BLOCK - 1;
 
-    offer(&h, TEXT(REQUEST("-1")));
-    CHECK(receive(&h, h.state, GMV_CODE_AA, TEXT(REQUEST("-1")), short_room) == GMV_TOO_SHORT);
+    CHECK(decide(&h, h.state, GMV_CODE_AA, TEXT(REQUEST("-1"))) == GMV_OK);
+    CHECK(decide(&h, h.state, GMV_CODE_AA, TEXT(REQUEST("-1"))) == GMV_STATE);
+    store(&h);
+    CHECK(report(&h, GMV_STORED) == GMV_OK);
     CHECK(h.state[GMV_RECEIVER_EXPECTED] == 0 && h.count == 0);
     return h;
 }
@@ -100,6 +117,92 @@ static void offered_in_order(void)
     CHECK(dropped.count == 1 && replied(&dropped, TEXT(ANSWER("AR", "1", "2"))));
 }
 
+/* ---- reports are true, and of the decision that is open */
+
+/* Reported stored and not: the answer is there, and 1 is nowhere. */
+static void false_success(void)
+{
+    receiving_host h = new_receiving_host();
+
+    CHECK(decide(&h, h.state, GMV_CODE_AA, TEXT(REQUEST("1"))) == GMV_OK);
+    CHECK(report(&h, GMV_STORED) == GMV_OK);
+    CHECK(h.count == 0 && replied(&h, TEXT(ANSWER("AA", "1", "1"))));
+}
+
+/* Until it is reported there is no answer: what the decision wrote is no block, and the reply is as it
+ * was. Failed, there is none either, and 1 is due again. */
+static void failure(void)
+{
+    receiving_host h = new_receiving_host();
+    const uint8_t untouched[LONGEST_BLOCK] = {0};
+
+    CHECK(decide(&h, h.state, GMV_CODE_AA, TEXT(REQUEST("1"))) == GMV_OK);
+    CHECK(report(&h, GMV_NOT_STORED) == GMV_OK && h.report[GMV_REPORT_BLOCK_LENGTH] == 0);
+    CHECK(memcmp(h.reply, untouched, sizeof untouched) == 0);
+    CHECK(report(&h, GMV_STORED) == GMV_STATE);
+    offer(&h, TEXT(REQUEST("1")));
+    CHECK(h.count == 1 && replied(&h, TEXT(ANSWER("AA", "1", "1"))));
+}
+
+/* A failure whose write had landed: 1 is stored twice. Started again from what is persisted it is not. */
+static void failure_that_landed(void)
+{
+    receiving_host wrong = new_receiving_host(), right = new_receiving_host();
+
+    CHECK(decide(&wrong, wrong.state, GMV_CODE_AA, TEXT(REQUEST("1"))) == GMV_OK);
+    store(&wrong);
+    CHECK(report(&wrong, GMV_NOT_STORED) == GMV_OK);
+    offer(&wrong, TEXT(REQUEST("1")));
+    CHECK(wrong.count == 2);
+    CHECK(decide(&right, right.state, GMV_CODE_AA, TEXT(REQUEST("1"))) == GMV_OK);
+    store(&right);
+    restart(&right);
+    offer(&right, TEXT(REQUEST("1")));
+    CHECK(right.count == 1 && replied(&right, TEXT(ANSWER("AR", "1", "2"))));
+}
+
+/* The report of -1 outlives a crash and is taken for that of 1, which is nowhere. Ended with the crash
+ * it does no harm: with no decision open it is refused. */
+static void report_after_crash(void)
+{
+    receiving_host h = new_receiving_host();
+
+    CHECK(decide(&h, h.state, GMV_CODE_AA, TEXT(REQUEST("-1"))) == GMV_OK);
+    store(&h);
+    restart(&h);
+    CHECK(report(&h, GMV_STORED) == GMV_STATE);
+    CHECK(decide(&h, h.state, GMV_CODE_AA, TEXT(REQUEST("1"))) == GMV_OK);
+    CHECK(report(&h, GMV_STORED) == GMV_OK);
+    CHECK(h.count == 0 && replied(&h, TEXT(ANSWER("AA", "1", "1"))));
+}
+
+/* Transaction and number stored as two acts, with a crash between them: 1 is stored twice. */
+static void stored_in_two_acts(void)
+{
+    receiving_host h = new_receiving_host();
+
+    CHECK(decide(&h, h.state, GMV_CODE_AA, TEXT(REQUEST("1"))) == GMV_OK);
+    h.stored[h.count++] = h.decision[GMV_DECISION_TRANSACTION];
+    restart(&h);
+    offer(&h, TEXT(REQUEST("1")));
+    CHECK(h.count == 2 && h.stored[0] == 1 && h.stored[1] == 1);
+}
+
+/* The state's word stored in place of the decision's number: it is the old one until the report, and
+ * after a restart 1 is due again. */
+static void stored_old_number(void)
+{
+    receiving_host h = new_receiving_host();
+
+    CHECK(decide(&h, h.state, GMV_CODE_AA, TEXT(REQUEST("1"))) == GMV_OK);
+    store(&h);
+    h.expected = h.state[GMV_RECEIVER_EXPECTED];
+    CHECK(report(&h, GMV_STORED) == GMV_OK && h.state[GMV_RECEIVER_EXPECTED] == 2);
+    restart(&h);
+    offer(&h, TEXT(REQUEST("1")));
+    CHECK(h.count == 2 && h.stored[0] == 1 && h.stored[1] == 1);
+}
+
 /* ---- the application is asked about what is due */
 
 static uint64_t ask(receiving_host *h)
@@ -114,12 +217,15 @@ static void takes(receiving_host *h, const uint8_t *data, size_t length)
     uint64_t copy[GMV_RECEIVER_WORDS], application = GMV_CODE_AA;
 
     memcpy(copy, h->state, sizeof copy);
-    CHECK(receive(h, copy, GMV_CODE_AA, data, length, LONGEST_BLOCK) == GMV_OK);
-    if (h->report[GMV_RECEIVED_TRANSACTION] != 0)
+    CHECK(decide(h, copy, GMV_CODE_AA, data, length) == GMV_OK);
+    if (h->decision[GMV_DECISION_TRANSACTION] != 0)
         application = ask(h);
-    CHECK(receive(h, h->state, application, data, length, LONGEST_BLOCK) == GMV_OK);
-    CHECK(memcmp(copy, h->state, sizeof copy) == 0);
+    CHECK(decide(h, h->state, application, data, length) == GMV_OK);
+    if (h->decision[GMV_DECISION_OPENED] == 0)
+        return;
+    CHECK(h->decision[GMV_DECISION_EXPECTED] == copy[GMV_RECEIVER_NEW_EXPECTED]);
     store(h);
+    CHECK(report(h, GMV_STORED) == GMV_OK);
 }
 
 /* 1 is asked about once, though it comes three times; nothing else is asked about. */
@@ -148,8 +254,9 @@ static void asked_first(void)
     receiving_host h = new_receiving_host();
 
     for (int sends = 0; sends < 2; sends++) {
-        CHECK(receive(&h, h.state, ask(&h), TEXT(REQUEST("1")), LONGEST_BLOCK) == GMV_OK);
+        CHECK(decide(&h, h.state, ask(&h), TEXT(REQUEST("1"))) == GMV_OK);
         store(&h);
+        CHECK(report(&h, GMV_STORED) == GMV_OK);
     }
     CHECK(h.asked == 2 && h.count == 1);
 }
@@ -362,6 +469,18 @@ void test_duties(void)
     offered_late();
     begin_test("duties: offered again before any later one, or dropped, it has not");
     offered_in_order();
+    begin_test("duties: a decision reported stored that is not: the answer goes out, and nobody has it");
+    false_success();
+    begin_test("duties: a failure gives nothing to send, and the transaction is due again");
+    failure();
+    begin_test("duties: a failure whose write landed has 1 stored twice; a restart has not");
+    failure_that_landed();
+    begin_test("duties: a report that outlives a crash is taken for the next decision's");
+    report_after_crash();
+    begin_test("duties: transaction and number stored in two acts have 1 stored twice");
+    stored_in_two_acts();
+    begin_test("duties: the state's word stored in place of the decision's number has 1 stored twice");
+    stored_old_number();
     begin_test("duties: the application is asked once over resends");
     asked_once();
     begin_test("duties: asked before the call, it runs again at the resend");

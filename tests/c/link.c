@@ -22,10 +22,14 @@ enum fault {
     REQUEST_DAMAGED,
     REPLY_LOST,
     REPLY_DAMAGED,
-    SENDER_CRASH,   /* with the reply on its way */
-    RECEIVER_CRASH, /* with all persisted and the reply not yet on the line */
-    CIRCUIT_ENDED,  /* with the reply on its way */
-    LINE_DOWN       /* until no sends are left and the sender ends the circuit */
+    SENDER_CRASH,    /* with the reply on its way */
+    RECEIVER_CRASH,  /* with all persisted and reported, and the reply not yet on the line */
+    CRASH_DECIDED,   /* of the receiver, between its decision and storing */
+    CRASH_STORED,    /* of the receiver, between storing and its report */
+    STORE_FAILED,    /* nothing was stored, and that is reported */
+    STORED_LATE,     /* the next block comes while the decision is open, and is dropped */
+    CIRCUIT_ENDED,   /* with the reply on its way */
+    LINE_DOWN        /* until no sends are left and the sender ends the circuit */
 };
 
 /* One end's line: its reader, and the reader's buffer. */
@@ -45,7 +49,7 @@ typedef struct {
     enum fault fault;
     size_t fault_at, blocks; /* the block that meets the fault, and the blocks sent so far */
     uint64_t sender[GMV_SENDER_WORDS], act[GMV_ACT_WORDS];
-    uint64_t receiver[GMV_RECEIVER_WORDS];
+    uint64_t receiver[GMV_RECEIVER_WORDS], expected; /* as it is held, and what is persisted of it */
     input to_sender, to_receiver;
     record delivered, persisted;
     uint8_t reply[2 * LONGEST_BLOCK];
@@ -81,31 +85,101 @@ static uint64_t verdict_on(const uint8_t *data, size_t length)
     return application(header[GMV_HEADER_SEQUENCE_NUMBER]);
 }
 
-/* A block that the receiver's reader found: it persists what the report says, then replies. */
-static void receiver_takes(exchange *x, const uint64_t *verdict, const uint8_t *data)
+static int fault_now(const exchange *x, enum fault fault)
+{
+    return x->fault == fault && x->blocks == x->fault_at;
+}
+
+/* The open decision and the reader's place are lost. */
+static void restart_receiver(exchange *x)
+{
+    CHECK(gmv_receiver_fresh(x->receiver, GMV_RECEIVER_WORDS) == GMV_OK);
+    x->receiver[GMV_RECEIVER_EXPECTED] = x->expected;
+    x->reply_length = 0;
+    CHECK(gmv_reader_fresh(x->to_receiver.reader, GMV_READER_WORDS) == GMV_OK);
+}
+
+/* The report on the open decision; an answer lies in x->reply then. */
+static void report_decision(exchange *x, uint64_t stored)
 {
     const settings link = x->link;
-    const size_t length = verdict[GMV_VERDICT_DATA_LENGTH];
-    const uint64_t code = verdict_on(data, length);
-    uint64_t report[GMV_RECEIVED_WORDS], answer;
+    uint64_t report[GMV_REPORT_WORDS] = {0}, answer;
 
     if (link.minimal)
-        answer = gmv_minimal_receive(link.data_limit, code, x->receiver, GMV_RECEIVER_WORDS,
-                                     verdict[GMV_VERDICT_NUMBER], verdict[GMV_VERDICT_TYPE], data,
-                                     length, x->reply, sizeof x->reply, x->reply_length, report,
-                                     GMV_RECEIVED_WORDS);
+        answer = gmv_minimal_answer(link.data_limit, stored, x->receiver, GMV_RECEIVER_WORDS, x->reply,
+                                    sizeof x->reply, x->reply_length, report, GMV_REPORT_WORDS);
     else
-        answer = gmv_hybrid_receive(link.start_block, link.end_block, link.data_limit, code,
-                                    x->receiver, GMV_RECEIVER_WORDS, verdict[GMV_VERDICT_NUMBER],
-                                    verdict[GMV_VERDICT_TYPE], data, length, x->reply,
-                                    sizeof x->reply, x->reply_length, report, GMV_RECEIVED_WORDS);
+        answer = gmv_hybrid_answer(link.start_block, link.end_block, link.data_limit, stored,
+                                   x->receiver, GMV_RECEIVER_WORDS, x->reply, sizeof x->reply,
+                                   x->reply_length, report, GMV_REPORT_WORDS);
     CHECK(answer == GMV_OK);
-    if (answer != GMV_OK)
+    CHECK((report[GMV_REPORT_BLOCK_LENGTH] > 0) == (stored == GMV_STORED));
+    x->reply_length += report[GMV_REPORT_BLOCK_LENGTH];
+}
+
+/* The N reply to a refused block; on a minimal link it is dropped. */
+static void reply_nak(exchange *x, uint64_t block_number)
+{
+    const settings link = x->link;
+    uint64_t report[GMV_REPORT_WORDS] = {0};
+
+    if (link.minimal)
         return;
-    CHECK(report[GMV_RECEIVED_BLOCK] == verdict[GMV_VERDICT_NUMBER]);
-    if (report[GMV_RECEIVED_TRANSACTION] != 0)
-        add(&x->persisted, report[GMV_RECEIVED_TRANSACTION], code);
-    x->reply_length += report[GMV_RECEIVED_REPLY_LENGTH];
+    CHECK(gmv_hybrid_nak(link.start_block, link.end_block, link.data_limit, block_number, x->receiver,
+                         GMV_RECEIVER_WORDS, x->reply, sizeof x->reply, x->reply_length, report,
+                         GMV_REPORT_WORDS) == GMV_OK);
+    x->reply_length += report[GMV_REPORT_BLOCK_LENGTH];
+}
+
+/* A block that comes while a decision is open is refused, and dropped. */
+static void refuse_while_open(exchange *x, const uint8_t *data, size_t length)
+{
+    uint64_t decision[GMV_DECISION_WORDS], before[GMV_RECEIVER_WORDS];
+
+    memcpy(before, x->receiver, sizeof before);
+    CHECK(gmv_receiver_decide(GMV_CODE_AA, GMV_DATA_BLOCK, data, length, x->receiver,
+                              GMV_RECEIVER_WORDS, decision, GMV_DECISION_WORDS) == GMV_STATE);
+    CHECK(memcmp(before, x->receiver, sizeof before) == 0);
+}
+
+/* Stores what the decision says, and reports it. */
+static void store_and_report(exchange *x, const uint64_t *decision, uint64_t code)
+{
+    if (fault_now(x, CRASH_DECIDED)) {
+        restart_receiver(x);
+        return;
+    }
+    if (fault_now(x, STORE_FAILED)) {
+        report_decision(x, GMV_NOT_STORED);
+        return;
+    }
+    x->expected = decision[GMV_DECISION_EXPECTED];
+    if (decision[GMV_DECISION_TRANSACTION] != 0)
+        add(&x->persisted, decision[GMV_DECISION_TRANSACTION], code);
+    if (fault_now(x, CRASH_STORED))
+        restart_receiver(x);
+    else
+        report_decision(x, GMV_STORED);
+}
+
+/* A block that the receiver's reader found: decide, store, report. */
+static void receiver_takes(exchange *x, const uint64_t *verdict, const uint8_t *data)
+{
+    const size_t length = verdict[GMV_VERDICT_DATA_LENGTH];
+    const uint64_t code = verdict_on(data, length);
+    uint64_t decision[GMV_DECISION_WORDS] = {0};
+
+    if (verdict[GMV_VERDICT_NUMBER] != GMV_OK) {
+        reply_nak(x, verdict[GMV_VERDICT_NUMBER]);
+        return;
+    }
+    CHECK(gmv_receiver_decide(code, verdict[GMV_VERDICT_TYPE], data, length, x->receiver,
+                              GMV_RECEIVER_WORDS, decision, GMV_DECISION_WORDS) == GMV_OK);
+    CHECK(decision[GMV_DECISION_OPENED] == 1 && decision[GMV_DECISION_BLOCK] == GMV_OK);
+    CHECK(decision[GMV_DECISION_CHANGES] == (decision[GMV_DECISION_EXPECTED] != x->expected));
+    if (fault_now(x, STORED_LATE))
+        refuse_while_open(x, data, length);
+    store_and_report(x, decision, code);
 }
 
 /* ---- the sender's host */
@@ -214,11 +288,6 @@ static void transmit(exchange *x, input *end, const uint8_t *bytes, size_t lengt
     }
 }
 
-static int fault_now(const exchange *x, enum fault fault)
-{
-    return x->fault == fault && x->blocks == x->fault_at;
-}
-
 /* The block goes to the receiver; its reply lies in x->reply. */
 static void send_request(exchange *x, uint8_t *block, size_t length)
 {
@@ -231,10 +300,15 @@ static void send_request(exchange *x, uint8_t *block, size_t length)
     if (fault_now(x, REQUEST_DAMAGED))
         block[length / 2] ^= 0x80;
     transmit(x, &x->to_receiver, block, length, receiver_takes);
-    if (fault_now(x, RECEIVER_CRASH)) {
-        x->reply_length = 0;
-        CHECK(gmv_reader_fresh(x->to_receiver.reader, GMV_READER_WORDS) == GMV_OK);
-    }
+    if (fault_now(x, RECEIVER_CRASH))
+        restart_receiver(x);
+}
+
+/* The transaction is stored, and its answer does not arrive. */
+static int hides_verdict(enum fault fault)
+{
+    return fault == REPLY_LOST || fault == REPLY_DAMAGED || fault == SENDER_CRASH ||
+           fault == RECEIVER_CRASH || fault == CRASH_STORED || fault == CIRCUIT_ENDED;
 }
 
 /* The volatile words of the sender are lost, its reader too. */
@@ -271,7 +345,7 @@ static void send_named_block(exchange *x)
     count_send(x);
     x->blocks++;
     if (x->act[GMV_ACT_SEND] == GMV_SEND_TRANSACTION && x->blocks == x->fault_at)
-        x->unknown = x->fault >= REPLY_LOST && x->fault <= CIRCUIT_ENDED;
+        x->unknown = hides_verdict(x->fault);
     send_request(x, block, length);
     send_reply(x);
 }
@@ -330,7 +404,8 @@ static void check_records(const exchange *x)
         unknown += x->delivered.codes[i] == 0;
     }
     CHECK(unknown == (x->unknown ? 1 : 0));
-    CHECK(x->receiver[GMV_RECEIVER_EXPECTED] == LAST + 1);
+    CHECK(x->receiver[GMV_RECEIVER_EXPECTED] == LAST + 1 && x->expected == LAST + 1);
+    CHECK(x->receiver[GMV_RECEIVER_CODE] == 0);
     CHECK(x->sender[GMV_SENDER_DELIVERED] == LAST && x->sender[GMV_SENDER_LAST] == LAST);
     CHECK(x->sender[GMV_SENDER_FROZEN] == 0);
 }
@@ -394,6 +469,14 @@ void test_link(void)
     run_all_blocks(SENDER_CRASH);
     begin_test("link: the receiver crashes, at each block");
     run_all_blocks(RECEIVER_CRASH);
+    begin_test("link: the receiver crashes between decision and storing, at each block");
+    run_all_blocks(CRASH_DECIDED);
+    begin_test("link: the receiver crashes between storing and report, at each block");
+    run_all_blocks(CRASH_STORED);
+    begin_test("link: storing fails and is reported so, at each block");
+    run_all_blocks(STORE_FAILED);
+    begin_test("link: a block while a decision is open is refused, at each block");
+    run_all_blocks(STORED_LATE);
     begin_test("link: the circuit ends, at each block");
     run_all_blocks(CIRCUIT_ENDED);
     begin_test("link: the line is down for all sends, at each block");

@@ -103,7 +103,7 @@ static void control_write(void)
 /* The two ends; the block's data is a request or an answer, or nothing that can be read. */
 static uint64_t receiver[GMV_RECEIVER_WORDS], receiver_before[GMV_RECEIVER_WORDS];
 static uint64_t sender[GMV_SENDER_WORDS], sender_before[GMV_SENDER_WORDS];
-static uint64_t received[GMV_RECEIVED_WORDS], act[GMV_ACT_WORDS], block_number, block_type;
+static uint64_t decision[GMV_DECISION_WORDS], act[GMV_ACT_WORDS], block_number, block_type, stored;
 static const uint8_t *end_data;
 static size_t end_data_length;
 
@@ -112,20 +112,31 @@ static void receiver_fresh(void)
     gmv_receiver_fresh(receiver, GMV_RECEIVER_WORDS);
 }
 
-static void hybrid_receive(void)
+static void receiver_decide(void)
 {
     memcpy(receiver, receiver_before, sizeof receiver);
-    gmv_hybrid_receive(11, 28, LIMIT, GMV_CODE_AE, receiver, GMV_RECEIVER_WORDS, block_number,
-                       block_type, end_data, end_data_length, buffer, sizeof buffer, 0, received,
-                       GMV_RECEIVED_WORDS);
+    gmv_receiver_decide(GMV_CODE_AE, block_type, end_data, end_data_length, receiver,
+                        GMV_RECEIVER_WORDS, decision, GMV_DECISION_WORDS);
 }
 
-static void minimal_receive(void)
+static void hybrid_answer(void)
 {
     memcpy(receiver, receiver_before, sizeof receiver);
-    gmv_minimal_receive(LIMIT, GMV_CODE_AE, receiver, GMV_RECEIVER_WORDS, block_number, block_type,
-                        end_data, end_data_length, buffer, sizeof buffer, 0, received,
-                        GMV_RECEIVED_WORDS);
+    gmv_hybrid_answer(11, 28, LIMIT, stored, receiver, GMV_RECEIVER_WORDS, buffer, sizeof buffer, 0,
+                      report, GMV_REPORT_WORDS);
+}
+
+static void minimal_answer(void)
+{
+    memcpy(receiver, receiver_before, sizeof receiver);
+    gmv_minimal_answer(LIMIT, stored, receiver, GMV_RECEIVER_WORDS, buffer, sizeof buffer, 0, report,
+                       GMV_REPORT_WORDS);
+}
+
+static void hybrid_nak(void)
+{
+    gmv_hybrid_nak(11, 28, LIMIT, block_number, receiver_before, GMV_RECEIVER_WORDS, buffer,
+                   sizeof buffer, 0, report, GMV_REPORT_WORDS);
 }
 
 static void sender_fresh(void)
@@ -413,15 +424,31 @@ static void control_blocks_take_little_stack(void)
     }
 }
 
+/* With no decision open, with one of each code and the longest fields, and words that encode no state. */
 static void receivers_take_little_stack(void)
 {
-    const uint64_t states[] = {0, 17, 18, 999999999999999, 1000000000000000};
+    const uint64_t nines = UINT64_C(0x3939393939393939), most = UINT64_C(999999999999999);
+    const uint64_t states[][GMV_RECEIVER_WORDS] = {
+        {0, 0, 0, 0, 0, 0, 0, 0, 0},
+        {17, 0, 0, 0, 0, 0, 0, 0, 0},
+        {18, 0, 0, 0, 0, 0, 0, 0, 0},
+        {most, 0, 0, 0, 0, 0, 0, 0, 0},
+        {0, GMV_CODE_AA, most - 1, most - 1, most, 20, nines, nines, nines},
+        {17, GMV_CODE_AE, 17, 17, 18, 1, '9', 0, 0},
+        {most, GMV_CODE_AR, most, 0, most, 20, nines, nines, nines},
+        {17, GMV_CODE_AA, 17, 17, 18, 20, nines, nines, 0},
+        {17, GMV_CODE_AA, 17, 17, 19, 1, '9', 0, 0},
+        {most + 1, 0, 0, 0, 0, 0, 0, 0, 0}};
 
     takes_little_stack(receiver_fresh);
     for (size_t i = 0; i < sizeof states / sizeof states[0]; i++) {
-        receiver_before[GMV_RECEIVER_EXPECTED] = states[i];
-        takes_little_stack(hybrid_receive);
-        takes_little_stack(minimal_receive);
+        memcpy(receiver_before, states[i], sizeof receiver_before);
+        takes_little_stack(receiver_decide);
+        takes_little_stack(hybrid_nak);
+        for (stored = GMV_NOT_STORED; stored <= GMV_STORED + 1; stored++) {
+            takes_little_stack(hybrid_answer);
+            takes_little_stack(minimal_answer);
+        }
     }
 }
 
@@ -466,8 +493,31 @@ static void ends_take_little_stack(const void *data, size_t length)
     }
 }
 
-/* What is measured does its work: a transaction is taken, submitted and delivered. */
-static void ends_do_their_work(void)
+/* What is measured does its work: a transaction is decided on and answered, a refused block is. */
+static void receivers_do_their_work(void)
+{
+    static const char request[] = "MSH|^~\\&|||||||ADT|17|P|2.3.1|17\r";
+    const uint64_t before[GMV_RECEIVER_WORDS] = {17, 0, 0, 0, 0, 0, 0, 0, 0};
+
+    block_number = GMV_CHECK;
+    block_type = GMV_DATA_BLOCK;
+    stored = GMV_STORED;
+    end_data = (const uint8_t *)request;
+    end_data_length = sizeof request - 1;
+    memcpy(receiver_before, before, sizeof receiver_before);
+    hybrid_nak();
+    CHECK(report[GMV_REPORT_BLOCK_LENGTH] == 16);
+    receiver_decide();
+    CHECK(decision[GMV_DECISION_TRANSACTION] == 17 && receiver[GMV_RECEIVER_NEW_EXPECTED] == 18);
+    memcpy(receiver_before, receiver, sizeof receiver_before);
+    hybrid_answer();
+    CHECK(report[GMV_REPORT_BLOCK_LENGTH] == 59 && receiver[GMV_RECEIVER_EXPECTED] == 18);
+    minimal_answer();
+    CHECK(report[GMV_REPORT_BLOCK_LENGTH] == 47 && receiver[GMV_RECEIVER_EXPECTED] == 18);
+}
+
+/* A transaction is submitted and delivered. */
+static void senders_do_their_work(void)
 {
     static const char request[] = "MSH|^~\\&|||||||ADT|17|P|2.3.1|17\r";
     static const char reply[] = "MSH|^~\\&|||||||ACK|1|P|2.3.1\rMSA|AE|17||17\r";
@@ -477,11 +527,6 @@ static void ends_do_their_work(void)
     block_type = GMV_DATA_BLOCK;
     end_data = (const uint8_t *)request;
     end_data_length = sizeof request - 1;
-    receiver_before[GMV_RECEIVER_EXPECTED] = 17;
-    hybrid_receive();
-    CHECK(received[GMV_RECEIVED_TRANSACTION] == 17 && receiver[GMV_RECEIVER_EXPECTED] == 18);
-    minimal_receive();
-    CHECK(received[GMV_RECEIVED_TRANSACTION] == 17 && receiver[GMV_RECEIVER_EXPECTED] == 18);
     memcpy(sender_before, idle, sizeof sender_before);
     sender_submit();
     CHECK(act[GMV_ACT_SEND] == GMV_SEND_TRANSACTION && act[GMV_ACT_SEND_NUMBER] == 17);
@@ -506,6 +551,7 @@ static void good_and_damaged_ends(void)
         "MSH|^~\\&|||||||ACK|1|P|2.3.1\rMSA|AR|17||18\r",
         "MSH|^~\\&|||||||ACK|1|P|2.3.1\rMSA|AR|17||999999999999999\r",
         "MSH|^~\\&|||||||ADT|17|P|2.3.1|17\x7F\r",
+        "MSH|^~\\&|||||||ADT|17\x7F|P|2.3.1|17\r",
         ""};
 
     for (size_t i = 0; i < sizeof data / sizeof data[0]; i++)
@@ -515,7 +561,8 @@ static void good_and_damaged_ends(void)
     message[3] ^= 0x40;
     ends_take_little_stack(message, sizeof message);
     control_blocks_take_little_stack();
-    ends_do_their_work();
+    receivers_do_their_work();
+    senders_do_their_work();
 }
 
 static void station_takes_little_stack(void)

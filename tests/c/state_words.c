@@ -1,20 +1,21 @@
-/* Which words are a state of the station and of the master: every combination of small words, with each
- * act. The header names the combinations; any other is refused with 11, and nothing changes. What an act
- * leaves is a state again. */
+/* Which words are a state of the receiver, of the station and of the master: every combination of small
+ * words, with each act. The header names the combinations; any other is refused with 11, and nothing
+ * changes. What an act leaves is a state again. */
 #include "harness.h"
 
 #include <string.h>
 
-enum { WORD = sizeof(uint64_t) };
+enum { WORD = sizeof(uint64_t), LIMIT = 128, LONGEST_BLOCK = LIMIT + 15 };
 
 /* An act on words with memory of exactly their size. */
 typedef struct {
     guarded state, report, buffer;
 } lent;
 
-static lent lend(size_t state_words, size_t report_words)
+static lent lend(size_t state_words, size_t report_words, size_t buffer_length)
 {
-    lent m = {guard(state_words * WORD, 0xEE), guard(report_words * WORD, 0xEE), guard(4, 0x55)};
+    lent m = {guard(state_words * WORD, 0xEE), guard(report_words * WORD, 0xEE),
+              guard(buffer_length, 0x55)};
 
     return m;
 }
@@ -39,6 +40,149 @@ static int all_unchanged(const lent *m)
 
 #define WORDS(m) words_of(&(m)->state), word_count(&(m)->state), words_of(&(m)->report), \
     word_count(&(m)->report)
+
+/* ---- the receiver */
+
+enum { DECIDE, N_BLOCK, STORED_HYBRID, STORED_MINIMAL, FAILED_HYBRID, FAILED_MINIMAL, NAK, RECEIVER_ACTS };
+
+#define BUFFER(m) (m)->buffer.at, (m)->buffer.size, 0
+
+static uint64_t act_on_receiver(int act, lent *m)
+{
+    static const uint8_t data[] = "MSH|||||||||17|||2\r";
+    const uint64_t sb = GMV_START_BLOCK_DEFAULT, eb = GMV_END_BLOCK_DEFAULT;
+    uint64_t *state = words_of(&m->state), *report = words_of(&m->report);
+
+    switch (act) {
+    case DECIDE:
+    case N_BLOCK:
+        return gmv_receiver_decide(GMV_CODE_AE, act == DECIDE ? GMV_DATA_BLOCK : GMV_NAK_BLOCK, data,
+                                   sizeof data - 1, WORDS(m));
+    case STORED_HYBRID:
+    case FAILED_HYBRID:
+        return gmv_hybrid_answer(sb, eb, LIMIT, act == STORED_HYBRID, state, GMV_RECEIVER_WORDS,
+                                 BUFFER(m), report, word_count(&m->report));
+    case STORED_MINIMAL:
+    case FAILED_MINIMAL:
+        return gmv_minimal_answer(LIMIT, act == STORED_MINIMAL, state, GMV_RECEIVER_WORDS, BUFFER(m),
+                                  report, word_count(&m->report));
+    default:
+        return gmv_hybrid_nak(sb, eb, LIMIT, GMV_HEAD, state, GMV_RECEIVER_WORDS, BUFFER(m), report,
+                              word_count(&m->report));
+    }
+}
+
+/* The header's table, row by row: does it give these words for the number expected? */
+static int is_in_table(const uint64_t *w)
+{
+    const uint64_t expected = w[GMV_RECEIVER_EXPECTED], n = w[GMV_RECEIVER_TRANSACTION];
+    const uint64_t accepted[] = {GMV_CODE_AA, expected, 0, expected};
+    const uint64_t resynchronized[] = {GMV_CODE_AA, 0, 0, 0};
+    const uint64_t rejected[] = {GMV_CODE_AR, expected, 0, expected};
+    const uint64_t taken[] = {GMV_CODE_AA, n, n, n + 1}, erred[] = {GMV_CODE_AE, n, n, n + 1};
+    const uint64_t *const open = w + GMV_RECEIVER_CODE;
+    const int may_be_taken = n >= 1 && n <= GMV_LARGEST_NUMBER && (expected == 0 || expected == n);
+
+    return memcmp(open, accepted, sizeof accepted) == 0 ||
+           memcmp(open, resynchronized, sizeof resynchronized) == 0 ||
+           memcmp(open, rejected, sizeof rejected) == 0 ||
+           (may_be_taken && (memcmp(open, taken, sizeof taken) == 0 || memcmp(open, erred, sizeof erred) == 0));
+}
+
+/* The control IDs that are tried: so many of these can stand in an answer, and then those that cannot. */
+enum { GOOD_IDS = 3, IDS = 7 };
+static const uint64_t control_ids[IDS][4] = {{1, 'A', 0, 0},
+                                             {2, 0xFF00003741, UINT64_MAX, UINT64_MAX},
+                                             {20, 0x4141414141414141, 0x4141414141414141, 0x41414141},
+                                             {0, 'A', 0, 0},
+                                             {21, 0x4141414141414141, 0x4141414141414141, 0x4141414141},
+                                             {9, 0x4141414141414141, '|', 0},
+                                             {1, 0x7F, 0, 0}};
+
+static int is_receiver(const uint64_t *w, int id)
+{
+    if (w[GMV_RECEIVER_EXPECTED] > GMV_LARGEST_NUMBER + 1)
+        return 0;
+    return w[GMV_RECEIVER_CODE] == 0 || (id < GOOD_IDS && is_in_table(w));
+}
+
+static uint64_t receiver_answers(int act, const uint64_t *w, int id)
+{
+    const int is_open = w[GMV_RECEIVER_CODE] != 0, needs_open = act >= STORED_HYBRID && act <= FAILED_MINIMAL;
+
+    if (!is_receiver(w, id))
+        return GMV_STATE;
+    return is_open == needs_open ? GMV_OK : GMV_STATE;
+}
+
+/* What an act that was done leaves: a decision on "17" from the first three, and no decision after a report. */
+static int leaves_receiver(int act, const lent *m, const uint64_t *before)
+{
+    const uint64_t *w = words_of(&m->state);
+    const uint64_t none[GMV_RECEIVER_WORDS - 1] = {0};
+
+    if (act == DECIDE)
+        return is_in_table(w) && w[GMV_RECEIVER_CONTROL_ID] == 0x3731 && w[0] == before[0];
+    if (act == N_BLOCK || act == NAK)
+        return unchanged(&m->state);
+    if (memcmp(w + 1, none, sizeof none) != 0)
+        return 0;
+    return w[0] == (act <= STORED_MINIMAL ? before[GMV_RECEIVER_NEW_EXPECTED] : before[0]);
+}
+
+static int receiver_acts_rightly(const uint64_t *w, int id, lent *m)
+{
+    int right = 1;
+
+    for (int act = 0; act < RECEIVER_ACTS; act++) {
+        const uint64_t expected = receiver_answers(act, w, id);
+
+        set_words(m, w);
+        right &= act_on_receiver(act, m) == expected;
+        right &= expected == GMV_OK ? leaves_receiver(act, m, w) : all_unchanged(m);
+        keep(&m->report);
+        keep(&m->buffer);
+    }
+    return right;
+}
+
+/* The words 1 to 4 in every combination of small ones and those near the number expected. */
+static int decisions(uint64_t *w, int id, lent *m, int *open)
+{
+    const uint64_t e = w[0] == 0 ? 7 : w[0], numbers[] = {0, 1, 2, 3, e, e + 1};
+    const size_t count = sizeof numbers / sizeof numbers[0];
+    int right = 1;
+
+    for (size_t i = 0; i < 5 * count * count * count; i++) {
+        w[GMV_RECEIVER_CODE] = i % 5;
+        w[GMV_RECEIVER_NUMBER] = numbers[i / 5 % count];
+        w[GMV_RECEIVER_TRANSACTION] = numbers[i / 5 / count % count];
+        w[GMV_RECEIVER_NEW_EXPECTED] = numbers[i / 5 / count / count];
+        *open += is_receiver(w, id) && w[GMV_RECEIVER_CODE] != 0 && id == 0;
+        right &= receiver_acts_rightly(w, id, m);
+    }
+    return right;
+}
+
+static void words_of_receivers(void)
+{
+    const uint64_t expected[] = {0, 10, GMV_LARGEST_NUMBER, GMV_LARGEST_NUMBER + 1, GMV_LARGEST_NUMBER + 2};
+    lent m = lend(GMV_RECEIVER_WORDS, GMV_DECISION_WORDS, LONGEST_BLOCK);
+    uint64_t w[GMV_RECEIVER_WORDS];
+    int open = 0, right = 1;
+
+    for (size_t i = 0; i < sizeof expected / sizeof expected[0]; i++)
+        for (int id = 0; id < IDS; id++) {
+            w[0] = expected[i];
+            memcpy(w + GMV_RECEIVER_CONTROL_ID_LENGTH, control_ids[id], sizeof control_ids[id]);
+            right &= decisions(w, id, &m, &open);
+        }
+    CHECK(right);
+    /* none expected: AA -1, AR -1, and 1, 2 and 7 with AA and AE; 10 and the largest that is sent: AA -1, AA,
+     * AR, and the number itself with AA and AE; one more: AA -1, AA and AR */
+    CHECK(open == 8 + 5 + 5 + 3);
+    take_back(&m);
+}
 
 /* ---- the station */
 
@@ -111,7 +255,7 @@ static int station_acts_rightly(const uint64_t *w, lent *m)
 static void words_of_stations(void)
 {
     const uint64_t held[] = {0, 1, 9};
-    lent m = lend(GMV_STATION_WORDS, GMV_STATION_REPORT_WORDS);
+    lent m = lend(GMV_STATION_WORDS, GMV_STATION_REPORT_WORDS, 4);
     uint64_t w[GMV_STATION_WORDS];
     int states = 0, right = 1;
 
@@ -252,7 +396,7 @@ static void first_words(uint64_t *w, int index)
 
 static void words_of_masters(void)
 {
-    lent m = lend(GMV_MASTER_WORDS, GMV_MASTER_REPORT_WORDS);
+    lent m = lend(GMV_MASTER_WORDS, GMV_MASTER_REPORT_WORDS, 4);
     uint64_t w[GMV_MASTER_WORDS];
     int states = 0, right = 1;
 
@@ -270,6 +414,8 @@ static void words_of_masters(void)
 
 void test_state_words(void)
 {
+    begin_test("receiver: of all small words exactly those that the header's table gives are states");
+    words_of_receivers();
     begin_test("station: of all small words exactly those that the header names are states");
     words_of_stations();
     begin_test("master: of all small words exactly those that the header names are states");

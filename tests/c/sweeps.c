@@ -203,8 +203,6 @@ static void every_beginning(void)
 
 /* ---- the receiver */
 
-#define REQUEST_17 "MSH|^~\\\\&|||||||ADT|17|P|2.3.1|17\\r"
-
 /* The reply block with this answer, as a case writes it, and its length. */
 static size_t reply_of(char *text, settings link, const char *id, const char *code,
                        const char *number)
@@ -225,36 +223,45 @@ static size_t reply_of(char *text, settings link, const char *id, const char *co
     return (size_t)length + overhead_of(link);
 }
 
-/* The function and its settings. */
-static void receiver_call(char *text, settings link)
+/* A function of the link's kind, and its settings. */
+static void receiver_call(char *text, settings link, const char *name)
 {
     if (link.minimal)
-        snprintf(text, LONGEST, "minimal_receive data_limit=%lu", (unsigned long)link.data_limit);
+        snprintf(text, LONGEST, "minimal_%s data_limit=%lu", name, (unsigned long)link.data_limit);
     else
-        snprintf(text, LONGEST, "hybrid_receive start_block=%lu end_block=%lu data_limit=%lu",
+        snprintf(text, LONGEST, "hybrid_%s start_block=%lu end_block=%lu data_limit=%lu", name,
                  (unsigned long)link.start_block, (unsigned long)link.end_block,
                  (unsigned long)link.data_limit);
 }
 
-/* A whole run on one state: every transaction is persisted once, and a retransmission is not. */
+#define NO_DECISION "0 0 0 0 0 0 0 0"
+
+/* A whole run on one state: every transaction is persisted once, and a retransmission is not. Each is
+ * decided on, fails once, and is then reported stored. */
 static void run_of_transactions(settings link)
 {
     for (unsigned long first = 1; first < 100000; first = 10 * first + 7)
         for (unsigned long n = 0; n < 2 * 12; n++) {
             unsigned long sent = first + n / 2, again = n % 2;
             unsigned long expected = n == 0 ? 0 : sent + again;
-            char call[LONGEST], id[24], next[24], reply[LONGEST];
+            char call[LONGEST], id[24], next[24], reply[LONGEST], open[LONGEST];
+            const size_t space = (size_t)link.data_limit + overhead_of(link);
             size_t length;
 
             snprintf(id, sizeof id, "%lu", sent);
             snprintf(next, sizeof next, "%lu", sent + again);
-            receiver_call(call, link);
+            receiver_call(call, link, "answer");
             length = reply_of(reply, link, id, again ? "AR" : "AA", next);
-            CASE("%s application=1 state=(%lu) block_number=0 block_type=68 "
-                 "data=\"MSH|^~\\\\&|||||||ADT|%s|P|2.3.1|%s\\r\" buffer_length=%zu start=0 -> 0 "
-                 "state=(%lu) buffer=0:%s report=(%lu %zu 0)", call, expected, id, id,
-                 (size_t)link.data_limit + overhead_of(link), sent + 1, reply, again ? 0 : sent,
-                 length);
+            snprintf(open, sizeof open, "%lu %d %s %lu %lu \"%s\"", expected, again ? 3 : 1, next,
+                     again ? 0 : sent, sent + 1, id);
+            CASE("receiver_decide application=1 block_type=68 "
+                 "data=\"MSH|^~\\\\&|||||||ADT|%s|P|2.3.1|%s\\r\" state=(%lu " NO_DECISION ") -> 0 "
+                 "state=(%s) report=(0 1 %lu %lu %d)", id, id, expected, open, again ? 0 : sent,
+                 sent + 1, again ? 0 : 1);
+            CASE("%s stored=0 state=(%s) buffer_length=%zu start=0 -> 0 state=(%lu " NO_DECISION ") "
+                 "buffer=same report=(0 0)", call, open, space, expected);
+            CASE("%s stored=1 state=(%s) buffer_length=%zu start=0 -> 0 state=(%lu " NO_DECISION ") "
+                 "buffer=0:%s report=(%zu 0)", call, open, space, sent + 1, reply, length);
         }
 }
 
@@ -263,68 +270,65 @@ static int byte_allowed(uint64_t value)
     return value <= 255 && value != 0x0D && !(value >= 0x20 && value <= 0x7E);
 }
 
+#define OPEN_17 "17 1 17 17 18 \"17\""
+
 static void start_and_end_bytes(void)
 {
+    static const char lent[] = "buffer_length=143 start=0";
+
     for (uint64_t value = 0; value <= 300; value++)
         for (int end = 0; end < 2; end++) {
             settings link = hybrid(LEAST_LIMIT);
-            char call[LONGEST], reply[LONGEST];
-            static const char rest[] = "application=1 state=(17) block_number=0 block_type=68 "
-                                       "data=\"" REQUEST_17 "\" buffer_length=143 start=0";
+            char answer[LONGEST], nak[LONGEST], reply[LONGEST];
+            unsigned sum;
 
             *(end ? &link.end_block : &link.start_block) = value;
-            receiver_call(call, link);
+            sum = (unsigned)link.start_block ^ 'N' ^ '2' ^ '3' ^ '\r' ^ 'G';
+            receiver_call(answer, link, "answer");
+            receiver_call(nak, link, "nak");
             reply_of(reply, link, "17", "AA", "17");
-            if (!byte_allowed(value) || link.start_block == link.end_block)
-                CASE("%s %s -> 1 same", call, rest);
-            else
-                CASE("%s %s -> 0 state=(18) buffer=0:%s report=(17 59 0)", call, rest, reply);
+            if (!byte_allowed(value) || link.start_block == link.end_block) {
+                CASE("%s stored={0 1} state=(" OPEN_17 ") %s -> 1 same", answer, lent);
+                CASE("%s block_number=9 state=(17 " NO_DECISION ") %s -> 1 same", nak, lent);
+                continue;
+            }
+            CASE("%s stored=1 state=(" OPEN_17 ") %s -> 0 state=(18 " NO_DECISION ") buffer=0:%s "
+                 "report=(59 0)", answer, lent, reply);
+            CASE("%s block_number=9 state=(17 " NO_DECISION ") %s -> 0 state=same "
+                 "buffer=0:\"\\x%02xN23\\rG00006%03u\\x%02x\\r\" report=(16 0)", nak, lent,
+                 (unsigned)link.start_block, sum, (unsigned)link.end_block);
         }
 }
 
 static void nak_start_offsets(void)
 {
     for (size_t start = 0; start < 40; start++)
-        CASE("hybrid_receive start_block=11 end_block=28 data_limit=128 application=1 state=(17) "
-             "block_number=7 block_type=68 data=\"" REQUEST_17 "\" buffer_length=%zu start=%zu -> 0 "
-             "state=same buffer=%zu:\"\\x0bN23\\rX00006017\\x1c\\r\" report=(0 16 7)", start + 143,
-             start, start);
+        CASE("hybrid_nak start_block=11 end_block=28 data_limit=128 block_number=7 "
+             "state=(17 " NO_DECISION ") buffer_length=%zu start=%zu -> 0 state=same "
+             "buffer=%zu:\"\\x0bN23\\rX00006017\\x1c\\r\" report=(16 0)", start + 143, start, start);
 }
 
-/* The need is data_limit + 15 (minimal: + 3) from the start on, whatever the block and reply. */
+/* The need is data_limit + 15 (minimal: + 3) from the start on, whatever is reported or replied. */
 static void needs_space_for(settings link, size_t start)
 {
     const size_t need = start + (size_t)link.data_limit + overhead_of(link);
-    static const char request[] = "data=\"" REQUEST_17 "\"";
     char call[LONGEST], reply[LONGEST];
     size_t length = reply_of(reply, link, "17", "AA", "17");
 
-    receiver_call(call, link);
-    CASE("%s application=1 state=(17) block_number=0 block_type={68 78} %s buffer_length=%zu "
-         "start=%zu -> 2 same", call, request, need - 1, start);
-    CASE("%s application=1 state=(17) block_number={6 8} block_type=0 %s buffer_length=%zu "
-         "start=%zu -> 2 same", call, request, need - 1, start);
-    CASE("%s application=1 state=(17) block_number=0 block_type=68 %s buffer_length=%zu start=%zu "
-         "-> 0 state=(18) buffer=%zu:%s report=(17 %zu 0)", call, request, need, start, start, reply,
-         length);
-    if (link.minimal) {
-        CASE("%s application=1 state=(17) block_number=0 block_type=78 %s buffer_length=%zu start=%zu "
-             "-> 0 state=(18) buffer=%zu:%s report=(17 %zu 0)", call, request, need, start, start,
-             reply, length);
-        CASE("%s application=1 state=(17) block_number=6 block_type=0 %s buffer_length=%zu start=%zu "
-             "-> 0 state=same buffer=same report=(0 0 6)", call, request, need, start);
-        CASE("%s application=1 state=(17) block_number=8 block_type=0 %s buffer_length=%zu start=%zu "
-             "-> 0 state=same buffer=same report=(0 0 8)", call, request, need, start);
+    receiver_call(call, link, "answer");
+    CASE("%s stored={0 1} state=(" OPEN_17 ") buffer_length=%zu start=%zu -> 2 same", call, need - 1,
+         start);
+    CASE("%s stored=1 state=(" OPEN_17 ") buffer_length=%zu start=%zu -> 0 state=(18 " NO_DECISION ") "
+         "buffer=%zu:%s report=(%zu 0)", call, need, start, start, reply, length);
+    CASE("%s stored=0 state=(" OPEN_17 ") buffer_length=%zu start=%zu -> 0 state=(17 " NO_DECISION ") "
+         "buffer=same report=(0 0)", call, need, start);
+    if (link.minimal)
         return;
-    }
-    CASE("%s application=1 state=(17) block_number=0 block_type=78 %s buffer_length=%zu start=%zu "
-         "-> 0 state=same buffer=same report=(0 0 0)", call, request, need, start);
-    CASE("%s application=1 state=(17) block_number=6 block_type=0 %s buffer_length=%zu start=%zu -> 0 "
-         "state=same buffer=%zu:\"\\x0bN23\\rC00006010\\x1c\\r\" report=(0 16 6)", call, request, need,
-         start, start);
-    CASE("%s application=1 state=(17) block_number=8 block_type=0 %s buffer_length=%zu start=%zu -> 0 "
-         "state=same buffer=%zu:\"\\x0bN23\\rG00006014\\x1c\\r\" report=(0 16 8)", call, request, need,
-         start, start);
+    receiver_call(call, link, "nak");
+    CASE("%s block_number={3..9} state=(17 " NO_DECISION ") buffer_length=%zu start=%zu -> 2 same", call,
+         need - 1, start);
+    CASE("%s block_number=6 state=(17 " NO_DECISION ") buffer_length=%zu start=%zu -> 0 state=same "
+         "buffer=%zu:\"\\x0bN23\\rC00006010\\x1c\\r\" report=(16 0)", call, need, start, start);
 }
 
 static void needs_space(settings link)
@@ -627,13 +631,13 @@ static void message_sweeps(void)
 
 static void receiver_sweeps(void)
 {
-    begin_test("hybrid receiver: a run of transactions, each sent twice");
+    begin_test("hybrid receiver: a run of transactions, each sent twice and failed once");
     run_of_transactions(hybrid(LEAST_LIMIT));
-    begin_test("minimal receiver: a run of transactions, each sent twice");
+    begin_test("minimal receiver: a run of transactions, each sent twice and failed once");
     run_of_transactions(minimal(LEAST_LIMIT));
     begin_test("hybrid receiver: 1 for start and end bytes");
     start_and_end_bytes();
-    begin_test("hybrid receiver: NAK blocks at every offset");
+    begin_test("hybrid receiver: N replies at every offset");
     nak_start_offsets();
     begin_test("hybrid receiver: 2 with one byte less than the need");
     needs_space(hybrid(LEAST_LIMIT));

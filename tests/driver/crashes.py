@@ -26,7 +26,8 @@ class Windows:
         folders = [os.path.join(self.folder, '%s-%d' % (name, self.made)) for name in ('sender', 'receiver')]
         for folder, words in zip(folders, (['sender-init', folders[0], '1'], ['receiver-init', folders[1]])):
             os.spawnv(os.P_WAIT, os.path.join(self.programs, 'gmv_driver'), ['gmv_driver'] + words)
-            hold(os.path.exists(os.path.join(folder, 'state')), '%s is not made', folder)
+            if not os.path.exists(os.path.join(folder, 'state')):
+                raise RuntimeError('%s is not made' % folder)  # no fault is found by a driver that does nothing
         change_state(os.path.join(folders[1], 'state'), expected=2)
         lines = (['--minimal-connect', '127.0.0.1:%d' % self.port], ['--minimal-listen', str(self.port)])
         self.ends = [End(self.programs, command, folder, line, OPTIONS)
@@ -40,12 +41,18 @@ class Windows:
         for end in self.ends:
             end.kill()
 
+    def ending(self, at, half):
+        """How the victim is killed at this act."""
+        return {'LD_PRELOAD': self.trace, 'CRASH_AT': str(at), 'CRASH_HALF': str(half)}
+
+    def look(self, books, at):
+        """What else must be so after the kill."""
+
     def one(self, victim, at, half):
         """Kills the end `victim` (0 sender, 1 receiver) at this act. Returns 0 where it has no such act."""
         books = self.new_ends()
-        crash = {'LD_PRELOAD': self.trace, 'CRASH_AT': str(at), 'CRASH_HALF': str(half)}
         for index in (1, 0):
-            self.ends[index].start(crash if index == victim else None)
+            self.ends[index].start(self.ending(at, half) if index == victim else None)
         dies = self.ends[victim].process
         hold(wait_for(lambda: dies.poll() is not None or books.all_delivered()), 'act %d: nothing goes on', at)
         if books.all_delivered():
@@ -53,6 +60,8 @@ class Windows:
         crashed = dies.poll() is not None
         self.close()
         books.check()
+        if crashed:
+            self.look(books, at)
         for index in (1, 0):
             self.ends[index].start()
         hold(wait_for(books.all_delivered), 'act %d: not all is delivered after it', at)

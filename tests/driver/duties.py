@@ -51,7 +51,7 @@ class Bench:
 
     def __init__(self, programs, folder, trace):
         self.programs, self.folder, self.trace, self.ends = programs, folder, trace, []
-        os.mkdir(folder)
+        os.makedirs(folder, exist_ok=True)
 
     def path(self, name):
         return os.path.join(self.folder, name)
@@ -65,9 +65,9 @@ class Bench:
             return -1, 'does not end'
         return done.returncode, done.stdout.decode()
 
-    def start(self, command, name, line, *options):
+    def start(self, command, name, line, *options, environment=None):
         end = End(self.programs, command, self.path(name), line, list(options))
-        end.start()
+        end.start(environment)
         self.ends.append(end)
         return end
 

@@ -8,7 +8,7 @@ import time
 import zlib
 
 NONE = 0
-ENDINGS = {'CRASH_AT', 'FAIL_SYNC_AT'}  # how a test has trace.c end a driver
+ENDINGS = {'CRASH_AT', 'FAIL_SYNC_AT', 'FAIL_AT', 'KILL_AT'}  # how a test has trace.c, or steps.c, end a driver
 CHECKED = ('giamuvich sender 2', 'giamuvich receiver 2')  # the titles of the form that has a check
 
 

@@ -20,6 +20,8 @@ SENDER_WINDOWS = 'the sender is killed before each act'
 RECEIVER_WINDOWS = 'the receiver is killed before each act'
 POWER = 'power loss'
 FAILED_SYNC = 'power loss after a sync of the receiver failed'
+FULL_DISK = 'power loss, and a full disk at each act of the receiver'
+BROKEN_DISK = 'power loss, and a disk that fails at each act of the receiver'
 CARELESS_HOST = 'power loss, and a host that syncs nothing'
 FIRST_FORM = 'power loss, and states of the first form'
 MAKING = 'power loss while an end is made'
@@ -30,14 +32,40 @@ KILLS = (KILLS_TCP, KILLS_TERMINAL)
 Fault = collections.namedtuple('Fault', 'name edits finders')
 
 FAULTS = [
-    Fault('an answer before storing', [('receiving_end.c', '''\
-    persist(end, &after);
-    send_reply(end, report[GMV_RECEIVED_REPLY_LENGTH]);
+    # An answer before storing can no longer be had: no call gives it. What is left is a report that is not true.
+    Fault('a false report', [('receiving_end.c', '''\
+    stored = store_decision(end, decision);
+    count_decision(end, decision[GMV_DECISION_TRANSACTION], stored);
+    send_reply(end, report_decision(end, stored));
 ''', '''\
-    send_reply(end, report[GMV_RECEIVED_REPLY_LENGTH]);
+    send_reply(end, report_decision(end, GMV_STORED));
     poll(NULL, 0, 20);
-    persist(end, &after);
+    stored = store_decision(end, decision);
 ''')], (*KILLS, RECEIVER_WINDOWS, POWER)),
+
+    # True when it was made, of the decision before the crash; it is used for the next one that has something to store.
+    Fault('a report that is kept over a restart', [('receiving_end.c', '''\
+    stored = store_decision(end, decision);
+    count_decision(end, decision[GMV_DECISION_TRANSACTION], stored);
+    send_reply(end, report_decision(end, stored));
+''', '''\
+    char kept[PATH_LENGTH];
+    path_of(kept, end->folder, "kept");
+    if (decision[GMV_DECISION_CHANGES] == 1 && !is_missing(kept)) {
+        send_reply(end, report_decision(end, GMV_STORED));
+        unlink(kept);
+        poll(NULL, 0, 20);
+        store_decision(end, decision);
+        return;
+    }
+    stored = store_decision(end, decision);
+    if (decision[GMV_DECISION_CHANGES] == 1)
+        store_durably(end->folder, "kept", "", 0);
+    poll(NULL, 0, 20);
+    send_reply(end, report_decision(end, stored));
+    if (decision[GMV_DECISION_CHANGES] == 1)
+        unlink(kept);
+''')], (*KILLS, POWER)),
 
     Fault('a send before storing', [('sending_end.c', '''\
     require_done(number, function);
@@ -52,15 +80,13 @@ FAULTS = [
 ''')], (*KILLS, SENDER_WINDOWS, POWER)),
 
     Fault('transaction and expected number as two acts', [('receiving_end.c', '''\
-        store_receiver(end->folder, after); /* the commit point */
+    stored = store_receiver(end->folder, after); /* the commit point */
 ''', '''\
-    {
-        receiver_record half = *after;
-        half.words[GMV_RECEIVER_EXPECTED] = end->record.words[GMV_RECEIVER_EXPECTED];
-        store_receiver(end->folder, &half);
-        poll(NULL, 0, 20);
-        store_receiver(end->folder, after);
-    }
+    receiver_record half = *after;
+    half.words[GMV_RECEIVER_EXPECTED] = end->record.words[GMV_RECEIVER_EXPECTED];
+    store_receiver(end->folder, &half);
+    poll(NULL, 0, 20);
+    stored = store_receiver(end->folder, after);
 ''')], (*KILLS, RECEIVER_WINDOWS, POWER)),
 
     Fault('delivered too early', [('sending_end.c', '''\
@@ -82,46 +108,40 @@ FAULTS = [
     make_durable(end, log);
 ''', '')], (POWER,)),
 
-    Fault("an answer before the folder's sync", [('store.c', '''\
+    Fault("a report before the folder's sync", [('store.c', '''\
     if (sync)
         sync_folder(folder);
 ''', '''\
     if (sync && !late_sync)
         sync_folder(folder);
 '''), ('store.c', '''\
-static void store(const char *folder,''', '''\
+static int store(const char *folder,''', '''\
 int late_sync;
-static void store(const char *folder,'''), ('receiving_end.c', '''\
-        store_receiver(end->folder, after); /* the commit point */
+static int store(const char *folder,'''), ('receiving_end.c', '''\
+    stored = store_receiver(end->folder, after); /* the commit point */
 ''', '''\
-    {
-        extern int late_sync;
-        late_sync = 1;
-        store_receiver(end->folder, after);
-        late_sync = 0;
-    }
+    extern int late_sync;
+    late_sync = 1;
+    stored = store_receiver(end->folder, after);
+    late_sync = 0;
 '''), ('receiving_end.c', '''\
-    persist(end, &after);
-    send_reply(end, report[GMV_RECEIVED_REPLY_LENGTH]);
+    send_reply(end, report_decision(end, stored));
 ''', '''\
-    persist(end, &after);
-    send_reply(end, report[GMV_RECEIVED_REPLY_LENGTH]);
+    send_reply(end, report_decision(end, stored));
     sync_folder(end->folder);
 ''')], (POWER,)),
 
     Fault("a rename before the file's sync", [('store.c', '''\
     if (sync && fsync(file) != 0) /* before the name: else the name could survive without the bytes */
-        fail("cannot sync %s: %s", new_path, strerror(errno));
-    if (close(file) != 0)
-        fail("cannot close %s: %s", new_path, strerror(errno));
-    if (rename(new_path, path) != 0)
-        fail("cannot rename %s: %s", new_path, strerror(errno));
+        return "sync";
+''', ''), ('store.c', '''\
+    if (sync)
+        sync_folder(folder);
 ''', '''\
-    if (rename(new_path, path) != 0)
-        fail("cannot rename %s: %s", new_path, strerror(errno));
-    if (sync && fsync(file) != 0)
-        fail("cannot sync %s: %s", new_path, strerror(errno));
-    close(file);
+    if (sync) {
+        sync_file(path);
+        sync_folder(folder);
+    }
 ''')], (POWER,)),
 
     Fault('a log that is written after the state', [('sending_end.c', '''\
@@ -138,8 +158,63 @@ static void store(const char *folder,'''), ('receiving_end.c', '''\
 ''')], (POWER,)),
 
     Fault('a transaction that is not synced', [('receiving_end.c', '''\
-    store_durably(end->transactions, name,''', '''\
-    store_lightly(end->transactions, name,''')], (POWER,)),
+    if (store_if_space(end->transactions, name, input_data(&end->input),
+                      end->input.verdict[GMV_VERDICT_DATA_LENGTH]) != 0)
+        return -1;
+''', '''\
+    store_lightly(end->transactions, name, input_data(&end->input),
+                  end->input.verdict[GMV_VERDICT_DATA_LENGTH]);
+''')], (POWER,)),
+
+    Fault('a sync of the state that failed is reported', [('store.c', '''\
+    if (sync)
+        sync_folder(folder);
+''', '''\
+    if (sync && sync_path(folder) != 0)
+        return -1;
+''')], (FAILED_SYNC, BROKEN_DISK)),
+
+    Fault('a rename of the state that failed is reported', [('store.c', '''\
+    if (!is_missing(path))
+        fail("cannot rename %s: %s", new_path, strerror(error));
+''', '')], (FULL_DISK,)),
+
+    Fault('a disk that fails is taken for a full one', [('store.c', '''\
+    if (error != ENOSPC && error != EDQUOT)
+''', '''\
+    if (0)
+''')], (FAILED_SYNC, BROKEN_DISK)),
+
+    Fault('a full disk ends the driver', [('store.c', '''\
+    if (error != ENOSPC && error != EDQUOT)
+''', '''\
+    if (1)
+''')], (FULL_DISK,)),
+
+    Fault('a full disk is reported as stored', [('receiving_end.c', '''\
+        return GMV_NOT_STORED;
+''', '''\
+        return GMV_STORED;
+''')], (FULL_DISK,)),
+
+    Fault('what a failed store left holds room', [('receiving_end.c', '''\
+    end->leftover = unlink(path) != 0;
+''', '''\
+    end->leftover = 1;
+''')], (FULL_DISK,)),
+
+    Fault('a file without room is left', [('store.c', '''\
+    unlink(new_path);
+    errno = error;
+''', '''\
+    errno = error;
+''')], (FULL_DISK,)),
+
+    Fault('what a failed store left is in the way of the next', [('receiving_end.c', '''\
+    end->leftover = unlink(path) != 0;
+''', '''\
+    end->leftover = 0;
+''')], (FULL_DISK,)),
 
     Fault('a failed sync that is not looked at', [('store.c', '''\
     if (sync_path(path) != 0)
@@ -158,7 +233,7 @@ static void store(const char *folder,'''), ('receiving_end.c', '''\
 
     Fault('a file that is written over where it may have two names', [('store.c', '''\
     if (unlink(new_path) != 0 && errno != ENOENT)
-        fail("cannot remove %s: %s", new_path, strerror(errno));
+        return lacks_space(new_path, "remove");
     file = open(new_path, O_WRONLY | O_CREAT | O_EXCL, 0666);
 ''', '''\
     file = open(new_path, O_WRONLY | O_CREAT | O_TRUNC, 0666);
@@ -173,11 +248,11 @@ static void store(const char *folder,'''), ('receiving_end.c', '''\
 ''', '')], (MAKING,)),
 
     Fault('a check that is asked for before it is there', [('receiving_end.c', '''\
-    store_receiver(end->folder, &end->record);
+    create_state(end->folder, &end->record);
     require_checks(end->folder);
 ''', '''\
     require_checks(end->folder);
-    store_receiver(end->folder, &end->record);
+    create_state(end->folder, &end->record);
 ''')], (FIRST_FORM,)),
 
     Fault('a file that is made past the trace', [('receiving_end.c', '''\

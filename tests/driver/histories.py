@@ -8,6 +8,8 @@ import os
 from disks import MOST
 from ends import Violation
 
+FAILED = 'a failed'
+
 # After which act, the images that a power cut may leave (the visible one first), what may be stored by them; and
 # where the act was on the line: the circuit and how many bytes were sent on it so far, or heard.
 Moment = collections.namedtuple('Moment', 'after images stored sent heard')
@@ -71,11 +73,14 @@ class History:
             self.totals[act][circuit] += int(count)
             at = circuit, self.totals[act][circuit]
             self.note(act, *((at, None) if act == 'block' else (None, at)))
-        elif act == 'dies':
-            self.note('its death before ' + words[0])
+        elif act in ('dies', 'fails'):
+            self.note('%s %s' % ({'dies': 'its death before', 'fails': FAILED}[act], self.words_of(words[0], words[1:])))
         else:
             self.disk.apply(act, *words)
-            self.look(' '.join([act] + [os.path.relpath(word, self.disk.path) for word in words if '/' in word]))
+            self.look(self.words_of(act, words))
+
+    def words_of(self, act, words):
+        return ' '.join([act] + [os.path.relpath(word, self.disk.path) for word in words if '/' in word])
 
     def acts(self):
         """What it did, in the numbering of CRASH_AT."""

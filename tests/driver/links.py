@@ -9,7 +9,8 @@ import time
 
 from blocks import Rules
 from books import AGREE
-from ends import Books, End, Violation, hold
+from duties import wait_for
+from ends import Books, End, Violation, hold, read, read_words
 from lines import NoLine, TcpLine, TerminalLine
 from readout import said
 
@@ -62,8 +63,9 @@ def message(number, limit, random):
 class Link:
     """A receiver's folder, the senders that use it one after the other, and the line between."""
 
-    def __init__(self, programs, folder, scenario, seed, timer=40):
-        self.programs, self.folder, self.scenario = programs, folder, scenario
+    def __init__(self, programs, folder, scenario, seed, timer=40, full=None):
+        """`full` is the library that makes the receiver's disk full at times."""
+        self.programs, self.folder, self.scenario, self.full = programs, folder, scenario, full
         self.timer, self.random, self.counts = timer, random.Random(seed), collections.Counter()
         self.earlier = set()  # what the senders before this one sent
         self.terminal = scenario.line == TERMINAL
@@ -83,7 +85,7 @@ class Link:
         self.line.most_sends = scenario.resends + 1
         self.receiver = self.end('receive', 'receiver', self.receiver_line())
         self.init('receiver-init', self.receiver.folder)
-        self.sender, self.books = None, None
+        self.sender, self.books, self.full_file = None, None, os.path.join(folder, 'full')
 
     def receiver_line(self):
         if self.terminal:
@@ -105,7 +107,8 @@ class Link:
     # ---- what happens to the ends
 
     def start(self, end):
-        end.start()
+        full = {'LD_PRELOAD': self.full, 'FULL_WHILE': self.full_file} if self.full and end is self.receiver else None
+        end.start(full)
         if end.port is not None:
             self.line.receiver_port = end.port
 
@@ -125,6 +128,7 @@ class Link:
         self.books.check()
         self.books.count_leftovers()
         self.counts['checks'] += 1
+        self.make_space()
         if self.terminal:
             self.line.hang_up()  # the terminal server sees that the end is gone
         for end in victims:
@@ -132,6 +136,22 @@ class Link:
             self.counts['restarts'] += 1
         for end in others:
             end.signal(signal.SIGCONT)
+
+    def fill_disk(self):
+        """The receiver's disk is full until the next crash. One that is just starting would end by it."""
+        if self.full and self.random.random() < 0.3 and wait_for(self.receiver_shows, 1):
+            open(self.full_file, 'wb').close()
+            self.counts['full disks'] += 1
+
+    def receiver_shows(self):
+        try:
+            return read_words(self.receiver.folder, 'live')['process'] == self.receiver.process.pid
+        except FileNotFoundError:
+            return False
+
+    def make_space(self):
+        if os.path.exists(self.full_file):
+            os.unlink(self.full_file)
 
     @staticmethod
     def settle(others):
@@ -185,6 +205,7 @@ class Link:
         begin, done = time.monotonic(), 0
         while (time.monotonic() < begin + seconds or done < kills) and time.monotonic() < limit:
             self.feed()
+            self.fill_disk()
             self.random_moment()
             self.crash()
             done += 1
@@ -227,6 +248,7 @@ class Link:
                 self.one_sender(index, first, seconds / share, kills // share, limit)
             status = self.receiver.finish()
             hold(status == 0, 'the receiver ends with %s: %s', status, self.receiver.error_text())
+            self.counts['requests without room'] += read(self.receiver.folder + '.errors').count(b' is not stored: ')
         finally:
             for end in (self.sender, self.receiver):
                 if end is not None:

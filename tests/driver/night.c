@@ -1,5 +1,6 @@
-/* Preloaded into a driver: its machine at night. While the file $FULL_WHILE is there its disk is full; while
- * the file $AHEAD_WHILE is there its wall clock is an hour ahead, and the clock that only counts on is not. */
+/* Preloaded into a driver: its machine at night. While the file $FULL_WHILE is there its disk is full: a file gets no
+ * new block, and what it has may be written over. While the file $AHEAD_WHILE is there its wall clock is an hour
+ * ahead, and the clock that only counts on is not. */
 #define _GNU_SOURCE
 #include <dlfcn.h>
 #include <errno.h>
@@ -9,7 +10,7 @@
 #include <time.h>
 #include <unistd.h>
 
-enum { HOUR = 3600 };
+enum { HOUR = 3600, BLOCK = 4096 };
 
 typedef ssize_t writing(int, const void *, size_t);
 typedef int reading_clock(clockid_t, struct timespec *);
@@ -22,11 +23,18 @@ static int is_there(const char *variable)
     return path != NULL && access(path, F_OK) == 0;
 }
 
-ssize_t write(int file, const void *bytes, size_t length)
+/* Whether so many bytes more go beyond the blocks that the file has. */
+static int needs_space(int file, size_t length)
 {
     struct stat status;
 
-    if (fstat(file, &status) == 0 && S_ISREG(status.st_mode) && is_there("FULL_WHILE")) {
+    return fstat(file, &status) == 0 && S_ISREG(status.st_mode) &&
+           lseek(file, 0, SEEK_CUR) + (off_t)length > (status.st_size + BLOCK - 1) / BLOCK * BLOCK;
+}
+
+ssize_t write(int file, const void *bytes, size_t length)
+{
+    if (needs_space(file, length) && is_there("FULL_WHILE")) {
         errno = ENOSPC;
         return -1;
     }

@@ -1,7 +1,7 @@
-"""The night operator's round: 27 faults, each on a link of its own, all at the same time.
+"""The night operator's round: 27 faults and some more, each on a link of its own, all at the same time.
 
-What the manual tells the operator to look at must show each of the 23 harmful ones and name its cause as
-far as it can be known, and must call the four harmless ones good. What was lost or stored twice is found
+What the manual tells the operator to look at must show each of the harmful ones and name its cause as
+far as it can be known, and must call the harmless ones good. What was lost or stored twice is found
 out here from the bytes that were spooled, and linkstatus must have found the same."""
 
 import collections
@@ -82,7 +82,8 @@ CALLED = (said(RECEIVER, r'\d+ circuits ended by a new caller', 'call'),
                'two|another|stray', 'port|address'))
 DAMAGED = (said(RECEIVER, r'lab\d+\.r/state is damaged', 'disk', 'hand'),
            said(RECEIVER_SAID, r'gmv_driver: lab\d+\.r/state is damaged', 'disk', 'hand'))
-NO_ROOM = r'gmv_driver: cannot write \S+: No space left on device'
+FULL = 'No space left on device'
+NO_ROOM = r'gmv_driver: cannot write \S+: ' + FULL
 FAR_DRIVER_DOWN = said(SENDER, r'no circuit for \d+ s: Connection refused', 'down')
 NOBODY_CALLS = said(RECEIVER, r'no circuit for \d+ s: nobody calls', 'down')
 NOBODY_CALLS_ANY_MORE = said(RECEIVER, r'no circuit for \d+ s: nobody calls', 'frozen')
@@ -129,9 +130,14 @@ FAULTS = [
     fault(9, "the receiver's state, a digit of the count",
           functools.partial(wrong.changed_state, change=wrong.stored_less), 'sr',
           '^critical: .*receiver: lab09.r/state is damaged', FAR_DRIVER_DOWN, *DAMAGED),
-    fault(10, 'the disk full at the receiver', functools.partial(wrong.full_disk, end='receiver'), 'sr',
-          '^critical: .*receiver: no driver runs', FAR_DRIVER_DOWN, said(RECEIVER_SAID, NO_ROOM, 'disk', 'room')),
-    fault(11, 'the disk full at the sender', functools.partial(wrong.full_disk, end='sender'), 'sr',
+    fault(10, 'the disk full at the receiver', wrong.full_disk_at_receiver, 'sr',
+          'receiver: .*requests? not stored since the last that was: ' + FULL,
+          said(SENDER, GAVE_UP, 'disk'),
+          said(RECEIVER, r'\d+ requests? not stored since the last that was: ' + FULL, 'room', 'nothing is lost'),
+          said(RECEIVER, r'\d+ requests? not stored since the driver started, the last one \d+ s ago: ' + FULL, 'room'),
+          said(RECEIVER_SAID, r'gmv_driver: transaction \d+ is not stored: %s; it is not answered, and taken when it comes '
+               'again' % FULL, 'disk', 'room')),
+    fault(11, 'the disk full at the sender', wrong.full_disk_at_sender, 'sr',
           '^critical: sender: no driver runs', NOBODY_CALLS, said(SENDER_SAID, NO_ROOM, 'disk', 'room')),
     fault(12, 'kill -9 of the receiver', functools.partial(wrong.killed, end='receiver'), 'sr',
           '^critical: .*receiver: no driver runs', FAR_DRIVER_DOWN,
@@ -181,8 +187,8 @@ FAULTS = [
           said(SENDER, r'no circuit for \d+ s: the terminal server has made no new link', 'terminal server'),
           said(SENDER_SAID, r'gmv_driver: waited on \d+ and gave up after 4 sends, the circuit ended', 'noise'),
           said(RECEIVER, r'the last refused block was refused by \d \([a-z ]+\)', 'noise|bad line', row=by_number)),
-    # Beyond the 27: a count that is wrong and well formed; fault 20 at a receiver that was handed over as it was; and
-    # what all others are compared with.
+    # Beyond the 27: a count that is wrong and well formed; fault 20 at a receiver that was handed over as it was; disks
+    # that are slow, hang, or are full for a while; and what all others are compared with.
     fault(28, "the receiver's state, a forged count", wrong.forged_count, 'sr',
           '^critical: .*receiver: .*a file at position 3, and 1 transaction stored', FAR_DRIVER_DOWN,
           said(RECEIVER, r'a file at position 3, and 1 transaction stored', 'older|wrong', 'backup|hand'),
@@ -193,6 +199,14 @@ FAULTS = [
           said(PAIR, 'books: first number 1, delivered up to 13, submitted up to 13; expected 14, stored 13'),
           said(PAIR, 'books: the expected number says that 13 are stored, and since the last -1 there are 12', 'slot 7', 'handed over'),
           *FIRST_ONE_LOST, lost=(0,)),
+    fault(31, 'the disk full at the receiver for a while', wrong.full_disk_for_a_while, '', None,
+          said(RECEIVER_SAID, r'gmv_driver: there is room again: transaction \d+ is stored, after \d+ failures?', 'lost')),
+    fault(32, 'a slow disk at the receiver', wrong.slow_disk, '', None),
+    fault(33, 'a disk at the receiver that hangs', wrong.hanging_disk, 'sr',
+          r'receiver: the driver has not turned for \d+ s; transaction \d+ waits for the disk for \d+ s',
+          said(SENDER, GAVE_UP, 'never answers|does not answer'),
+          said(RECEIVER, r'transaction \d+ waits for the disk for \d+ s', 'disk', 'nothing is lost'),
+          said(RECEIVER, r'deciding on transaction \d+: not stored yet', 'disk')),
     fault(29, 'no fault', wrong.nothing, '', None)]
 
 
@@ -441,8 +455,9 @@ class Night:
         self.programs, self.folder, self.ports = os.path.abspath(programs), os.path.abspath(folder), set()
         self.driver = os.path.join(self.programs, 'gmv_driver')
         os.mkdir(folder)
-        subprocess.run(['gcc', '-shared', '-fPIC', '-O1', '-Wall', '-Wextra', '-Werror', '-o', self.path('night.so'),
-                        os.path.join(HERE, 'night.c'), '-ldl'], check=True)
+        for name in ('night', 'slow'):
+            subprocess.run(['gcc', '-shared', '-fPIC', '-O1', '-Wall', '-Wextra', '-Werror', '-o', self.path(name + '.so'),
+                            os.path.join(HERE, name + '.c'), '-ldl'], check=True)
         self.links = {one.number: Link(self, one.number) for one in FAULTS}
         with open(self.path('links'), 'w', encoding='ascii') as file:
             file.writelines('%s %s\n' % (link.sender.folder, link.receiver.folder) for link in self.links.values())
@@ -522,6 +537,8 @@ class Night:
         ends = [end for link in self.links.values() for end in (link.sender, link.receiver) if not end.has_ended()]
         for end in ends:
             end.goes_on()
+        for link in self.links.values():
+            link.disk_goes_on()
         return together({end.folder: end.stops() for end in ends}, STOPPING)
 
     def clock_problem(self):

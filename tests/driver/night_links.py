@@ -195,6 +195,11 @@ class Link:
     def refuses(self, count):
         yield lambda: len(os.listdir(self.path('s', 'refused'))) == count
 
+    def disk_goes_on(self):
+        """A driver that waits for its disk does not stop."""
+        if 'HANG_WHILE' in self.receiver.environment:
+            os.unlink(self.receiver.environment['HANG_WHILE'])
+
     def close(self):
         for end in (self.sender, self.receiver):
             end.kill()
@@ -362,10 +367,10 @@ def killed(link, end):
     link.spool()
 
 
-def other_machine(link, end, variable):
+def other_machine(link, end, variable, sending=()):
     """An end goes on with the preloaded machine, and now what the variable stands for is so there."""
     driver = getattr(link, end)
-    yield from link.runs()
+    yield from link.runs(sending)
     yield from driver.stops()
     driver.environment = {'LD_PRELOAD': link.night.path('night.so'), variable: link.path('fault')}
     yield from driver.starts()
@@ -374,10 +379,45 @@ def other_machine(link, end, variable):
         pass
 
 
-def full_disk(link, end):
-    yield from other_machine(link, end, 'FULL_WHILE')
+def full_disk_at_sender(link):
+    yield from other_machine(link, 'sender', 'FULL_WHILE')
     link.spool()
-    yield getattr(link, end).has_ended
+    yield link.sender.has_ended
+
+
+def full_disk_at_receiver(link, sending=QUICK):
+    yield from other_machine(link, 'receiver', 'FULL_WHILE', sending)
+    link.spool()
+    yield lambda: 'is not stored' in link.night.said(link.receiver.folder)
+
+
+def full_disk_for_a_while(link):
+    """There is room again before the sender gives up."""
+    yield from full_disk_at_receiver(link, ())
+    os.unlink(link.path('fault'))
+    yield lambda: link.state()['delivered'] == link.next_number() - 1
+    yield from link.delivers(2)
+
+
+def slow_disk(link):
+    """A sync of the receiver's disk takes a moment, and the results get through."""
+    yield from link.runs()
+    yield from link.receiver.stops()
+    link.receiver.environment = {'LD_PRELOAD': link.night.path('slow.so'), 'SYNC_MILLISECONDS': '100'}
+    yield from link.receiver.starts()
+    yield from link.delivers(2)
+
+
+def hanging_disk(link):
+    """It does not come back."""
+    yield from link.runs(QUICK)
+    yield from link.receiver.stops()
+    link.receiver.environment = {'LD_PRELOAD': link.night.path('slow.so'), 'HANG_WHILE': link.path('fault')}
+    yield from link.receiver.starts()
+    yield from link.delivers()
+    with open(link.path('fault'), 'wb') as file:
+        file.write(b'.hl7.new')
+    link.spool()
 
 
 def clock_ahead(link):

@@ -4,15 +4,18 @@ both ends are started from it. SIGKILL cannot show it: it keeps what was never s
 
 import collections
 import copy
+import errno
 import fcntl
 import itertools
 import os
 import random
+import re
 import shutil
 import signal
 import subprocess
 import time
 
+import histories
 from disks import FOLDER, LIGHT, Disk, Image
 from duties import text
 from ends import Books, End, Files, Violation, change_state, hold, read_words, state_of, state_text
@@ -26,6 +29,9 @@ PARTS = (('log', 'refused', 'spool'), ('transactions',))  # the folders of each 
 LIMIT = 15  # seconds for anything to go on
 SOON = 12  # acts after a start: those of the start itself, and a few more
 FAILED = 1  # the exit status of a driver that cannot go on
+# What a receiver does before the rename of its state: without room for that it goes on.
+BEFORE_COMMIT = re.compile('%s (?:(?:open|write|sync|unlink) (?:state|transactions/[0-9]+.hl7).new|'
+                           '(?:rename|unlink) transactions/[0-9]+.hl7)' % histories.FAILED)
 
 
 def killed_at(act, half=False, sync=False):
@@ -250,7 +256,8 @@ class PowerLoss:
         home = self.new_folder()
         folders = [os.path.join(home, name) for name in NAMES]
         for folder, (command, *more) in zip(folders, INITS):
-            hold(self.driver(command, folder, *more) == 0, '%s does not make an end', command)
+            if self.driver(command, folder, *more) != 0:
+                raise RuntimeError('%s does not make an end' % command)  # no fault is found by a driver that does nothing
         change_state(os.path.join(folders[1], 'state'), expected=2)
         books = Books(folders[0], folders[1], 1)
         books.spool(text(1))
@@ -347,6 +354,36 @@ class PowerLoss:
                 hold(len(syncs) < at, 'sync %d fails, and the %s goes on', at, NAMES[victim])
                 return at - 1
         return None
+
+    def after_failed_acts(self, error, acts=1):
+        """Each act of the receiver on files fails, with so many after it. A disk that is full before the commit point is
+        reported: nothing is answered, and it goes on, on the same circuit. After all else it ends. Returns how often it
+        went on, and how often it ended."""
+        found = collections.Counter()
+        for at in range(1, len(self.run(self.images).histories[1].acts()) + 1):
+            link = self.run_ended(1, [{'FAIL_AT': str(at), 'FAIL_ERROR': str(error), 'FAIL_ACTS': str(acts)}], FAILED)
+            moments = link.histories[1].moments
+            failures = [index for index, moment in enumerate(moments) if moment.after.startswith(histories.FAILED)]
+            if failures:
+                self.judge_failures(moments, failures, error, link.ended)
+                found[link.ended] += 1
+        return found[0], found[1]
+
+    @staticmethod
+    def judge_failures(moments, failures, error, ended):
+        words = ', '.join(moments[index].after for index in failures)
+        goes_on = (error in (errno.ENOSPC, errno.EDQUOT) and any(moment.heard for moment in moments[:failures[0]]) and
+                   all(BEFORE_COMMIT.fullmatch(moments[index].after) for index in failures))
+        hold(goes_on != bool(ended), 'after %s the receiver %s', words, 'ends' if ended else 'goes on')
+        for index in failures:
+            later = list(itertools.takewhile(lambda moment: moment.heard is None, moments[index:]))
+            hold(not any(moment.sent for moment in later), 'after %s it is answered', words)
+            visible = later[-1].images[0]
+            left = [path for path in visible.content if path.endswith('.new')] + visible.names('transactions')[
+                state_of(visible.read('state'), 'the state')[1]['stored']:]
+            hold(ended or len(failures) > 1 or not left, 'after %s there is left %s', words, left)
+        circuits = {moment.heard[0] for moment in moments if moment.heard}
+        hold(ended or len(circuits) == 1, 'after %s another circuit was needed', words)
 
     def in_chains(self, chains, steps):
         for _ in range(chains):

@@ -59,14 +59,35 @@ def receiver(expected, stored, cleared=(0, 0)):
     return checked('giamuvich receiver 2\n' + receiver_words(expected, stored, cleared))
 
 
-def receiver_live(expected, stored, counted, cleared=(0, 0)):
-    return 'giamuvich receiver live 2\n%s%send\n' % (receiver_words(expected, stored, cleared), counted)
+def decision(code=0, number=0, transaction=0, new_expected=0, control_id=''):
+    """The words of the open decision."""
+    places = control_id.encode().ljust(24, b'\0')
+    return 'code %d\nnumber %d\ntransaction %d\nnew_expected %d\ncontrol_id_length %d\n%s' % (
+        code, number, transaction, new_expected, len(control_id), ''.join('control_id_%d %d\n' % (
+            index + 1, int.from_bytes(places[8 * index:8 * index + 8], 'little')) for index in range(3)))
 
 
-def counts(circuits, blocks, refused, last_refused, is_open, rejected=0, since=(0, 0), wrong=0, cleared=0, **shown):
+NO_DECISION = decision()
+
+
+def on_transaction(number):
+    return decision(1, number, number, number + 1, str(number))
+
+
+ON_MINUS_ONE = decision(1, 0, 0, 0, '-1')
+
+
+def receiver_live(expected, stored, counted, cleared=(0, 0), decided=NO_DECISION):
+    return 'giamuvich receiver live 3\n%s%s%send\n' % (receiver_words(expected, stored, cleared), decided, counted)
+
+
+def counts(circuits, blocks, refused, last_refused, is_open, rejected=0, since=(0, 0), wrong=0, cleared=0,
+           unstored=(0, 0, 0, ''), **shown):
     return ('circuits %d\nblocks %d\nrefused %d\nlast_refused %d\nrejected %d\nrefused_since %d\nrejected_since %d\n'
-            'wrong_at AGO(%d)\ncleared_since %d\n' % (
-                (circuits, blocks, refused, last_refused, rejected) + since + (wrong, cleared)) + running(is_open, **shown))
+            'wrong_at AGO(%d)\ncleared_since %d\nunstored %d\nunstored_since %d\nunstored_at AGO(%d)\n'
+            'unstored_reason %s\n' % (
+                (circuits, blocks, refused, last_refused, rejected) + since + (wrong, cleared) + unstored) +
+            running(is_open, **shown))
 
 
 def not_delivered(submitted, spool=0, refused=0):
@@ -104,6 +125,10 @@ NO_DRIVER = 'sender: no driver runs on this folder, no circuit open'
 WAITS = 'sender: waiting for the answer to transaction 17, sent %s on this circuit'
 STOPPED = 'critical: no driver runs'
 ANY = 'receiver: expects any number (nothing stored since it was resynchronized), %d transactions stored'
+TWO_BLOCKS = '2 blocks read on 1 circuit since the driver started, 0 refused, 0 answered AR'
+NO_ROOM = 'No space left on device'
+UNSTORED = 'critical: %s not stored since the last that was: ' + NO_ROOM
+NOT_STORED, IN_STATE = ('deciding on %s: not stored yet', 'deciding on %s: in the state, not answered yet')
 IS_SENDER = ["critical: FOLDER/state has words that are no sender's state"]
 DAMAGED = ['critical: FOLDER/state is damaged']
 
@@ -129,6 +154,27 @@ def receiving_case(name, verdict, expected, stored, blocks, more, cleared=(0, 0)
             [verdict, 'receiver: expects %d, %d transactions stored' % (expected, stored)] +
             (['the last -1 took the expected number %d away, after %d transactions' % cleared] if cleared[0] else []) +
             ['a circuit is open', sentence] + more + shown(), 1 if verdict != 'good' else 0)
+
+
+def storing_case(name, verdict, stored, live_text, fact, turned=0):
+    """A receiver with something to store: what the state has, and what the driver shows of it."""
+    expected, count = stored
+    expects = 'receiver: expects %d, %d transactions stored' % stored if expected else ANY % count
+    return (name, receiver(expected, count), live_text, [verdict, expects, *fact, 'a circuit is open', TWO_BLOCKS] +
+            shown(seconds=turned), {'good': 0, 'warning': 1, 'critical': 2}[verdict.split(':')[0]])
+
+
+def deciding_case(name, verdict, stored, words, decided=None, turned=0):
+    """A driver that expects 5, has 4 stored, and decides on 5 or on -1."""
+    return storing_case(name, verdict, stored, receiver_live(
+        5, 4, counts(1, 2, 0, 0, 1, turned=turned), decided=decided or on_transaction(5)), words, turned)
+
+
+def full_case(name, verdict, since, ago, count=3):
+    return storing_case(name, verdict, (5, 4), receiver_live(
+        5, 4, counts(1, 2, 0, 0, 1, unstored=(count, since, ago, NO_ROOM))), [
+            '%d request%s not stored since the driver started, the last one %d s ago: %s' % (
+                count, '' if count == 1 else 's', ago, NO_ROOM)])
 
 
 # The case, FOLDER/state, FOLDER/live where a driver runs, what is said, the exit status; the files of FOLDER/refused.
@@ -237,6 +283,25 @@ CASES = [
       'the last -1 took the expected number 71 away, after 70 transactions', 'a circuit is open',
       '9 blocks read on 3 circuits since the driver started, 0 refused, 0 answered AR'] + shown(), 1),
     receiving_case('-1 before the driver started', 'good', 2, 71, (3, 9, 0, 0, 0), [], cleared=(71, 70)),
+    deciding_case('a decision on a transaction', 'good', (5, 4), [NOT_STORED % 'transaction 5']),
+    deciding_case('a slow disk', 'warning: transaction 5 waits for the disk for 2 s', (5, 4),
+                  [NOT_STORED % 'transaction 5'], turned=2),
+    deciding_case('a disk that hangs', 'critical: the driver has not turned for 37 s; transaction 5 waits for the disk for '
+                  '37 s', (5, 4), [NOT_STORED % 'transaction 5'], turned=37),
+    deciding_case('a decision that the state has', 'good', (6, 5), [IN_STATE % 'transaction 5'], turned=3),
+    deciding_case('a decision on -1', 'good', (5, 4), [NOT_STORED % '-1'], ON_MINUS_ONE),
+    deciding_case('a decision on -1 that the state has', 'good', (0, 4), [IN_STATE % '-1'], ON_MINUS_ONE),
+    ('a state that was read before the one that is shown', receiver(4, 3),
+     receiver_live(5, 4, counts(1, 2, 0, 0, 1), decided=on_transaction(5)),
+     ['good', 'receiver: expects 5, 4 transactions stored', NOT_STORED % 'transaction 5', 'a circuit is open', TWO_BLOCKS] +
+     shown(), 0),
+    full_case('a full disk', UNSTORED % '3 requests', 3, 0),
+    full_case('a disk that was just full', UNSTORED % '1 request', 1, 0, 1),
+    full_case('a disk that was full, and nothing came since', 'good', 3, 301),
+    full_case('a disk that has room again', 'good', 0, 1),
+    ('a decision that is none of the table', receiver(5, 4), receiver_live(5, 4, counts(1, 2, 0, 0, 1),
+                                                                           decided=decision(1, 5, 5, 7, '5')),
+     ["critical: FOLDER/live has words that are no receiver's state"], 2),
     ('no folder', None, None, ['unknown: FOLDER/state is missing'], 3),
     ('an empty state', '', None, DAMAGED, 2),
     ('an end that is missing', state(MIDDLE)[:-4], None, DAMAGED, 2),

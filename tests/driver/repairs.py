@@ -731,10 +731,10 @@ def shown_settings(bench):
     return None if end.finish() == 0 and spoken(end)[-1] == 'stopped' else 'ends badly'
 
 
-def running_pair(bench, *options):
-    """Both ends, with a circuit; the options are the sender's."""
+def running_pair(bench, *options, environment=None):
+    """Both ends, with a circuit; the options are the sender's, the environment is the receiver's."""
     folders = bench.sender(), bench.receiver()
-    receiving = bench.start('receive', 'r', ['--minimal-listen', '0'])
+    receiving = bench.start('receive', 'r', ['--minimal-listen', '0'], environment=environment)
     sending = bench.start('send', 's', ['--minimal-connect', '127.0.0.1:%d' % receiving.port], *options)
     if not wait_for(lambda: read_words(folders[0], 'state')['resynchronized'] == 1):
         raise RuntimeError('no circuit')
@@ -829,7 +829,8 @@ FAULTS = [
     fault('a folder that was moved', 'store.c', 'if (stat(path, &status) != 0 || status.st_dev != locked.st_dev ||', 'if (0 &&',
           moved_folders),
     fault('a transaction into a folder that was moved', 'receiving_end.c',
-          '    require_same_folder(end->folder);\n    if (after->stored', '    if (after->stored', moved_while_storing),
+          '    require_same_folder(end->folder);\n    show_now(end);\n    if (persist', '    show_now(end);\n    if (persist',
+          moved_while_storing),
     fault('a state into a folder that was moved', 'sending_end.c', '    require_same_folder(end->folder);\n    store_sender',
           '    store_sender', moved_while_storing),
     fault('a link in the spool is taken', 'spool.c', 'return lstat(path, &status) == 0', 'return stat(path, &status) == 0',
@@ -886,9 +887,8 @@ FAULTS = [
     fault('a receiver is made where transactions are', 'receiving_end.c', '    require_no_numbers(path);\n', '', lost_states),
     fault('a sender is made where a log is', 'sending_end.c', '            require_no_numbers(path);', '            ;',
           lost_states),
-    fault('a stored transaction is written over', 'receiving_end.c', 'if (end->stored_any && !is_missing(path))', 'if (0)', beyond),
-    fault('a stranger\'s -1 is not told', 'receiving_end.c', 'if (before == 0 || after->words[GMV_RECEIVER_EXPECTED] != 0)',
-          'if (1)', strangers),
+    fault('a stored transaction is written over', 'receiving_end.c', 'if (!end->leftover && !is_missing(path))', 'if (0)', beyond),
+    fault('a stranger\'s -1 is not told', 'receiving_end.c', '        note_cleared(end, before);\n', '        ;\n', strangers),
     fault('a start has no time of its own', 'store.c', 'if (futimens(file, NULL) != 0)', 'if (0)', slow_starts),
     fault('a frozen sender does not turn', 'sending_end.c', 'line_wait(&end->line, 0, now() + BEAT);',
           'line_wait(&end->line, 0, LLONG_MAX);', hanging),
@@ -898,7 +898,7 @@ FAULTS = [
 
 # The same of linkstatus, found by what it says while results go through.
 LATE_LISTING = Fault('the files are listed after the state is read', [
-    ('linkstatus/linkstatus.c', 'if (status->record.stored < stored)', 'if (0)'),
+    ('linkstatus/linkstatus.c', 'if (status->record.stored < state->stored || status->in_state)', 'if (0)'),
     ('linkstatus/linkstatus.c', '    judge_receiver(verdict, status);',
      '    greatest_number(path, &status->greatest);\n    judge_receiver(verdict, status);')], busy_books)
 
@@ -912,6 +912,12 @@ READ_OUT_FAULTS = [
     fault('a driver that hangs at its start is called starting', 'status.c', 'presence == DRIVER_STARTS && starting >= PASSING',
           '0', None),
     fault('a dead receiver is called good', 'status.c', 'add_reason(verdict, CRITICAL, R_NO_DRIVER);', ';', None),
+    fault('a full disk is called good', 'status.c', 'if (counts->unstored_since != 0 &&', 'if (0 &&', None),
+    fault('a slow disk is called good', 'status.c', '&& seconds_since(status->running.turned) >= SLOW)', '&& 0)', None),
+    fault('what the state has is called not stored', 'linkstatus/linkstatus.c',
+          'status->in_state = shown[GMV_RECEIVER_CODE] != 0 &&', 'status->in_state = 0 &&', None),
+    fault('what the state has not is called stored', 'linkstatus/linkstatus.c',
+          'state->words[GMV_RECEIVER_EXPECTED] == shown[GMV_RECEIVER_NEW_EXPECTED] &&', '1 ||', None),
     fault('an empty refused file is a warning', 'store.c', 'if (status.st_size == 0) {', 'if (0) {', None),
     fault('only the first result has an age', 'log.c', 'number <= last; number++', 'number <= first; number++', None),
     fault('the books believe the numbers', 'linkstatus/books.c', '        compare_messages(&books);\n', '', None),

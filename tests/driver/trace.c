@@ -6,12 +6,14 @@
  * TRACE_DESCRIPTOR: where to write down, opened for appending; both ends may have the same one.
  * TRACE_END: each line's first word. CRASH_AT: the act's number, from 1 on. CRASH_HALF: 1 if in its
  * middle; then only writes count. CRASH_SYNC: 1 if only syncs count. FAIL_SYNC_AT: the number of a sync
- * that fails, and does nothing.
+ * that fails, and does nothing. FAIL_AT: the number of an act on files that fails with the error FAIL_ERROR, and
+ * does nothing; FAIL_ACTS: so many one after the other.
  *
  * A line is: end, act, the file's number in its file system, path, and of a write the offset and the
  * bytes in hexadecimal, of a rename and a link the second path. Of what went out or came in on the
  * line it is: end, block or heard, the circuit, how many bytes. A line is written when its act is
- * done, and only of acts that changed something; `dies` is the act that the driver was killed before.
+ * done, and only of acts that changed something; `dies` is the act that the driver was killed before, `fails` one
+ * that failed.
  * The trace is locked from before an act to after its line: who has the lock sees no act half done. */
 #define _GNU_SOURCE
 #include <dlfcn.h>
@@ -113,16 +115,30 @@ static int is_light(const char *name)
     return last != NULL && strncmp(last, "/live", 5) == 0;
 }
 
-/* Before an act; end_act is to follow. Returns 1 where it is to be done by half, and the driver killed
- * then. */
-static int begin_act(const char *act, const char *what)
+enum doing { WHOLE, HALF, FAILS };
+
+static void end_act(void)
+{
+    lock_trace(F_UNLCK);
+}
+
+/* The acts are numbered from 1 on. */
+static int is_to_fail(int number)
+{
+    const int first = number_in("FAIL_AT"), count = number_in("FAIL_ACTS");
+
+    return first > 0 && number >= first && number < first + (count < 1 ? 1 : count);
+}
+
+/* Before an act; end_act is to follow, but where it fails. By half: the driver is killed then. */
+static enum doing begin_act(const char *act, const char *what)
 {
     static int acts;
     const int halves = number_in("CRASH_HALF") == 1, syncs = number_in("CRASH_SYNC") == 1;
     const int writes = strcmp(act, "write") == 0 || strcmp(act, "block") == 0;
 
     if (is_light(what))
-        return 0;
+        return WHOLE;
     lock_trace(F_WRLCK);
     if (halves ? writes : !syncs || strcmp(act, "sync") == 0)
         acts++;
@@ -130,12 +146,13 @@ static int begin_act(const char *act, const char *what)
         record("dies %s %s", act, what);
         raise(SIGKILL);
     }
-    return writes && acts == number_in("CRASH_AT");
-}
-
-static void end_act(void)
-{
-    lock_trace(F_UNLCK);
+    if (is_to_fail(acts) && strcmp(act, "block") != 0) {
+        record("fails %s %s", act, what);
+        end_act();
+        errno = number_in("FAIL_ERROR");
+        return FAILS;
+    }
+    return writes && acts == number_in("CRASH_AT") ? HALF : WHOLE;
 }
 
 static unsigned long number_of(const char *path)
@@ -166,8 +183,8 @@ int open(const char *path, int flags, ...)
     va_start(values, flags);
     mode = (flags & O_CREAT) ? va_arg(values, int) : 0;
     va_end(values);
-    if (changes)
-        begin_act("open", path);
+    if (changes && begin_act("open", path) == FAILS)
+        return -1;
     file = really_open(path, flags, mode);
     if (changes && file >= 0)
         record("%s %lu %s", is_new ? "create" : "truncate", number_of(path), path);
@@ -256,17 +273,19 @@ ssize_t write(int file, const void *bytes, size_t length)
     const int line = is_line(file);
     const char *const what = line ? "-" : is_known(file) ? names[file] : NULL;
     ssize_t count;
-    int half;
+    enum doing doing;
 
     if (what == NULL || is_light(what))
         return really_write(file, bytes, length);
-    half = begin_act(line ? "block" : "write", what);
-    count = really_write(file, bytes, half ? length / 2 : length);
+    doing = begin_act(line ? "block" : "write", what);
+    if (doing == FAILS)
+        return -1;
+    count = really_write(file, bytes, doing == HALF ? length / 2 : length);
     if (line)
         record_line("block", file, count);
     else if (count >= 0)
         record_write(file, bytes, (size_t)count);
-    if (half)
+    if (doing == HALF)
         raise(SIGKILL);
     end_act();
     return count;
@@ -296,7 +315,8 @@ static int sync_by(of_file *really, int file)
         errno = EIO;
         return -1;
     }
-    begin_act("sync", path);
+    if (begin_act("sync", path) == FAILS)
+        return -1;
     result = really(file);
     if (result == 0 && fstat(file, &status) == 0)
         record("sync %lu %s", (unsigned long)status.st_ino, path);
@@ -326,7 +346,8 @@ static int name_by(of_paths *really, const char *act, const char *from, const ch
     const unsigned long number = number_of(from);
     int result;
 
-    begin_act(act, to);
+    if (begin_act(act, to) == FAILS)
+        return -1;
     result = really(from, to);
     if (result == 0 && !is_light(to))
         record("%s %lu %s %s", act, number, from, to);
@@ -350,8 +371,8 @@ int unlink(const char *path)
     const unsigned long number = number_of(path);
     int result;
 
-    if (number != 0)
-        begin_act("unlink", path);
+    if (number != 0 && begin_act("unlink", path) == FAILS)
+        return -1;
     result = really_unlink(path);
     if (result == 0 && !is_light(path))
         record("unlink %lu %s", number, path);
@@ -363,7 +384,8 @@ int mkdir(const char *path, mode_t mode)
 {
     int result;
 
-    begin_act("mkdir", path);
+    if (begin_act("mkdir", path) == FAILS)
+        return -1;
     result = really_mkdir(path, mode);
     if (result == 0)
         record("mkdir %lu %s", number_of(path), path);

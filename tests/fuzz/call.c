@@ -74,10 +74,14 @@ static uint64_t invoke_receiver(call *c)
     switch (c->function) {
     case call_receiver_fresh:
         return gmv_receiver_fresh(STATE);
-    case call_hybrid_receive:
-        return gmv_hybrid_receive(SETTINGS, c->code, STATE, BLOCK, CONTENT, BUFFER, c->start, RESULT);
+    case call_receiver_decide:
+        return gmv_receiver_decide(c->code, c->block_type, CONTENT, STATE, RESULT);
+    case call_hybrid_answer:
+        return gmv_hybrid_answer(SETTINGS, c->code, STATE, BUFFER, c->start, RESULT);
+    case call_minimal_answer:
+        return gmv_minimal_answer(LIMIT, c->code, STATE, BUFFER, c->start, RESULT);
     default:
-        return gmv_minimal_receive(LIMIT, c->code, STATE, BLOCK, CONTENT, BUFFER, c->start, RESULT);
+        return gmv_hybrid_nak(SETTINGS, c->block_number, STATE, BUFFER, c->start, RESULT);
     }
 }
 
@@ -154,7 +158,7 @@ static enum family family_of(enum function function)
         return BLOCKS;
     if (function <= call_control_write)
         return MESSAGES;
-    if (function <= call_minimal_receive)
+    if (function <= call_hybrid_nak)
         return RECEIVER;
     if (function <= call_sender_block)
         return SENDER;
@@ -286,8 +290,9 @@ static void write_rows(FILE *file, const char *const *row_names, size_t rows,
 
 void write_counts(void)
 {
-    static const char *const kinds[] = {"read_block",   "field_delimiter", "received_block",
-                                        "sender_event", "sender_send",     "station_reply",
+    static const char *const kinds[] = {"read_block", "field_delimiter", "decided_block",
+                                        "decision", "reported", "nak_reply",
+                                        "sender_event", "sender_send", "station_reply",
                                         "station_duplicate", "station_enquired", "master_send",
                                         "master_end", "master_number", "master_resends", "master_rint"};
     const char *path = getenv("FUZZ_COUNTS");

@@ -37,13 +37,6 @@ static void break_write(call *c, uint64_t number)
         c->buffer.bytes[end] ^= 1;
 }
 
-/* A receiver that refuses the state writes its report all the same. */
-static void break_receive(call *c, uint64_t number)
-{
-    if (number == GMV_STATE)
-        set_word(&c->result, GMV_RECEIVED_BLOCK, 0);
-}
-
 /* A sender that gives up counts one send too many. */
 static void break_timer(call *c, uint64_t number)
 {
@@ -90,6 +83,7 @@ static uint64_t read_one_byte_more(const call *c)
 }
 
 #include "faults_master.h"
+#include "faults_receiver.h"
 #include "faults_station.h"
 
 static uint64_t word_of_state(const call *c, size_t index)
@@ -103,6 +97,8 @@ static uint64_t invoke_library(call *c)
 
     if (family_of(c->function) == MASTER)
         return invoke_master_library(c);
+    if (family_of(c->function) == RECEIVER)
+        return invoke_receiver_library(c);
     if (c->function == call_header_read && c->content.length > 4 && is_planted("overread"))
         return read_one_byte_more(c);
     if (c->function == call_station_block && is_planted("promise"))
@@ -112,8 +108,6 @@ static uint64_t invoke_library(call *c)
         break_read(c, phase, number);
     if (c->function == call_minimal_write && is_planted("write"))
         break_write(c, number);
-    if (c->function == call_hybrid_receive && is_planted("receive"))
-        break_receive(c, number);
     if (c->function == call_sender_timer && is_planted("timer"))
         break_timer(c, number);
     if (c->function == call_station_block && is_planted("station"))

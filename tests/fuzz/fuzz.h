@@ -53,8 +53,8 @@ memory take_buffer(input *in, size_t need, size_t *start);
 #define FUNCTIONS(X) \
     X(reader_fresh) X(hybrid_read) X(minimal_read) X(hybrid_check) X(minimal_check) \
     X(hybrid_write) X(minimal_write) X(header_read) X(answer_read) X(field_next) X(answer_write) \
-    X(control_write) X(receiver_fresh) X(hybrid_receive) X(minimal_receive) X(sender_fresh) \
-    X(sender_submit) X(sender_open) X(sender_ended) X(sender_reset) X(sender_timer) \
+    X(control_write) X(receiver_fresh) X(receiver_decide) X(hybrid_answer) X(minimal_answer) \
+    X(hybrid_nak) X(sender_fresh) X(sender_submit) X(sender_open) X(sender_ended) X(sender_reset) X(sender_timer) \
     X(sender_block) X(hybrid_control_block) X(minimal_control_block) X(station_fresh) \
     X(station_open) X(station_block) X(station_bad) X(station_enquiry) X(station_end) \
     X(station_bare_enq) X(station_interrupt) \
@@ -73,7 +73,7 @@ typedef struct {
     enum function function;
     settings link;
     uint64_t number;       /* a number, type, first, resends, position, or a message's length */
-    uint64_t code;         /* a code, an application's verdict, an ending, a reply, or a block size */
+    uint64_t code;         /* a code, an application's verdict, a report, an ending, a reply, or a block size */
     uint64_t block_number; /* with block_type: what a reader said of a block */
     uint64_t block_type;
     memory content; /* what is only read */
@@ -156,7 +156,10 @@ void write_counts(void);
 enum outcome {
     READ_BLOCK,
     FIELD_DELIMITER,
-    RECEIVED_BLOCK,
+    DECIDED_BLOCK,
+    DECISION,
+    REPORTED,
+    NAK_REPLY,
     SENDER_EVENT,
     SENDER_SEND,
     STATION_REPLY,

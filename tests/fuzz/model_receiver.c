@@ -3,18 +3,112 @@
 
 #include <string.h>
 
-static int is_block_number(uint64_t number) { return number == GMV_OK || (number >= 3 && number <= 8); }
+enum { LONGEST_ID = 20, ID_BYTES = 24 };
 
-static uint64_t refuse(const call *c, settings link)
+/* A row of the table: the answer's code and number (0: -1), the transaction or 0, and what is expected
+ * then (0: none). */
+typedef struct {
+    uint64_t code, number, transaction, expected;
+} row;
+
+static row find_row(uint64_t field, uint64_t n, uint64_t expected, uint64_t application)
 {
-    if (!settings_are_valid(link, LEAST_LINK_LIMIT) ||
-        (c->code != GMV_CODE_AA && c->code != GMV_CODE_AE) || !is_block_number(c->block_number))
-        return GMV_SETTING;
-    if (count_words(&c->state) < GMV_RECEIVER_WORDS || count_words(&c->result) < GMV_RECEIVED_WORDS ||
-        !buffer_holds(c, link.data_limit + overhead_of(link)))
-        return GMV_TOO_SHORT;
-    return get_word(&c->state, GMV_RECEIVER_EXPECTED) > GREATEST_EXPECTED ? GMV_STATE : GMV_OK;
+    const row stays = {GMV_CODE_AA, expected, 0, expected}, rejected = {GMV_CODE_AR, expected, 0, expected};
+    const row resynchronized = {GMV_CODE_AA, 0, 0, 0}, taken = {application, n, n, n + 1};
+
+    if (field != GMV_FIELD_NUMBER)
+        return rejected;
+    if (n == GMV_MINUS_ONE)
+        return resynchronized;
+    if (n == 0)
+        return stays;
+    return expected == 0 || expected == n ? taken : rejected;
 }
+
+/* ---- The words of a state ---- */
+
+static row open_row(const memory *state)
+{
+    row r = {get_word(state, GMV_RECEIVER_CODE), get_word(state, GMV_RECEIVER_NUMBER),
+             get_word(state, GMV_RECEIVER_TRANSACTION), get_word(state, GMV_RECEIVER_NEW_EXPECTED)};
+
+    return r;
+}
+
+static int same_row(const row *a, const row *b)
+{
+    return a->code == b->code && a->number == b->number && a->transaction == b->transaction &&
+           a->expected == b->expected;
+}
+
+/* Does the table give this row for the expected number, by some MSH-13 and some verdict? */
+static int table_gives(const row *open, uint64_t expected)
+{
+    const uint64_t numbers[] = {GMV_MINUS_ONE, 0, open->transaction};
+
+    for (size_t i = 0; i < 3; i++)
+        for (uint64_t application = GMV_CODE_AA; application <= GMV_CODE_AE; application++) {
+            row given = find_row(GMV_FIELD_NUMBER, numbers[i], expected, application);
+
+            if ((i < 2 || open->transaction <= GREATEST_SENT) && same_row(&given, open))
+                return 1;
+            given = find_row(GMV_FIELD_MISSING, 0, expected, application);
+            if (same_row(&given, open))
+                return 1;
+        }
+    return 0;
+}
+
+static void read_id(const memory *state, uint8_t *id)
+{
+    for (size_t i = 0; i < ID_BYTES; i++)
+        id[i] = (uint8_t)(get_word(state, GMV_RECEIVER_CONTROL_ID + i / 8) >> 8 * (i % 8));
+}
+
+static int answer_carries_id(const memory *state)
+{
+    uint64_t length = get_word(state, GMV_RECEIVER_CONTROL_ID_LENGTH);
+    uint8_t id[ID_BYTES];
+
+    if (length < 1 || length > LONGEST_ID)
+        return 0;
+    read_id(state, id);
+    for (size_t i = 0; i < length; i++)
+        if (!is_data_byte(id[i]) || id[i] == '|' || id[i] == '\r')
+            return 0;
+    return 1;
+}
+
+static int is_open(const memory *state) { return get_word(state, GMV_RECEIVER_CODE) != 0; }
+
+static int is_state(const memory *state)
+{
+    uint64_t expected = get_word(state, GMV_RECEIVER_EXPECTED);
+    row open = open_row(state);
+
+    if (expected > GREATEST_EXPECTED)
+        return 0;
+    return !is_open(state) || (table_gives(&open, expected) && answer_carries_id(state));
+}
+
+/* With no decision open. */
+static void close_state(memory *state, uint64_t expected)
+{
+    for (size_t i = 0; i < GMV_RECEIVER_WORDS; i++)
+        set_word(state, i, i == GMV_RECEIVER_EXPECTED ? expected : 0);
+}
+
+static void open_state(memory *state, const row *r, const uint8_t *id, size_t length)
+{
+    uint64_t words[] = {r->code, r->number, r->transaction, r->expected, length, 0, 0, 0};
+
+    for (size_t i = 0; i < length; i++)
+        words[5 + i / 8] |= (uint64_t)id[i] << 8 * (i % 8);
+    for (size_t i = 0; i < 8; i++)
+        set_word(state, GMV_RECEIVER_CODE + i, words[i]);
+}
+
+/* ---- The decision ---- */
 
 static int has_readable_id(const memory *data, header_fields *found)
 {
@@ -26,90 +120,108 @@ static int has_readable_id(const memory *data, header_fields *found)
     return 1;
 }
 
-static void write_report(call *c, uint64_t transaction, const memory *reply, uint64_t block_number)
+static void tell_decision(call *c, uint64_t block, int opened, const row *r, int changes)
 {
-    if (reply->length > 0)
-        write_into_buffer(c, reply);
-    set_word(&c->result, GMV_RECEIVED_TRANSACTION, transaction);
-    set_word(&c->result, GMV_RECEIVED_REPLY_LENGTH, reply->length);
-    set_word(&c->result, GMV_RECEIVED_BLOCK, block_number);
+    set_word(&c->result, GMV_DECISION_BLOCK, block);
+    set_word(&c->result, GMV_DECISION_OPENED, (uint64_t)opened);
+    set_word(&c->result, GMV_DECISION_TRANSACTION, r->transaction);
+    set_word(&c->result, GMV_DECISION_EXPECTED, r->expected);
+    set_word(&c->result, GMV_DECISION_CHANGES, (uint64_t)changes);
 }
 
-/* A refused block: an N block with its reason, and on a minimal link nothing. */
-static void answer_refused(call *c, settings link, uint64_t block_number)
+static uint64_t refuse_decision(const call *c)
 {
-    memory reply = new_memory(0);
-    uint8_t reason = 'G';
-
-    if (block_number == GMV_COUNT)
-        reason = 'C';
-    else if (block_number == GMV_CHECK)
-        reason = 'X';
-    else if (block_number == GMV_LONG)
-        reason = 'B';
-    if (!link.minimal)
-        append_block(&reply, link, 'N', &reason, 1);
-    write_report(c, 0, &reply, block_number);
-    end_memory(&reply);
+    if ((c->code != GMV_CODE_AA && c->code != GMV_CODE_AE) ||
+        (c->block_type != GMV_DATA_BLOCK && c->block_type != GMV_NAK_BLOCK))
+        return GMV_SETTING;
+    if (count_words(&c->state) < GMV_RECEIVER_WORDS || count_words(&c->result) < GMV_DECISION_WORDS)
+        return GMV_TOO_SHORT;
+    return is_state(&c->state) && !is_open(&c->state) ? GMV_OK : GMV_STATE;
 }
 
-/* The table. What is expected then is left in *expected; returns the transaction, or 0. */
-static uint64_t decide(const header_fields *found, uint64_t application, uint64_t *expected,
-                       uint64_t *code, uint64_t *number)
+static uint64_t model_decide(call *c)
 {
-    uint64_t n = found->sequence_number;
-
-    *number = *expected == 0 ? GMV_MINUS_ONE : *expected;
-    *code = GMV_CODE_AR;
-    if (found->sequence_field != GMV_FIELD_NUMBER)
-        return 0;
-    if (n == GMV_MINUS_ONE) {
-        *expected = 0;
-        *number = GMV_MINUS_ONE;
-    }
-    if (n == GMV_MINUS_ONE || n == 0) {
-        *code = GMV_CODE_AA;
-        return 0;
-    }
-    if (*expected != 0 && *expected != n)
-        return 0;
-    *code = application;
-    *number = n;
-    *expected = n + 1;
-    return n;
-}
-
-static void answer_message(call *c, settings link, const header_fields *found)
-{
-    memory answer = new_memory(0), reply = new_memory(0);
-    uint64_t expected = get_word(&c->state, GMV_RECEIVER_EXPECTED), code, number;
-    uint64_t transaction = decide(found, c->code, &expected, &code, &number);
-
-    append_answer(&answer, c->content.bytes + found->control_id.offset, found->control_id.length, code,
-                  number);
-    append_block(&reply, link, 'D', answer.bytes, answer.length);
-    set_word(&c->state, GMV_RECEIVER_EXPECTED, expected);
-    write_report(c, transaction, &reply, GMV_OK);
-    end_memory(&answer);
-    end_memory(&reply);
-}
-
-static uint64_t model_receive(call *c, settings link)
-{
+    uint64_t number = refuse_decision(c), expected;
     header_fields found;
-    memory nothing = {NULL, 0};
-    uint64_t number = refuse(c, link);
+    row r = {0, 0, 0, 0};
 
     if (number != GMV_OK)
         return number;
-    if (c->block_number != GMV_OK)
-        answer_refused(c, link, c->block_number);
-    else if (!link.minimal && c->block_type == GMV_NAK_BLOCK)
-        write_report(c, 0, &nothing, GMV_OK);
-    else if (!has_readable_id(&c->content, &found))
-        answer_refused(c, link, GMV_HEAD);
-    else
-        answer_message(c, link, &found);
+    expected = r.expected = get_word(&c->state, GMV_RECEIVER_EXPECTED);
+    if (c->block_type == GMV_NAK_BLOCK) {
+        tell_decision(c, GMV_OK, 0, &r, 0);
+    } else if (!has_readable_id(&c->content, &found)) {
+        tell_decision(c, GMV_HEAD, 0, &r, 0);
+    } else {
+        r = find_row(found.sequence_field, found.sequence_number, expected, c->code);
+        open_state(&c->state, &r, c->content.bytes + found.control_id.offset, found.control_id.length);
+        tell_decision(c, GMV_OK, 1, &r, r.expected != expected);
+    }
+    return GMV_OK;
+}
+
+/* ---- The report, and the N reply ---- */
+
+static uint64_t refuse_reply(const call *c, settings link, int code_is_valid, int needs_open)
+{
+    if (!settings_are_valid(link, LEAST_LINK_LIMIT) || !code_is_valid)
+        return GMV_SETTING;
+    if (count_words(&c->state) < GMV_RECEIVER_WORDS || count_words(&c->result) < GMV_REPORT_WORDS ||
+        !buffer_holds(c, link.data_limit + overhead_of(link)))
+        return GMV_TOO_SHORT;
+    return is_state(&c->state) && is_open(&c->state) == needs_open ? GMV_OK : GMV_STATE;
+}
+
+/* The reply goes into the buffer, and its length into the report. */
+static void write_reply(call *c, memory *reply)
+{
+    if (reply->length > 0)
+        write_into_buffer(c, reply);
+    set_word(&c->result, GMV_REPORT_BLOCK_LENGTH, reply->length);
+    set_word(&c->result, GMV_REPORT_FORBIDDEN_OFFSET, 0);
+    end_memory(reply);
+}
+
+static uint64_t model_answer(call *c, settings link)
+{
+    uint64_t number = refuse_reply(c, link, c->code == GMV_NOT_STORED || c->code == GMV_STORED, 1), expected;
+    memory answer = new_memory(0), reply = new_memory(0);
+    uint8_t id[ID_BYTES];
+    row open;
+
+    if (number != GMV_OK)
+        return number;
+    open = open_row(&c->state);
+    expected = get_word(&c->state, GMV_RECEIVER_EXPECTED);
+    if (c->code == GMV_STORED) {
+        read_id(&c->state, id);
+        append_answer(&answer, id, get_word(&c->state, GMV_RECEIVER_CONTROL_ID_LENGTH), open.code,
+                      open.number == 0 ? GMV_MINUS_ONE : open.number);
+        append_block(&reply, link, 'D', answer.bytes, answer.length);
+        expected = open.expected;
+    }
+    close_state(&c->state, expected);
+    write_reply(c, &reply);
+    end_memory(&answer);
+    return GMV_OK;
+}
+
+static uint64_t model_nak(call *c)
+{
+    uint64_t number = refuse_reply(c, c->link, c->block_number >= 3 && c->block_number <= 9, 0);
+    memory reply = new_memory(0);
+    uint8_t reason = 'G';
+
+    if (number != GMV_OK)
+        return number;
+    if (c->block_number == GMV_COUNT)
+        reason = 'C';
+    else if (c->block_number == GMV_CHECK)
+        reason = 'X';
+    else if (c->block_number == GMV_LONG)
+        reason = 'B';
+    append_block(&reply, c->link, 'N', &reason, 1);
+    write_reply(c, &reply);
     return GMV_OK;
 }
 
@@ -117,11 +229,20 @@ uint64_t model_receiver(call *c)
 {
     settings link = c->link;
 
-    link.minimal = c->function == call_minimal_receive;
-    if (c->function != call_receiver_fresh)
-        return model_receive(c, link);
+    link.minimal = c->function == call_minimal_answer;
+    switch (c->function) {
+    case call_receiver_decide:
+        return model_decide(c);
+    case call_hybrid_answer:
+    case call_minimal_answer:
+        return model_answer(c, link);
+    case call_hybrid_nak:
+        return model_nak(c);
+    default:
+        break;
+    }
     if (count_words(&c->state) < GMV_RECEIVER_WORDS)
         return GMV_TOO_SHORT;
-    set_word(&c->state, GMV_RECEIVER_EXPECTED, 0);
+    close_state(&c->state, 0);
     return GMV_OK;
 }

@@ -47,6 +47,16 @@ static uint64_t *no_number(void)
     return state;
 }
 
+/* A decision on the message is open. */
+static uint64_t *decided(void)
+{
+    uint64_t said[GMV_DECISION_WORDS];
+
+    gmv_receiver_decide(GMV_CODE_AA, GMV_DATA_BLOCK, message, sizeof message - 1, no_number(), GMV_RECEIVER_WORDS, said,
+                        GMV_DECISION_WORDS);
+    return state;
+}
+
 /* Tries the lengths from 0 on. */
 #define LEAST(name, call)                                                                              \
     do {                                                                                               \
@@ -92,15 +102,25 @@ static void messages(void)
 static void ends(void)
 {
     LEAST("receiver-state", gmv_receiver_fresh(state, n));
-    LEAST("receiver-report",
-          gmv_minimal_receive(D, GMV_CODE_AA, no_number(), GMV_RECEIVER_WORDS, GMV_OK, GMV_DATA_BLOCK, message,
-                              sizeof message - 1, buffer, CAPACITY, 0, words, n));
-    LEAST("hybrid-reply", gmv_hybrid_receive(SB, EB, D, GMV_CODE_AA, no_number(), GMV_RECEIVER_WORDS, GMV_OK,
-                                             GMV_DATA_BLOCK, message, sizeof message - 1, buffer, n, 0, words,
-                                             GMV_RECEIVED_WORDS));
-    LEAST("minimal-reply", gmv_minimal_receive(D, GMV_CODE_AA, no_number(), GMV_RECEIVER_WORDS, GMV_OK,
-                                               GMV_DATA_BLOCK, message, sizeof message - 1, buffer, n, 0, words,
-                                               GMV_RECEIVED_WORDS));
+    LEAST("decision-state", gmv_receiver_decide(GMV_CODE_AA, GMV_DATA_BLOCK, message, sizeof message - 1, no_number(), n,
+                                                words, GMV_DECISION_WORDS));
+    LEAST("decision-report", gmv_receiver_decide(GMV_CODE_AA, GMV_DATA_BLOCK, message, sizeof message - 1, no_number(),
+                                                 GMV_RECEIVER_WORDS, words, n));
+    LEAST("answer-state", gmv_minimal_answer(D, GMV_STORED, decided(), n, buffer, CAPACITY, 0, words, GMV_REPORT_WORDS));
+    LEAST("answer-report",
+          gmv_minimal_answer(D, GMV_STORED, decided(), GMV_RECEIVER_WORDS, buffer, CAPACITY, 0, words, n));
+    LEAST("nak-report", gmv_hybrid_nak(SB, EB, D, GMV_CHECK, no_number(), GMV_RECEIVER_WORDS, buffer, CAPACITY, 0, words,
+                                       n));
+    LEAST("hybrid-answer", gmv_hybrid_answer(SB, EB, D, GMV_STORED, decided(), GMV_RECEIVER_WORDS, buffer, n, 0, words,
+                                             GMV_REPORT_WORDS));
+    LEAST("hybrid-failure", gmv_hybrid_answer(SB, EB, D, GMV_NOT_STORED, decided(), GMV_RECEIVER_WORDS, buffer, n, 0,
+                                              words, GMV_REPORT_WORDS));
+    LEAST("minimal-answer",
+          gmv_minimal_answer(D, GMV_STORED, decided(), GMV_RECEIVER_WORDS, buffer, n, 0, words, GMV_REPORT_WORDS));
+    LEAST("minimal-failure",
+          gmv_minimal_answer(D, GMV_NOT_STORED, decided(), GMV_RECEIVER_WORDS, buffer, n, 0, words, GMV_REPORT_WORDS));
+    LEAST("hybrid-nak", gmv_hybrid_nak(SB, EB, D, GMV_CHECK, no_number(), GMV_RECEIVER_WORDS, buffer, n, 0, words,
+                                       GMV_REPORT_WORDS));
     LEAST("sender-state", gmv_sender_fresh(1, state, n));
     LEAST("sender-report", gmv_sender_open(fresh_sender(), GMV_SENDER_WORDS, words, n));
     LEAST("station-state", gmv_station_fresh(state, n));

@@ -1,25 +1,23 @@
 -- Where the two drivers change circuit at different moments, what they have is what a run leaves in which the receiver's acts on the old circuit come before the opening.
 use mathlib.Core.Path.{_≡_, refl, sym, ap, _∙_}
 use mathlib.Core.List.{List, [], _∷_, _++_}
-use mathlib.Core.Bool.{Bool, true, false, cond, _&&_}
+use mathlib.Core.Bool.{Bool, true, false, cond, not, _&&_}
 use Prim.Native.Nat.{ℕ}
 use lib.ListN.{length, take}
 use lib.Dec.{leb, eqb}
 use Rattle.lists.specs.Bytes.{same}
 use Rattle.lists.specs.Outcome.{Called}
 use Rattle.lists.proofs.Tests.{and-left, and-right}
-use Rattle.settings.specs.Settings.{linkOf}
-use Rattle.receiver.specs.ReceiverCalls.{receiveCall}
 use Rattle.sender_calls.specs.SenderCalls.{openCall}
 use Rattle.link.specs.Duties.{oneAt, othersAt}
-use Rattle.link.specs.Line.{Line, damages, disorders}
+use Rattle.link.specs.Line.{Line, emptyLine, damages, disorders}
 use Rattle.link.proofs.Facts.{not-both}
 use Rattle.call_theorems.specs.Reading.{Shown}
-use Rattle.call_theorems.specs.Driver.{Passed, madeFrom, Named, ReaderMemory, SenderEnd, ReceiverEnd, Drivers, drivers, enoughToRead, enoughToSend, enoughToReceive, readBytes, blockOfNamed, oldestSent, verdictTaken}
-use Rattle.call_theorems.specs.Driver.{openedBy, bySender, receivedBy, requestTaken, requestTried, replySent, afterDriver, drivenBy}
+use Rattle.call_theorems.specs.Driver.{Passed, Named, ReaderMemory, SenderEnd, ReceiverEnd, Drivers, drivers, enoughToRead, enoughToSend, enoughToReceive, readBytes, blockOfNamed, oldestSent, verdictTaken}
+use Rattle.call_theorems.specs.Driver.{openedBy, bySender, decidedBy, decisionOn, oldestDecided, oldestTried, isOpenWord, mayReport, answerOn, nakOn, replySent, afterDriver, drivenBy}
 use Rattle.call_theorems.specs.Driver.{DriverAct, opens, ends, resets, timer, submits, stores, restores, receiverStores, receiverRestores, replies, sends, forgets, reads, takes, drops}
-use Rattle.call_theorems.specs.Driver.{receiverReads, receiverDrops, receives, replaces, receiverReplaces, tries, crashes, receiverCrashes, damagesForward, damagesBack}
-use Rattle.call_theorems.specs.Apart.{ofSender, ofReceiver, allOf, withReceiver, goneOver, opensApart}
+use Rattle.call_theorems.specs.Driver.{receiverReads, receiverDrops, decides, answers, naks, replaces, receiverReplaces, tries, crashes, receiverCrashes, damagesForward, damagesBack}
+use Rattle.call_theorems.specs.Apart.{ofSender, ofReceiver, allOf, withReceiver, withSender, goneOver, goneFirst, opensApart}
 
 -- a test that does not look at what is replaced
 both : {A : Type 0} (f : A → A) (b : Bool) (x y : A) → cond b (f x) (f y) ≡ f (cond b x y)
@@ -62,9 +60,11 @@ module _ (k : Passed) where
     sender-keeps replies z = not-both (sym z)
     sender-keeps (receiverReads n) z = not-both (sym z)
     sender-keeps (receiverDrops n) z = not-both (sym z)
-    sender-keeps (receives a start) z = not-both (sym z)
-    sender-keeps (receiverReplaces p v b) z = not-both (sym z)
-    sender-keeps (tries a start) z = not-both (sym z)
+    sender-keeps (decides a) z = not-both (sym z)
+    sender-keeps (answers b start) z = not-both (sym z)
+    sender-keeps (naks n start) z = not-both (sym z)
+    sender-keeps (receiverReplaces d p v b) z = not-both (sym z)
+    sender-keeps (tries a) z = not-both (sym z)
     sender-keeps (receiverCrashes m) z = not-both (sym z)
 
   -- ---- the receiver's acts leave the sender's end
@@ -78,30 +78,29 @@ module _ (k : Passed) where
 
     replied-leaves : (bs : List (List ℕ)) → Leaves (replySent x bs)
     replied-leaves [] = refl
-    replied-leaves (b ∷ bs) = either (same (take 1 (x .receiver .memory .state)) (x .receiver .stored) && eqb (length (x .receiver .has)) (length (x .receiver .«stored_has»))) _ refl
+    replied-leaves (b ∷ bs) = refl
 
-    received-leaves : (start : ℕ) (d : List ℕ) (ws : List Shown) (c : Called) → Leaves (receivedBy x start d ws c)
-    received-leaves start d ws c = either (eqb (c .number) 0) _ refl
+    decided-leaves : (a : ℕ) (ws : List Shown) → Leaves (oldestDecided a x ws)
+    decided-leaves a [] = refl
+    decided-leaves a (w ∷ ws) =
+        let c = decisionOn a (x .receiver .memory) w in
+        either (eqb (w .number) 0) (decidedBy x (w .content) ws c) (either (eqb (c .number) 0) _ refl)
 
-    taken-leaves : (a start : ℕ) (ws : List Shown) → Leaves (requestTaken k a start x ws)
-    taken-leaves a start [] = refl
-    taken-leaves a start (w ∷ ws) =
-        let m = x .receiver .memory in
-        received-leaves start (w .content) ws (receiveCall (linkOf (madeFrom (k .numbers))) a (m .state) (w .number) (w .type) (w .content) (m .reply) start (m .report))
-
-    tried-leaves : (a start : ℕ) (ws : List Shown) → Leaves (requestTried k a start x ws)
-    tried-leaves a start [] = refl
-    tried-leaves a start (w ∷ ws) = refl
+    tried-leaves : (a : ℕ) (ws : List Shown) → Leaves (oldestTried a x ws)
+    tried-leaves a [] = refl
+    tried-leaves a (w ∷ ws) = refl
 
     receiver-leaves : (a : DriverAct) → ofReceiver a ≡ true → Leaves (afterDriver k a x)
-    receiver-leaves receiverStores z = refl
+    receiver-leaves receiverStores z = either (isOpenWord (x .receiver .memory .state) && not (x .receiver .reports)) _ refl
     receiver-leaves receiverRestores z = refl
     receiver-leaves replies z = replied-leaves (x .receiver .pending)
     receiver-leaves (receiverReads n) z = either (eqb (readBytes (k .numbers) n (x .receiver .memory .reader) (x .forward) .number) 0) _ refl
     receiver-leaves (receiverDrops n) z = refl
-    receiver-leaves (receives a start) z = taken-leaves a start (x .receiver .arrived)
-    receiver-leaves (receiverReplaces p v b) z = either (leb 3 (length p) && leb 8 (length v)) _ refl
-    receiver-leaves (tries a start) z = tried-leaves a start (x .receiver .arrived)
+    receiver-leaves (decides a) z = decided-leaves a (x .receiver .arrived)
+    receiver-leaves (answers b start) z = either (mayReport b (x .receiver .reports) && eqb (answerOn k b start (x .receiver .memory) .number) 0) _ refl
+    receiver-leaves (naks n start) z = either (eqb (nakOn k n start (x .receiver .memory) .number) 0) _ refl
+    receiver-leaves (receiverReplaces d p v b) z = either (leb 5 (length d) && (leb 2 (length p) && leb 8 (length v))) _ refl
+    receiver-leaves (tries a) z = tried-leaves a (x .receiver .arrived)
     receiver-leaves (receiverCrashes m) z = either (enoughToReceive (k .link .settings) m) _ refl
     receiver-leaves (damagesForward xs) z = either (damages (k .link .settings) (x .forward) xs) _ refl
     receiver-leaves (damagesBack xs) z = either (disorders (k .link .settings) (x .back) xs) _ refl
@@ -119,6 +118,68 @@ module _ (k : Passed) where
     receiver-leaves (drops n) z = not-both (sym z)
     receiver-leaves (replaces p v b w) z = not-both (sym z)
     receiver-leaves (crashes m) z = not-both (sym z)
+
+  -- ---- and do not look at it
+  module _ (e : SenderEnd) (x : Drivers) where
+    abbrev Same : DriverAct → Type 0
+    Same a = afterDriver k a (withSender e x) ≡ withSender e (afterDriver k a x)
+
+    replied-same : (bs : List (List ℕ)) → replySent (withSender e x) bs ≡ withSender e (replySent x bs)
+    replied-same [] = refl
+    replied-same (b ∷ bs) = refl
+
+    decided-same : (a : ℕ) (ws : List Shown) → oldestDecided a (withSender e x) ws ≡ withSender e (oldestDecided a x ws)
+    decided-same a [] = refl
+    decided-same a (w ∷ ws) =
+        let c = decisionOn a (x .receiver .memory) w in
+        ap (λ (z : Drivers). cond (eqb (w .number) 0) z (withSender e x)) (both (withSender e) (eqb (c .number) 0) _ _) ∙ both (withSender e) (eqb (w .number) 0) (decidedBy x (w .content) ws c) x
+
+    tried-same : (a : ℕ) (ws : List Shown) → oldestTried a (withSender e x) ws ≡ withSender e (oldestTried a x ws)
+    tried-same a [] = refl
+    tried-same a (w ∷ ws) = refl
+
+    receiver-same : (a : DriverAct) → ofReceiver a ≡ true → Same a
+    receiver-same receiverStores z = both (withSender e) (isOpenWord (x .receiver .memory .state) && not (x .receiver .reports)) _ _
+    receiver-same receiverRestores z = refl
+    receiver-same replies z = replied-same (x .receiver .pending)
+    receiver-same (receiverReads n) z = both (withSender e) (eqb (readBytes (k .numbers) n (x .receiver .memory .reader) (x .forward) .number) 0) _ _
+    receiver-same (receiverDrops n) z = refl
+    receiver-same (decides a) z = decided-same a (x .receiver .arrived)
+    receiver-same (answers b start) z = both (withSender e) (mayReport b (x .receiver .reports) && eqb (answerOn k b start (x .receiver .memory) .number) 0) _ _
+    receiver-same (naks n start) z = both (withSender e) (eqb (nakOn k n start (x .receiver .memory) .number) 0) _ _
+    receiver-same (receiverReplaces d p v b) z = both (withSender e) (leb 5 (length d) && (leb 2 (length p) && leb 8 (length v))) _ _
+    receiver-same (tries a) z = tried-same a (x .receiver .arrived)
+    receiver-same (receiverCrashes m) z = both (withSender e) (enoughToReceive (k .link .settings) m) _ _
+    receiver-same (damagesForward xs) z = both (withSender e) (damages (k .link .settings) (x .forward) xs) _ _
+    receiver-same (damagesBack xs) z = both (withSender e) (disorders (k .link .settings) (x .back) xs) _ _
+    receiver-same (opens r q) z = not-both (sym z)
+    receiver-same ends z = not-both (sym z)
+    receiver-same resets z = not-both (sym z)
+    receiver-same timer z = not-both (sym z)
+    receiver-same (submits limit d) z = not-both (sym z)
+    receiver-same stores z = not-both (sym z)
+    receiver-same restores z = not-both (sym z)
+    receiver-same (sends start) z = not-both (sym z)
+    receiver-same (forgets n) z = not-both (sym z)
+    receiver-same (reads n) z = not-both (sym z)
+    receiver-same (takes n) z = not-both (sym z)
+    receiver-same (drops n) z = not-both (sym z)
+    receiver-same (replaces p v b w) z = not-both (sym z)
+    receiver-same (crashes m) z = not-both (sym z)
+
+  receivers-same : (e : SenderEnd) (x : Drivers) (rs : List DriverAct) → allOf ofReceiver rs ≡ true → drivenBy k (withSender e x) rs ≡ withSender e (drivenBy k x rs)
+  unfolding drivenBy
+  receivers-same e x [] z = refl
+  receivers-same e x (a ∷ rs) z =
+      ap (afterDriver k a) (receivers-same e x rs (and-right (ofReceiver a) (allOf ofReceiver rs) z)) ∙ receiver-same e (drivenBy k x rs) a (and-left (ofReceiver a) (allOf ofReceiver rs) z)
+
+  -- the sender's acts leave the receiver's end
+  pub senders-leave : (x : Drivers) (ds : List DriverAct) → allOf ofSender ds ≡ true → drivenBy k x ds .receiver ≡ x .receiver
+  unfolding drivenBy
+  senders-leave x [] z = refl
+  senders-leave x (a ∷ ds) z =
+      let y = drivenBy k x ds in
+      ap (λ (d : Drivers). d .receiver) (sender-keeps (y .receiver) y a (and-left (ofSender a) (allOf ofSender ds) z)) ∙ senders-leave x ds (and-right (ofSender a) (allOf ofSender ds) z)
 
   receivers-leave : (x : Drivers) (rs : List DriverAct) → allOf ofReceiver rs ≡ true → drivenBy k x rs .sender ≡ x .sender
   unfolding drivenBy
@@ -146,6 +207,21 @@ module _ (k : Passed) where
     apart-is (a ∷ ds) rs z y =
         sym (sender-keeps (goneOver q (drivenBy k x rs .receiver)) (drivenBy k (afterDriver k (opens r q) x) ds) a (and-left (ofSender a) (allOf ofSender ds) z))
         ∙ ap (afterDriver k a) (apart-is ds rs (and-right (ofSender a) (allOf ofSender ds) z) y)
+
+    -- and where the receiver's was there first
+    abbrev openedSender : SenderEnd
+    openedSender = afterDriver k (opens r q) x .sender
+
+    gone-first : (w : Drivers) → x .receiver ≡ w .receiver → afterDriver k (opens r q) x ≡ withSender openedSender (goneFirst q w)
+    gone-first w e =
+        let is = opens-is x refl in
+        is
+        ∙ ap (λ (u : ReceiverEnd). drivers (opened (x .sender) (x .receiver) (x .forward) (x .back) .sender) (goneOver q u) emptyLine emptyLine) e
+        ∙ ap (λ (u : SenderEnd). drivers u (goneOver q (w .receiver)) emptyLine emptyLine) (sym (ap (λ (d : Drivers). d .sender) is))
+
+    pub later-is : (w : Drivers) → x .receiver ≡ w .receiver → (rs : List DriverAct) → allOf ofReceiver rs ≡ true
+        → withSender openedSender (drivenBy k (goneFirst q w) rs) ≡ drivenBy k (afterDriver k (opens r q) x) rs
+    later-is w e rs y = sym (receivers-same openedSender (goneFirst q w) rs y) ∙ ap (λ (z : Drivers). drivenBy k z rs) (sym (gone-first w e))
 
     -- where the receiver's went over before, the opening leaves the same
     pub first-is : (p : ReaderMemory) → afterDriver k (opens r q) (withReceiver (goneOver p (x .receiver)) x) ≡ afterDriver k (opens r q) x

@@ -10,7 +10,7 @@ use lib.ListN.{length, take, getD}
 use lib.Dec.{leb, eqb}
 use borrow.Author.Tests.{le-leb, leb-true, eq-eqb, eqb-true}
 use Rattle.lists.specs.Bytes.{same, over}
-use Rattle.lists.specs.Outcome.{Called}
+use Rattle.lists.specs.Outcome.{Called, called}
 use Rattle.lists.proofs.Tests.{and-left, and-right}
 use Rattle.settings.specs.Settings.{linkOf}
 use Rattle.settings.specs.declared.Settings.{Settings}
@@ -28,8 +28,9 @@ use Rattle.receiver.specs.Receiver.{replySpace, validExpected}
 use Rattle.receiver.specs.declared.Application.{Application}
 use Rattle.receiver.specs.declared.Expected.{Expected}
 use Rattle.receiver.specs.declared.Expected.the-variants.{Unknown, Next}
-use Rattle.receiver.specs.ReceiverCalls.{expectedWord, expectedFrom, applicationFrom, receiveCall}
-use Rattle.receiver.specs.declared.ApplicationMade.the-variants.{Known}
+use Rattle.receiver.specs.declared.Open.the-variants.{NoDecision}
+use Rattle.receiver_calls.specs.ReceiverCalls.{expectedWord, expectedFrom, applicationFrom, isType, decideCall}
+use Rattle.receiver_calls.specs.declared.ApplicationMade.the-variants.{Known}
 use Rattle.words.specs.Words.{verdictFrom}
 use Rattle.sender.specs.Sender.{validSender, isOpen, waitingMessage, waitsOf, freshSender, senderOf, openOf}
 use Rattle.sender.specs.declared.Waiting.{Waiting}
@@ -55,20 +56,20 @@ use Rattle.link.proofs.Reports.{reports, sends-at-once, named-waits, nothing-le
 use Rattle.link.proofs.Delivery.{answer-moves}
 use Rattle.link.proofs.Facts.{not-both}
 use Rattle.link.proofs.Runs.{run-join}
-use Rattle.call_theorems.specs.Driver.{Passed, madeFrom, Named, ReaderMemory, SenderMemory, ReceiverMemory, ReceiverEnd, Drivers, drivers, enoughToRead, enoughToSend, enoughToReceive, waitsWords, reportOf, DriverAct, verdictTaken, afterDriver, drivenBy, DriversLeft, driversStart}
+use Rattle.call_theorems.specs.Driver.{Passed, madeFrom, Named, ReaderMemory, SenderMemory, ReceiverMemory, ReceiverEnd, Drivers, drivers, enoughToRead, enoughToSend, enoughToReceive, waitsWords, reportOf, withTransaction, isOpenWord, answerOn, DriverAct, verdictTaken, afterDriver, drivenBy, DriversLeft, driversStart}
 use Rattle.call_theorems.specs.Driver.{opens, ends, resets, timer, submits, stores, restores, receiverStores, receiverRestores, replies, sends, forgets, reads, takes, drops, receiverReads, receiverDrops}
-use Rattle.call_theorems.specs.Driver.{receives, replaces, receiverReplaces, tries, crashes, receiverCrashes, damagesForward, damagesBack}
+use Rattle.call_theorems.specs.Driver.{decides, answers, naks, replaces, receiverReplaces, tries, crashes, receiverCrashes, damagesForward, damagesBack}
 use Rattle.call_theorems.specs.Verdicts.{readerGives}
 use Rattle.call_theorems.specs.Reading.{Shown, shown}
 use Rattle.call_theorems.specs.DriversRun.{actsOf, linkRun}
 use Rattle.call_theorems.specs.DriversPromise.{In, here, there, Agrees, allGiven, DriversSafe, deliveredWord, lastWord, frozenWord, waitsWord, SenderCall, opening, ending, resetting, timing, submitting, taking, calledBy, verdictBy, keepsCircuit, actBy, Offered, abandonedWord, sendWordsOf, applies, messageNamed, sendsShown, Reported}
-use Rattle.call_theorems.specs.Apart.{ofSender, ofReceiver, allOf, withReceiver, goneOver, opensApart}
-use Rattle.call_theorems.proofs.Apart.{apart-is, driven-join}
+use Rattle.call_theorems.specs.Apart.{ofSender, ofReceiver, allOf, withReceiver, goneOver, opensApart, opensLater}
+use Rattle.call_theorems.proofs.Apart.{later-is, senders-leave, apart-is, driven-join}
 use Rattle.call_theorems.proofs.Shows.{SameVerdict, Behind, Shows, waits-is, over-behind}
 use Rattle.call_theorems.proofs.Driving.{Goes, by-act, fresh-enough, opens-goes, ends-goes, resets-goes, timer-goes, submits-goes, stores-goes, restores-goes}
 use Rattle.call_theorems.proofs.Reporting.{Words, sends-shown, call-words, call-showed, call-number, word-closed, twice, waiting-is, call-taken, due-resends}
 use Rattle.call_theorems.proofs.SenderDriving.{each-one, named-goes-out, sends-goes, forgets-goes, reads-goes, takes-goes, drops-goes, replaces-goes, crashes-goes}
-use Rattle.call_theorems.proofs.ReceiverDriving.{receiver-reads-goes, block-taken, receives-goes, tries-goes, receiver-replaces-goes, receiver-drops-goes, receiver-stores-goes, receiver-restores-goes, receiver-crashes-goes, replies-goes}
+use Rattle.call_theorems.proofs.ReceiverDriving.{receiver-reads-goes, decides-goes, tries-goes, receiver-replaces-goes, receiver-drops-goes, receiver-stores-goes, receiver-restores-goes, answers-goes, naks-goes, receiver-crashes-goes, replies-goes, decide-done, decide-held, answer-done, stores-nothing}
 
 -- where one of a list stands
 record At {A : Type 0} (x : A) (xs : List A) : Type 0 where
@@ -111,10 +112,12 @@ module _ (k : Passed) (ag : Agrees k) (rd : Ready (k .link)) where
           sender = h .sender;
           receiver = record {
             state = h .receiver .state;
+            decision = h .receiver .decision;
             report = h .receiver .report;
-            has = h .receiver .has;
             stored = h .receiver .stored;
             stored-has = h .receiver .stored-has;
+            note = h .receiver .note;
+            reports = h .receiver .reports;
             pending = h .receiver .pending;
             arrived = h .receiver .arrived;
             reader = record { stands = h .receiver .reader .stands; within = h .receiver .reader .within };
@@ -182,27 +185,25 @@ module _ (k : Passed) (ag : Agrees k) (rd : Ready (k .link)) where
   act-goes (drops n) x y i h = drops-goes k ag rd x y i h n
   act-goes (receiverReads n) x y i h = receiver-reads-goes k ag rd x y i h n
   act-goes (receiverDrops n) x y i h = receiver-drops-goes k ag rd x y i h n
-  act-goes (receives a start) x y i h = receives-goes k ag rd x y i h a start
+  act-goes (decides a) x y i h = decides-goes k ag rd x y i h a
+  act-goes (answers b start) x y i h = answers-goes k ag rd x y i h b start
+  act-goes (naks n start) x y i h = naks-goes k ag rd x y i h n start
   act-goes (replaces p v b w) x y i h = replaces-goes k ag rd x y i h p v b w
-  act-goes (receiverReplaces p v b) x y i h = receiver-replaces-goes k ag rd x y i h p v b
-  act-goes (tries a start) x y i h = tries-goes k ag rd x y i h a start
+  act-goes (receiverReplaces d p v b) x y i h = receiver-replaces-goes k ag rd x y i h d p v b
+  act-goes (tries a) x y i h = tries-goes k ag rd x y i h a
   act-goes (crashes m) x y i h = crashes-goes k ag rd x y i h m
   act-goes (receiverCrashes m) x y i h = receiver-crashes-goes k ag rd x y i h m
   act-goes (damagesForward xs) x y i h = forward-goes x y h xs (damages g (x .forward) xs) refl
   act-goes (damagesBack xs) x y i h = back-goes x y h xs (disorders g (x .back) xs) refl
 
-  -- what is asked of a receiver's end is what it has and has stored
-  safe-with : (e : ReceiverEnd) (x : Drivers) → e .has ≡ x .receiver .has → e .«stored_has» ≡ x .receiver .«stored_has» → DriversSafe l x → DriversSafe l (withReceiver e x)
-  safe-with e x a b f =
+  -- what is asked of a receiver's end is what it has stored
+  safe-with : (e : ReceiverEnd) (x : Drivers) → e .«stored_has» ≡ x .receiver .«stored_has» → DriversSafe l x → DriversSafe l (withReceiver e x)
+  safe-with e x a f =
       record {
-        held = f .held;
-        stored = f .stored;
+        count = f .count;
         has = a ∙ f .has;
-        stored-has = b ∙ f .stored-has;
         covers = f .covers;
-        covers-stored = f .covers-stored;
         stored-covers = f .stored-covers;
-        stored-covers-stored = f .stored-covers-stored;
         submitted = f .submitted;
         unfrozen = f .unfrozen;
         stored-unfrozen = f .stored-unfrozen;
@@ -225,7 +226,7 @@ module _ (k : Passed) (ag : Agrees k) (rd : Ready (k .link)) where
 
     -- the same as the link has it
     abbrev remains : Remains
-    remains = record { forward = []; back = left .back; pending = left .pending; requests = []; answers = left .answers }
+    remains = record { forward = []; back = left .back; pending = left .pending; requests = []; answers = left .answers; decision = NoDecision; message = [] }
 
     only : OnlyAnswers remains
     only = record { forward = refl; requests = refl }
@@ -244,8 +245,11 @@ module _ (k : Passed) (ag : Agrees k) (rd : Ready (k .link)) where
     sender-rest : (leb 8 (length (m .report)) && enoughToRead g (m .reader)) ≡ true
     sender-rest = and-right (leb 7 (length (m .state))) (leb 8 (length (m .report)) && enoughToRead g (m .reader)) enough
 
-    receiver-rest : (leb 3 (length (n .report)) && enoughToRead g (n .reader)) ≡ true
-    receiver-rest = and-right (leb 1 (length (n .state))) (leb 3 (length (n .report)) && enoughToRead g (n .reader)) space
+    receiver-rest : (leb 5 (length (n .decision)) && (leb 2 (length (n .report)) && enoughToRead g (n .reader))) ≡ true
+    receiver-rest = and-right (leb 9 (length (n .state))) (leb 5 (length (n .decision)) && (leb 2 (length (n .report)) && enoughToRead g (n .reader))) space
+
+    receiver-more : (leb 2 (length (n .report)) && enoughToRead g (n .reader)) ≡ true
+    receiver-more = and-right (leb 5 (length (n .decision))) (leb 2 (length (n .report)) && enoughToRead g (n .reader)) receiver-rest
 
     fresh-words : freshCall (l .first) (m .state) .state ≡ over (m .state) (senderWords (freshSender (l .first)))
     unfolding freshCall senderOf
@@ -271,15 +275,18 @@ module _ (k : Passed) (ag : Agrees k) (rd : Ready (k .link)) where
             reader = record { stands = answers .stands; within = answers .within };
           };
           receiver = record {
-            state = subst (λ (v : ℕ). Behind (v ∷ []) (over (n .state) (w ∷ []))) (sym word-is)
-                (over-behind (w ∷ []) (n .state) (leb-true 1 (length (n .state)) (and-left (leb 1 (length (n .state))) (leb 3 (length (n .report)) && enoughToRead g (n .reader)) space)));
-            report = leb-true 3 (length (n .report)) (and-left (leb 3 (length (n .report))) (enoughToRead g (n .reader)) receiver-rest);
-            has = refl;
+            state = subst (λ (v : ℕ). Behind (v ∷ 0 ∷ 0 ∷ 0 ∷ 0 ∷ 0 ∷ 0 ∷ 0 ∷ 0 ∷ []) (over (n .state) (w ∷ 0 ∷ 0 ∷ 0 ∷ 0 ∷ 0 ∷ 0 ∷ 0 ∷ 0 ∷ []))) (sym word-is)
+                (over-behind (w ∷ 0 ∷ 0 ∷ 0 ∷ 0 ∷ 0 ∷ 0 ∷ 0 ∷ 0 ∷ []) (n .state)
+                (leb-true 9 (length (n .state)) (and-left (leb 9 (length (n .state))) (leb 5 (length (n .decision)) && (leb 2 (length (n .report)) && enoughToRead g (n .reader))) space)));
+            decision = leb-true 5 (length (n .decision)) (and-left (leb 5 (length (n .decision))) (leb 2 (length (n .report)) && enoughToRead g (n .reader)) receiver-rest);
+            report = leb-true 2 (length (n .report)) (and-left (leb 2 (length (n .report))) (enoughToRead g (n .reader)) receiver-more);
             stored = ap (λ (v : ℕ). v ∷ []) (sym word-is);
             stored-has = refl;
+            note = refl;
+            reports = refl;
             pending = refl;
             arrived = each-none;
-            reader = fresh-enough k ag rd (n .reader) (and-right (leb 3 (length (n .report))) (enoughToRead g (n .reader)) receiver-rest);
+            reader = fresh-enough k ag rd (n .reader) (and-right (leb 2 (length (n .report))) (enoughToRead g (n .reader)) receiver-more);
           };
           forward = refl;
           back = refl;
@@ -308,15 +315,11 @@ module _ (k : Passed) (ag : Agrees k) (rd : Ready (k .link)) where
         let kept = ap (λ (ws : List ℕ). getD ws 1 0) (h .sender .stored) in
         let last = ap (λ (ws : List ℕ). getD ws 2 0) (h .sender .stored) in
         record {
-          held = f .volatile;
-          stored = f .persisted;
-          has = h .receiver .has ∙ f .has;
-          stored-has = h .receiver .stored-has ∙ f .persisted-has;
-          covers = subst (λ (n : ℕ). Covers l n (f .volatile)) (sym held) (f .covers);
-          covers-stored = subst (λ (n : ℕ). Covers l n (f .persisted)) (sym held) (f .covers-persisted);
-          stored-covers = subst (λ (n : ℕ). Covers l n (f .volatile)) (sym kept) (f .persisted-covers);
-          stored-covers-stored = subst (λ (n : ℕ). Covers l n (f .persisted)) (sym kept) (f .persisted-covers-persisted);
-          submitted = subst (λ (n : ℕ). l .first + f .volatile ≤ n + 1) (sym last) (f .submitted);
+          count = f .count;
+          has = h .receiver .stored-has ∙ f .has;
+          covers = subst (λ (n : ℕ). Covers l n (f .count)) (sym held) (f .covers);
+          stored-covers = subst (λ (n : ℕ). Covers l n (f .count)) (sym kept) (f .persisted-covers);
+          submitted = subst (λ (n : ℕ). l .first + f .count ≤ n + 1) (sym last) (f .submitted);
           unfrozen = ap (λ (ws : List ℕ). getD ws 4 0) (h .sender .state .is) ∙ ap flagWord (f .unfrozen);
           stored-unfrozen = ap (λ (ws : List ℕ). getD ws 4 0) (h .sender .stored) ∙ ap flagWord (f .persisted-unfrozen);
         }
@@ -504,11 +507,24 @@ module _ (k : Passed) (ag : Agrees k) (rd : Ready (k .link)) where
       unfolding drivenBy
       calls-send = named-goes-out k ag rd (drivenBy k begun ds) (linkEnd ds) (standing ds) (calls-run ds)
 
-      -- and each block that was read is taken by gmv_*_receive
-      pub calls-receive : (application start : ℕ) (a : Application) → applicationFrom application ≡ Known a → start + replySpace g ≤ length (x .receiver .memory .reply)
-          → (v : Shown) (vs : List Shown) → x .receiver .arrived ≡ v ∷ vs
-          → receiveCall (linkOf (madeFrom (k .numbers))) application (x .receiver .memory .state) (v .number) (v .type) (v .content) (x .receiver .memory .reply) start (x .receiver .memory .report) .number ≡ 0
-      calls-receive = block-taken k ag rd (drivenBy k begun ds) (linkEnd ds) (standing ds) (calls-run ds)
+      -- an accepted block is decided on by gmv_receiver_decide while no decision is open, and refused by 11 while one is
+      pub calls-decide : (application t : ℕ) (a : Application) → applicationFrom application ≡ Known a → isType t ≡ true → (d : List ℕ) → isOpenWord (x .receiver .memory .state) ≡ false
+          → decideCall application t d (x .receiver .memory .state) (x .receiver .memory .decision) .number ≡ 0
+      calls-decide = decide-done k ag rd (drivenBy k begun ds) (linkEnd ds) (standing ds) (calls-run ds)
+
+      pub calls-held : (application t : ℕ) (a : Application) → applicationFrom application ≡ Known a → isType t ≡ true → (d : List ℕ) → isOpenWord (x .receiver .memory .state) ≡ true
+          → decideCall application t d (x .receiver .memory .state) (x .receiver .memory .decision) ≡ called 11 (x .receiver .memory .state) [] (x .receiver .memory .decision)
+      calls-held = decide-held k ag rd (drivenBy k begun ds) (linkEnd ds) (standing ds) (calls-run ds)
+
+      -- the open decision is reported by gmv_*_answer, where the buffer has the stated length
+      pub calls-answer : isOpenWord (x .receiver .memory .state) ≡ true → (success : Bool) (start : ℕ) → start + replySpace g ≤ length (x .receiver .memory .reply)
+          → answerOn k success start (x .receiver .memory) .number ≡ 0
+      calls-answer = answer-done k ag rd (drivenBy k begun ds) (linkEnd ds) (standing ds) (calls-run ds)
+
+      -- a driver that does not store a decision that changes nothing does as one that stores it
+      pub calls-unchanged : isOpenWord (x .receiver .memory .state) ≡ true → x .receiver .reports ≡ false → x .receiver .noted .changes ≡ 0
+          → (x .receiver .noted .expected ∷ [] ≡ x .receiver .stored) × (withTransaction (x .receiver .«stored_has») (x .receiver .noted) ≡ x .receiver .«stored_has»)
+      calls-unchanged = stores-nothing k ag rd (drivenBy k begun ds) (linkEnd ds) (standing ds) (calls-run ds)
 
       -- ---- the two drivers change circuit at different moments
       module _ (r q : ReaderMemory) (readable : (enoughToRead g r && enoughToRead g q) ≡ true) (closed : waitsWord st ≡ 0) (ss rs : List DriverAct) (own : allOf ofSender ss ≡ true)
@@ -523,11 +539,11 @@ module _ (k : Passed) (ag : Agrees k) (rd : Ready (k .link)) where
 
         -- and before it has
         pub calls-meanwhile : DriversSafe l (withReceiver (drivenBy k x rs .receiver) (drivenBy k (afterDriver k (opens r q) x) ss))
-        calls-meanwhile = safe-with (drivenBy k x rs .receiver) (opensApart k r q x ss rs) refl refl calls-apart
+        calls-meanwhile = safe-with (drivenBy k x rs .receiver) (opensApart k r q x ss rs) refl calls-apart
 
       -- and where the receiver's goes over first: before the sender's opens, and then
       pub calls-first : (p : ReaderMemory) → DriversSafe l (withReceiver (goneOver p (x .receiver)) x)
-      calls-first p = safe-with (goneOver p (x .receiver)) (drivenBy k begun ds) refl refl (calls-safe ds)
+      calls-first p = safe-with (goneOver p (x .receiver)) (drivenBy k begun ds) refl (calls-safe ds)
 
       -- "An intact answer to the waiting transaction, read before that, moves the mark.": the driver acts on an accepted data block whose MSA-2 is the number of the transaction that waits
       module _ (i : ℕ) (v : Shown) (vs : List Shown) (shows : oneAt i (x .sender .arrived) ≡ v ∷ vs) (accepted : v .number ≡ 0) (kind : v .type ≡ code "D") (waits : waitsWord st ≡ 4)
@@ -546,3 +562,25 @@ module _ (k : Passed) (ag : Agrees k) (rd : Ready (k .link)) where
 
         pub calls-move : deliveredWord (drivenBy k begun (takes i ∷ ds) .sender .memory .state) ≡ deliveredWord st + 1
         calls-move = moves (each-front (subst (λ (us : List Shown). Each (SameVerdict g) us (oneAt i (linkEnd ds .sending .arrived))) shows (each-one i (calls-run ds .sender .arrived))))
+
+    -- where the receiver's driver is on the new circuit first: what it then reports, and replies there, comes after the opening all the same
+    pub calls-later : (ds ss rs : List DriverAct) (r q : ReaderMemory) → (enoughToRead g r && enoughToRead g q) ≡ true → allOf ofSender ss ≡ true → allOf ofReceiver rs ≡ true
+        → waitsWord (drivenBy k (drivenBy k begun ds) ss .sender .memory .state) ≡ 0 → DriversSafe l (opensLater k r q (drivenBy k begun ds) ss rs)
+    unfolding drivenBy
+    calls-later ds ss rs r q readable own others none =
+        let x = drivenBy k begun ds in
+        let y = drivenBy k x ss in
+        let same = driven-join k begun ds ss in
+        let waits = subst (λ (z : Drivers). waitsWord (z .sender .memory .state) ≡ 0) same none in
+        let done : eqb (openCall (y .sender .memory .state) (y .sender .memory .report) .number) 0 ≡ true =
+        subst (λ (z : Drivers). eqb (openCall (z .sender .memory .state) (z .sender .memory .report) .number) 0 ≡ true) (sym same)
+        (eq-eqb (openCall (drivenBy k begun (ss ++ ds) .sender .memory .state) (drivenBy k begun (ss ++ ds) .sender .memory .report) .number) 0
+        (calls-taken (ss ++ ds) opening refl (eq-eqb (waitsWord (drivenBy k begun (ss ++ ds) .sender .memory .state)) 0 waits))) in
+        subst (DriversSafe l)
+        (sym (later-is k r q y readable done x (senders-leave k x ss own) rs others
+        ∙ ap (λ (z : Drivers). drivenBy k (afterDriver k (opens r q) z) rs) same
+        ∙ opened-join rs (ss ++ ds) r q))
+        (calls-safe (rs ++ opens r q ∷ (ss ++ ds)))
+      where
+        opened-join : (rs es : List DriverAct) (r q : ReaderMemory) → drivenBy k (afterDriver k (opens r q) (drivenBy k begun es)) rs ≡ drivenBy k begun (rs ++ opens r q ∷ es)
+        opened-join rs es r q = driven-join k begun (opens r q ∷ es) rs

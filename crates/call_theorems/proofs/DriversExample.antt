@@ -1,7 +1,7 @@
 -- The drivers do their work: a run by the C functions alone, computed, in which a transaction is delivered, of either kind of block.
 use mathlib.Core.Path.{_≡_, refl}
 use mathlib.Core.List.{List, [], _∷_, _++_}
-use mathlib.Core.Bool.{true}
+use mathlib.Core.Bool.{true, false}
 use Prim.Native.Nat.{ℕ}
 use native.Mathlib.Omega.{arith}
 use Prim.Native.Char.{code}
@@ -23,9 +23,10 @@ use Rattle.numbers.specs.declared.SequenceNumber.{SequenceNumber}
 use Rattle.numbers.specs.declared.SequenceNumber.the-variants.{MinusOne, Number}
 use Rattle.header.specs.declared.Code.the-variants.{AA}
 use Rattle.refusal.specs.declared.Verdict.the-variants.{Accepted}
-use Rattle.messages.specs.Messages.{answerMessage, controlMessage, validType, messageType}
+use Rattle.messages.specs.Messages.{answerMessage, controlMessage, validControlId, validType, messageType}
 use Rattle.control_block.specs.ControlBlock.{controlBlockOf}
-use Rattle.receiver.specs.Receiver.{validExpected, rowOf, decisionOf, receiveOf}
+use Rattle.control_id.specs.ControlId.{packed, unpacked, inWords, wordBytes, bytesIn}
+use Rattle.receiver.specs.Receiver.{validExpected, rowOf, isRow, carried, validReceiver, decideOf, answerOf}
 use Rattle.sender.specs.Sender.{validSender, senderOf, submitOf, openOf, endedOf, timerOf, blockReadOf, timerActOf, blockActOf}
 use Rattle.words.specs.Words.{writeFinished}
 use Rattle.block_calls.specs.ReaderWords.{readerWords, decoded, verdictWords, pendingWords}
@@ -33,7 +34,7 @@ use Rattle.block_calls.specs.ReadCalls.{freshReaderCall, readCall}
 use Rattle.block_calls.specs.WriteCalls.{writeCall}
 use Rattle.message_calls.specs.ControlCalls.{controlBlockCall}
 use Rattle.sender_calls.specs.SenderCalls.{senderIn, freshCall, openCall, endedCall, timerCall, blockCall, submitCall}
-use Rattle.receiver.specs.ReceiverCalls.{receiveCall}
+use Rattle.receiver_calls.specs.ReceiverCalls.{receiverIn, decideCall, answerCall}
 use Rattle.link.specs.Duties.{oneAt, othersAt}
 use Rattle.link.specs.Line.{acceptedOf, someOf, oneOf, eachOf}
 use Rattle.link.specs.Example.{exampleLog, exampleLink}
@@ -41,7 +42,7 @@ use Rattle.link.proofs.Exchange.{blank}
 use Rattle.link.proofs.ReceiverInvariant.{expects-next}
 use Rattle.link.proofs.Example.{ready}
 use Rattle.call_theorems.specs.Driver.{SettingNumbers, hybrid, minimal, Passed, ReaderMemory, readerMemory, SenderMemory, senderMemory, ReceiverMemory, receiverMemory, Drivers, readerPast, drivenBy, DriversLeft, driversStart}
-use Rattle.call_theorems.specs.Driver.{DriverAct, opens, ends, timer, submits, stores, receiverStores, receiverRestores, replies, sends, reads, takes, receiverReads, receives, tries, crashes, receiverCrashes, damagesForward, damagesBack, enoughToSend, enoughToReceive}
+use Rattle.call_theorems.specs.Driver.{DriverAct, opens, ends, timer, submits, stores, receiverStores, replies, sends, reads, takes, receiverReads, decides, answers, tries, crashes, receiverCrashes, damagesForward, damagesBack, enoughToSend, enoughToReceive}
 use Rattle.call_theorems.specs.DriversPromise.{Agrees, allGiven, DriversSafe, deliveredWord, frozenWord}
 use Rattle.call_theorems.proofs.Demand.{calls-safe}
 
@@ -59,12 +60,12 @@ senderSpace : SenderMemory
 senderSpace = senderMemory (blank 7) (blank 8) readerSpace (blank 143) (blank 2)
 
 receiverSpace : ReceiverMemory
-receiverSpace = receiverMemory (blank 1) (blank 3) readerSpace (blank 143)
+receiverSpace = receiverMemory (blank 9) (blank 5) (blank 2) readerSpace (blank 143)
 
--- the oldest message is stored, written and sent, read in two parts at the far end, offered, stored and answered, and the answer is read and taken
+-- the oldest message is stored, written and sent, read in two parts at the far end, decided on, stored, reported and answered, and the answer is read and taken
 exchanged : List DriverAct
 exchanged =
-    stores ∷ sends 0 ∷ receiverReads 20 ∷ receiverReads 64 ∷ receives 1 0 ∷ receiverStores ∷ replies ∷ reads 30 ∷ reads 64 ∷ takes 0 ∷ []
+    stores ∷ sends 0 ∷ receiverReads 20 ∷ receiverReads 64 ∷ decides 1 ∷ receiverStores ∷ answers true 0 ∷ replies ∷ reads 30 ∷ reads 64 ∷ takes 0 ∷ []
 
 reversed : List DriverAct → List DriverAct → List DriverAct
 reversed [] ds = ds
@@ -79,12 +80,12 @@ lostRun =
     reversed
     (submits 128 (exampleLog 1) ∷ stores ∷ newCircuit ∷ (exchanged ++ stores ∷ sends 0 ∷ damagesForward [] ∷ crashes senderSpace ∷ newCircuit ∷ (exchanged ++ (exchanged ++ stores ∷ [])))) []
 
--- 1 is sent twice, as the timer ran out, and both come in one part. The first could not be stored, and the receiver goes on from what is stored; the second is tried, stored and answered
+-- 1 is sent twice, as the timer ran out, and both come in one part. The second is refused while the first is decided on; the first could not be stored, and is reported so; the second is tried, stored and answered
 restoredRun : List DriverAct
 restoredRun =
     reversed
-    (submits 128 (exampleLog 1) ∷ stores ∷ newCircuit ∷ (exchanged ++ stores ∷ sends 0 ∷ timer ∷ sends 0 ∷ receiverReads 200 ∷ receiverReads 200 ∷ receives 1 0 ∷ receiverRestores ∷ tries 1 0 ∷ receives 2 0
-    ∷ receiverStores ∷ replies ∷ reads 200 ∷ takes 0 ∷ stores ∷ ends ∷ [])) []
+    (submits 128 (exampleLog 1) ∷ stores ∷ newCircuit ∷ (exchanged ++ stores ∷ sends 0 ∷ timer ∷ sends 0 ∷ receiverReads 200 ∷ receiverReads 200 ∷ decides 1 ∷ decides 1 ∷ answers false 0 ∷ tries 1 ∷ decides 2
+    ∷ receiverStores ∷ answers true 0 ∷ replies ∷ reads 200 ∷ takes 0 ∷ stores ∷ ends ∷ [])) []
 
 -- The beginning of the night of slot 7: an earlier tenant's answers to -1 and to 1 are on the line, one to 1 is still to be sent, and one to 1 was read.
 oldAnswer : Kind → SequenceNumber → List ℕ
@@ -104,7 +105,7 @@ noneLeft = record { back = []; pending = []; answers = [] }
 -- 1 and 2 are submitted. After the exchange for -1 the receiver stores 1, and its answer is lost. 1 is sent three times more, and each is lost; when the timer runs out again, it is given up
 abandonedRun : List DriverAct
 abandonedRun =
-    submits 128 (exampleLog 1) ∷ submits 128 (exampleLog 2) ∷ stores ∷ newCircuit ∷ (exchanged ++ stores ∷ sends 0 ∷ receiverReads 200 ∷ receives 1 0 ∷ receiverStores ∷ replies ∷ damagesBack []
+    submits 128 (exampleLog 1) ∷ submits 128 (exampleLog 2) ∷ stores ∷ newCircuit ∷ (exchanged ++ stores ∷ sends 0 ∷ receiverReads 200 ∷ decides 1 ∷ receiverStores ∷ answers true 0 ∷ replies ∷ damagesBack []
     ∷ timer ∷ sends 0 ∷ damagesForward [] ∷ timer ∷ sends 0 ∷ damagesForward [] ∷ timer ∷ sends 0 ∷ damagesForward [] ∷ timer ∷ [])
 
 -- the receiver crashes, and on the next circuit the answer to 0 says that 1 is there, and 2 gets through
@@ -148,11 +149,11 @@ pub record Delivered (k : Kind) : Type 0 where
   pub resumed : seenOf (resumed k) ≡ record { has = exampleLog 1 ∷ exampleLog 2 ∷ []; words = 3 ∷ 2 ∷ 0 ∷ 1 ∷ 0 ∷ 1 ∷ [] }
 
 delivered-hybrid : Delivered Hybrid
-unfolding seenOf numbersOf passed readerSpace senderSpace receiverSpace exchanged newCircuit reversed oldAnswer answersLeft noneLeft begun abandonedRun resumedRun delivered restored abandoned resumed lostRun restoredRun fiveDigits threeDigits countField checksumOf hybridBody hybridBlock minimalBlock blockOf typeMatches headerOk checksumMatches judgeParts dataOf judgeHybrid judgeMinimal judge contentOf same put over valid validLink endVerdict move run storedVerdict step fold readOf frameOf fieldStart fieldOf bytesOf begins readableHeader headerOf readableAnswer acknowledgmentOf codeField numberField decimal answerMessage controlMessage validType messageType controlBlockOf validExpected rowOf decisionOf receiveOf validSender senderOf submitOf openOf endedOf timerOf blockReadOf timerActOf blockActOf writeFinished readerWords decoded verdictWords pendingWords freshReaderCall readCall writeCall controlBlockCall senderIn freshCall openCall endedCall timerCall blockCall submitCall receiveCall oneAt othersAt acceptedOf someOf oneOf eachOf blank readerPast drivenBy
+unfolding seenOf numbersOf passed readerSpace senderSpace receiverSpace exchanged newCircuit reversed oldAnswer answersLeft noneLeft begun abandonedRun resumedRun delivered restored abandoned resumed lostRun restoredRun fiveDigits threeDigits countField checksumOf hybridBody hybridBlock minimalBlock blockOf typeMatches headerOk checksumMatches judgeParts dataOf judgeHybrid judgeMinimal judge contentOf same put over valid validLink endVerdict move run storedVerdict step fold readOf frameOf fieldStart fieldOf bytesOf begins readableHeader headerOf readableAnswer acknowledgmentOf codeField numberField decimal answerMessage controlMessage validType messageType controlBlockOf packed unpacked inWords wordBytes bytesIn validControlId validExpected rowOf isRow carried validReceiver decideOf answerOf validSender senderOf submitOf openOf endedOf timerOf blockReadOf timerActOf blockActOf writeFinished readerWords decoded verdictWords pendingWords freshReaderCall readCall writeCall controlBlockCall senderIn freshCall openCall endedCall timerCall blockCall submitCall receiverIn decideCall answerCall oneAt othersAt acceptedOf someOf oneOf eachOf blank readerPast drivenBy
 delivered-hybrid = record { lost = refl; restored = refl; abandoned = refl; resumed = refl }
 
 delivered-minimal : Delivered Minimal
-unfolding seenOf numbersOf passed readerSpace senderSpace receiverSpace exchanged newCircuit reversed oldAnswer answersLeft noneLeft begun abandonedRun resumedRun delivered restored abandoned resumed lostRun restoredRun fiveDigits threeDigits countField checksumOf hybridBody hybridBlock minimalBlock blockOf typeMatches headerOk checksumMatches judgeParts dataOf judgeHybrid judgeMinimal judge contentOf same put over valid validLink endVerdict move run storedVerdict step fold readOf frameOf fieldStart fieldOf bytesOf begins readableHeader headerOf readableAnswer acknowledgmentOf codeField numberField decimal answerMessage controlMessage validType messageType controlBlockOf validExpected rowOf decisionOf receiveOf validSender senderOf submitOf openOf endedOf timerOf blockReadOf timerActOf blockActOf writeFinished readerWords decoded verdictWords pendingWords freshReaderCall readCall writeCall controlBlockCall senderIn freshCall openCall endedCall timerCall blockCall submitCall receiveCall oneAt othersAt acceptedOf someOf oneOf eachOf blank readerPast drivenBy
+unfolding seenOf numbersOf passed readerSpace senderSpace receiverSpace exchanged newCircuit reversed oldAnswer answersLeft noneLeft begun abandonedRun resumedRun delivered restored abandoned resumed lostRun restoredRun fiveDigits threeDigits countField checksumOf hybridBody hybridBlock minimalBlock blockOf typeMatches headerOk checksumMatches judgeParts dataOf judgeHybrid judgeMinimal judge contentOf same put over valid validLink endVerdict move run storedVerdict step fold readOf frameOf fieldStart fieldOf bytesOf begins readableHeader headerOf readableAnswer acknowledgmentOf codeField numberField decimal answerMessage controlMessage validType messageType controlBlockOf packed unpacked inWords wordBytes bytesIn validControlId validExpected rowOf isRow carried validReceiver decideOf answerOf validSender senderOf submitOf openOf endedOf timerOf blockReadOf timerActOf blockActOf writeFinished readerWords decoded verdictWords pendingWords freshReaderCall readCall writeCall controlBlockCall senderIn freshCall openCall endedCall timerCall blockCall submitCall receiverIn decideCall answerCall oneAt othersAt acceptedOf someOf oneOf eachOf blank readerPast drivenBy
 delivered-minimal = record { lost = refl; restored = refl; abandoned = refl; resumed = refl }
 
 pub drivers-deliver : (k : Kind) → Delivered k

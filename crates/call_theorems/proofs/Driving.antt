@@ -144,10 +144,12 @@ module _ (k : Passed) (ag : Agrees k) (rd : Ready (k .link)) where
           };
           receiver = record {
             state = h .receiver .state;
+            decision = h .receiver .decision;
             report = h .receiver .report;
-            has = h .receiver .has;
             stored = h .receiver .stored;
             stored-has = h .receiver .stored-has;
+            note = h .receiver .note;
+            reports = h .receiver .reports;
             pending = refl;
             arrived = each-none;
             reader = read;

@@ -1,4 +1,4 @@
--- The receiver's driver reads, offers blocks, stores, replies and crashes: each is a run of the link.
+-- The receiver's driver reads, decides, stores, reports, replies and crashes: each is a run of the link.
 use mathlib.Core.Path.{_≡_, refl, sym, ap, _∙_, subst}
 use mathlib.Core.List.{List, [], _∷_, _++_, append-assoc, append-nil}
 use mathlib.Core.Bool.{Bool, true, false, cond, not, _&&_}
@@ -7,96 +7,157 @@ use native.Mathlib.Omega.{arith}
 use lib.ListN.{length, take, drop, getD, take-append-drop}
 use lib.Seq.{length-take-le}
 use lib.Dec.{leb, eqb}
-use borrow.Author.Tests.{le-leb, leb-true, eq-eqb}
-use Rattle.lists.specs.Bytes.{same, over}
+use borrow.Author.Tests.{le-leb, leb-true, ne-eqb, eqb-true}
+use Rattle.lists.specs.Bytes.{over}
 use Rattle.lists.specs.Outcome.{Outcome, Called, called}
 use Rattle.lists.proofs.Calls.{over-is}
 use Rattle.lists.proofs.Tests.{cond-ind, and-left, and-right}
-use Rattle.lists.proofs.Same.{same-is}
-use Rattle.settings.specs.Settings.{linkOf}
+use Rattle.settings.specs.Settings.{linkOf, validLink}
 use Rattle.settings.specs.declared.Settings.{Settings}
 use Rattle.settings.specs.declared.Made.{Made}
 use Rattle.settings.specs.declared.Made.the-variants.{Valid}
+use Rattle.refusal.specs.Refusal.{typeOf, lengthOf}
+use Rattle.refusal.specs.declared.Verdict.{Verdict}
+use Rattle.refusal.specs.declared.Verdict.the-variants.{Accepted}
+use Rattle.words.specs.Words.{reportWords}
+use Prim.Native.Char.{code}
+use Rattle.settings.specs.DataBytes.{allAllowed}
+use Rattle.fields.specs.Fields.{bytesOf}
+use Rattle.numbers.specs.declared.SequenceNumber.the-variants.{MinusOne, Number}
+use Rattle.numbers.specs.declared.NumberField.{NumberField}
+use Rattle.numbers.specs.declared.NumberField.the-variants.{Missing, NotNumber, Present}
+use Rattle.header.specs.Header.{headerOf}
+use Rattle.header.specs.declared.Header.{Header}
+use Rattle.header.specs.declared.Header.the-variants.{Unreadable, Readable}
+use Rattle.header.specs.declared.Code.{Code}
+use Rattle.header.specs.declared.Code.the-variants.{AA, AE, AR}
 use Rattle.stream.specs.Stream.{Judged, run}
-use Rattle.receiver.specs.Receiver.{replySpace, validExpected, receiveOf}
+use Rattle.receiver.specs.Receiver.{replySpace, validExpected, validReceiver, closed, isClosed, sameExpected, isRow, rowOf, headerDecided, undecided, isBlockNumber, refused, replied, reportedOf, nakReply, decideOf, answerOf, nakOf}
 use Rattle.receiver.specs.declared.Application.{Application}
 use Rattle.receiver.specs.declared.Expected.{Expected}
 use Rattle.receiver.specs.declared.Expected.the-variants.{Unknown, Next}
 use Rattle.receiver.specs.declared.Transaction.{Transaction}
 use Rattle.receiver.specs.declared.Transaction.the-variants.{NoTransaction, Numbered}
-use Rattle.receiver.specs.declared.Received.{Received}
-use Rattle.receiver.specs.ReceiverCalls.{expectedWord, expectedFrom, applicationFrom, transactionWord, receivedWords, finished, receiveWith, receiveCall}
-use Rattle.receiver.specs.declared.ApplicationMade.{ApplicationMade}
-use Rattle.receiver.specs.declared.ApplicationMade.the-variants.{Unknown as NoApplication, Known as AnApplication}
-use Rattle.receiver.proofs.ReadBack.{expected-back}
-use Rattle.words.specs.Words.{verdictFrom}
-use Rattle.words.specs.declared.VerdictMade.{VerdictMade}
+use Rattle.receiver.specs.declared.Row.{Row}
+use Rattle.receiver.specs.declared.Open.{Open}
+use Rattle.receiver.specs.declared.Open.the-variants.{NoDecision, Decision}
+use Rattle.receiver.specs.declared.Receiver.{Receiver}
+use Rattle.receiver.specs.declared.Decided.{Decided}
+use Rattle.receiver.specs.declared.Answered.{Answered}
+use Rattle.receiver.proofs.Rows.{expected-is, is-row, opened, open-transaction}
+use Rattle.receiver.proofs.Acts.{decide-same, decide-while-open, report-closes}
+use Rattle.receiver_calls.specs.ReceiverCalls.{expectedWord, codeWord, transactionWord, flag, receiverWords, receiverIn, applicationFrom, isType, outcomeFrom, toStore, decisionWords, decidedAs, decideWith, decideFor, decideCall}
+use Rattle.control_id.specs.ControlId.{inWords}
+use Rattle.control_id.specs.declared.ControlId.{ControlId}
+use Rattle.numbers.specs.Numbers.{textOf}
+use Rattle.receiver_calls.specs.ReceiverCalls.{answeredAs, answerWords, answerWith, answerCall, nakAs, nakWords, nakWith, nakCall}
+use Rattle.receiver_calls.specs.declared.ApplicationMade.{ApplicationMade}
+use Rattle.receiver_calls.specs.declared.ApplicationMade.the-variants.{Unknown as NoApplication, Known as AnApplication}
+use Rattle.receiver_calls.specs.declared.OutcomeMade.{OutcomeMade}
+use Rattle.receiver_calls.specs.declared.OutcomeMade.the-variants.{Known as AnOutcome}
+use Rattle.receiver_calls.specs.declared.Decoded.{Decoded}
+use Rattle.receiver_calls.specs.declared.Decoded.the-variants.{Known as AReceiver}
+use Rattle.receiver_calls.proofs.ReadBack.{words-read}
 use Rattle.link.specs.Duties.{every, oneAt, othersAt}
 use Rattle.link.specs.Line.{Reader, Line, line, emptyLine, readsByte, readerAfter}
-use Rattle.link.specs.System.{Link, System, SendingEnd, ReceivingEnd, runOf, receiverReads as linkReads, receiving, link, hasWith, repliesOf, receivedEnd, requestTaken as requestActed, sameExpected, sameStored, replyWritten, afterAct}
-use Rattle.link.specs.System.{receiverActs, receiverDiscards, receiverPersists, receiverWrites, receiverRestores, receiverCrashes as endCrashes}
+use Rattle.link.specs.System.{Link, System, SendingEnd, ReceivingEnd, runOf, receiverReads as linkReads, receiving, link, hasWith, storedBy, toPersist, repliesOf, decidedEnd, requestDecided, verdictDecided, requestTaken, nakTaken, isTrue}
+use Rattle.link.specs.System.{receiverPersisted, reportedEnd, decisionReported, replyWritten, afterAct, receiverDecides, receiverReports, receiverNaks, receiverDiscards, receiverPersists, receiverWrites, receiverRestores as linkRestores, receiverCrashes as endCrashes}
 use Rattle.link.specs.Promise.{Ready}
 use Rattle.link.proofs.Facts.{not-both}
-use Rattle.link.proofs.Queues.{Each, each-none, Front, front, each-front}
-use Rattle.link.proofs.ReceiverInvariant.{some, receive-some, receive-taken}
+use Rattle.link.proofs.Queues.{Each, each-none, Front, front, each-front, Answer}
+use Rattle.link.proofs.Receiving.{answer-short, answer-is as reported-is}
+use Rattle.link.proofs.Invariant.{Reach, Opening, none-open, to-store, to-report}
 use Rattle.link.proofs.Early.{Standing}
-use Rattle.call_theorems.specs.Verdicts.{passedOn}
 use Rattle.call_theorems.specs.Reading.{Shown, usedBytes, newVerdict}
-use Rattle.call_theorems.specs.Driver.{Passed, madeFrom, ReceiverMemory, Drivers, drivers, receiverEnd, receiverMemory, withVerdict, enoughToRead, enoughToReceive, freshReader, afterReading, readerPast, linePast}
-use Rattle.call_theorems.specs.Driver.{readBytes, withTransaction, replyBy, receivedBy, requestTaken, triedBy, requestTried, replySent, afterDriver, receiverReads, receives, receiverReplaces, tries, receiverDrops, receiverStores, replies}
-use Rattle.call_theorems.specs.Driver.{receiverRestores as restoresReceiver, receiverCrashes}
-use Rattle.call_theorems.specs.DriversRun.{repeated, once, allStored, offers, actsOf}
+use Rattle.call_theorems.specs.Driver.{Passed, madeFrom, ReceiverMemory, Noted, noted, nothingNoted, Drivers, drivers, receiverEnd, receiverMemory, withVerdict, enoughToRead, enoughToReceive, freshReader, afterReading, readerPast, linePast}
+use Rattle.call_theorems.specs.Driver.{readBytes, withTransaction, replyBy, notedBy, decidedBy, decisionOn, oldestDecided, triedBy, oldestTried, isOpenWord, mayReport, answeredBy, answerOn, nakkedBy, nakOn, replySent, restoredReceiver, afterDriver}
+use Rattle.call_theorems.specs.Driver.{receiverReads, decides, answers, naks, receiverReplaces, tries, receiverDrops, receiverStores, receiverRestores, replies, receiverCrashes}
+use Rattle.call_theorems.specs.DriversRun.{repeated, once, decidesOn, actsOf}
 use Rattle.call_theorems.specs.DriversPromise.{Agrees}
-use Rattle.call_theorems.proofs.Verdicts.{made-again, receives-the-same}
+use Rattle.call_theorems.proofs.Verdicts.{accepted-number}
 use Rattle.call_theorems.proofs.OneCall.{over-length}
-use Rattle.call_theorems.proofs.Shows.{SameVerdict, Behind, Shows, other-verdict, over-behind, behind-length}
+use Rattle.call_theorems.proofs.Shows.{SameVerdict, Behind, SameNote, Shows, other-verdict, over-behind, behind-length}
 use Rattle.call_theorems.proofs.Taking.{Took, brought, read-took}
 use Rattle.call_theorems.proofs.Driving.{Goes, stays, by-act, settings-valid, link-made, fresh-enough}
 use Rattle.call_theorems.proofs.SenderDriving.{each-others, each-both, repeated-run}
 
--- ---- the report's words
-three : (o : Received) (p : List ℕ) → 3 ≤ length p → over p (receivedWords o) ≡ receivedWords o ++ drop 3 p
-three o p h = over-is p (receivedWords o) h
-
 -- the transaction is there where its word is not 0
-transaction-is : (t : Transaction) → some t ≡ true → (d : List ℕ) (ts : List (List ℕ)) → cond (eqb (transactionWord t) 0) ts (ts ++ d ∷ []) ≡ hasWith t d ts
+transaction-is : (t : Transaction) → ((n : ℕ) → t ≡ Numbered n → 1 ≤ n) → (d : List ℕ) (ts : List (List ℕ)) → cond (eqb (transactionWord t) 0) ts (ts ++ d ∷ []) ≡ hasWith t d ts
 transaction-is NoTransaction s d ts = refl
-transaction-is (Numbered n) s d ts = go (eqb n 0) s
+transaction-is (Numbered n) s d ts = let l = s n refl in rw (ne-eqb n 0 (λ (e : n ≡ 0). omega arith))
+
+code-some : (c : Code) → eqb (codeWord c) 0 ≡ false
+code-some AA = refl
+code-some AE = refl
+code-some AR = refl
+
+-- a decision is open where the state's word for its code is not 0
+open-is : (s : Receiver) (rest : List ℕ) → isOpenWord (receiverWords s ++ rest) ≡ not (isClosed (s .decision))
+open-is s rest = go (s .decision)
   where
-    go : (b : Bool) → not b ≡ true → cond b ts (ts ++ d ∷ []) ≡ ts ++ d ∷ []
-    go true e = not-both (sym e)
-    go false e = refl
+    go : (o : Open) → isOpenWord (receiverWords (record { expected = s .expected; decision = o }) ++ rest) ≡ not (isClosed o)
+    go NoDecision = refl
+    go (Decision id r) = ap not (code-some (r .code))
 
--- a word and the number that it stands for
-same-word : (e d : Expected) → validExpected e ≡ true → validExpected d ≡ true → expectedWord e ≡ expectedWord d → e ≡ d
-same-word e d v w q = sym (expected-back e v) ∙ ap expectedFrom q ∙ expected-back d w
+nine : (s : Receiver) → 9 ≡ length (receiverWords s)
+nine s = go (s .decision)
+  where
+    go : (o : Open) → 9 ≡ length (receiverWords (record { expected = s .expected; decision = o }))
+    go NoDecision = refl
+    go (Decision id r) = refl
 
-expected-self : (e : Expected) → sameExpected e e ≡ true
-expected-self Unknown = refl
-expected-self (Next n) = eq-eqb n n refl
+and-none : (u : Bool) → (u && false) ≡ false
+and-none true = refl
+and-none false = refl
 
--- with no verdict the link's act changes nothing
-nothing-offered : (l : Link) (y : System) (a : Application) (start : ℕ) (b : List ℕ) → y .receiving .arrived ≡ [] → afterAct every l (receiverActs 0 a start b) y ≡ y
-unfolding oneAt othersAt
-nothing-offered l y a start b e = ap (λ (us : List Judged). requestActed every l a start b y (oneAt 0 us) (othersAt 0 us)) e
+and-all : (u : Bool) → (u && true) ≡ u
+and-all true = refl
+and-all false = refl
+
+outcome-made : (b : Bool) → outcomeFrom (flag b) ≡ AnOutcome b
+outcome-made true = refl
+outcome-made false = refl
+
+-- a decision where none is open is not refused, and where one is it is 11
+header-taken : (a : Application) (s : Receiver) (d : List ℕ) (h : Header) → headerDecided a s d h .refusal ≡ 0
+header-taken a s d Unreadable = refl
+header-taken a s d (Readable id seq) = cond-ind (λ (x : Decided). x .refusal ≡ 0) (allAllowed (bytesOf id d)) _ _ (λ e. refl) (λ e. refl)
+
+decide-taken : (a : Application) (s : Receiver) (t : ℕ) (d : List ℕ) → validReceiver s ≡ true → isClosed (s .decision) ≡ true → decideOf a s t d .refusal ≡ 0
+unfolding decideOf
+decide-taken a s t d v c =
+    rw (v, c) (cond-ind (λ (x : Decided). x .refusal ≡ 0) (eqb t (code "N")) _ _ (λ e. refl) (λ e. header-taken a s d (headerOf d)))
+
+-- a row that changes nothing has no transaction
+unchanged-row : (a : Application) (e : Expected) (f : NumberField) → rowOf a e f .persisted .expected ≡ e → rowOf a e f .persisted .transaction ≡ NoTransaction
+unfolding rowOf
+unchanged-row a e Missing = λ z. refl
+unchanged-row a e NotNumber = λ z. refl
+unchanged-row a e (Present MinusOne) = λ z. refl
+unchanged-row a Unknown (Present (Number n)) =
+    cond-ind (λ (r : Row). r .persisted .expected ≡ Unknown → r .persisted .transaction ≡ NoTransaction) (eqb n 0) _ _ (λ z u. refl) (λ z (u : Next (n + 1) ≡ Unknown). not-both cc)
+unchanged-row a (Next e) (Present (Number n)) =
+    cond-ind (λ (r : Row). r .persisted .expected ≡ Next e → r .persisted .transaction ≡ NoTransaction) (eqb n 0) _ _ (λ z u. refl)
+    (λ z. cond-ind (λ (r : Row). r .persisted .expected ≡ Next e → r .persisted .transaction ≡ NoTransaction) (eqb n e) _ _
+    (λ y (u : Next (n + 1) ≡ Next e). let m = eqb-true n e y in let k : n + 1 ≡ e = cc in absurd (omega arith)) (λ y u. refl))
+
+-- a report's words: the reply's length is the first of them
+report-word : (p : List ℕ) (n : ℕ) → 2 ≤ length p → getD (over p (reportWords n 0)) 0 0 ≡ n
+report-word p n h = ap (λ (ws : List ℕ). getD ws 0 0) (over-is p (reportWords n 0) h)
 
 -- the receiver reads the first bytes on its line, one by one
 requests-repeated : (l : Link) (xs ys : List ℕ) (r : Reader) (s : SendingEnd) (e : ReceivingEnd) (b : Line)
     → runOf every l (link s e (line r (xs ++ ys)) b) (repeated (length xs) linkReads)
-    ≡ link s (receiving (e .volatile) (e .persisted) (e .pending) (e .arrived ++ run (l .settings) (r .offset) (r .mode) xs)) (line (readerPast (l .settings) r xs) ys) b
+    ≡ link s (receiving (e .receiver) (e .persisted) (e .message) (e .reports) (e .pending) (e .arrived ++ run (l .settings) (r .offset) (r .mode) xs)) (line (readerPast (l .settings) r xs) ys) b
 unfolding run readerPast repeated runOf
-requests-repeated l [] ys r s e b = ap (λ (ws : List Judged). link s (receiving (e .volatile) (e .persisted) (e .pending) ws) (line r ys) b) (sym (append-nil (e .arrived)))
+requests-repeated l [] ys r s e b = ap (λ (ws : List Judged). link s (receiving (e .receiver) (e .persisted) (e .message) (e .reports) (e .pending) ws) (line r ys) b) (sym (append-nil (e .arrived)))
 requests-repeated l (x ∷ xs) ys r s e b =
     let us = readsByte (l .settings) r x .says in
     let q = readerAfter (l .settings) r x in
     repeated-run l (length xs) linkReads (link s e (line r (x ∷ xs ++ ys)) b)
-    ∙ requests-repeated l xs ys q s (receiving (e .volatile) (e .persisted) (e .pending) (e .arrived ++ us)) b
-    ∙ ap (λ (ws : List Judged). link s (receiving (e .volatile) (e .persisted) (e .pending) ws) (line (readerPast (l .settings) q xs) ys) b)
+    ∙ requests-repeated l xs ys q s (receiving (e .receiver) (e .persisted) (e .message) (e .reports) (e .pending) (e .arrived ++ us)) b
+    ∙ ap (λ (ws : List Judged). link s (receiving (e .receiver) (e .persisted) (e .message) (e .reports) (e .pending) ws) (line (readerPast (l .settings) q xs) ys) b)
     (append-assoc (e .arrived) us (run (l .settings) (q .offset) (q .mode) xs))
-
--- a call that is refused changes nothing
-nothing-changed : (x : Drivers) (start : ℕ) (d : List ℕ) (ws : List Shown) (c : Called) → eqb (c .number) 0 ≡ false → receivedBy x start d ws c ≡ x
-nothing-changed x start d ws c e = rw e
 
 module _ (k : Passed) (ag : Agrees k) (rd : Ready (k .link)) (x : Drivers) (y : System) (i : Standing (k .link) y) (h : Shows (k .link) x y) where
   abbrev l : Link
@@ -105,12 +166,33 @@ module _ (k : Passed) (ag : Agrees k) (rd : Ready (k .link)) (x : Drivers) (y : 
   abbrev g : Settings
   g = k .link .settings
 
+  abbrev s : Receiver
+  s = y .receiving .receiver
+
+  abbrev st : List ℕ
+  st = x .receiver .memory .state
+
+  abbrev p : List ℕ
+  p = x .receiver .memory .report
+
+  abbrev q : List ℕ
+  q = x .receiver .memory .decision
+
+  abbrev b : List ℕ
+  b = x .receiver .memory .reply
+
+  state-long : 9 ≤ length st
+  state-long = let n = nine s in let m = behind-length (h .receiver .state) in omega arith
+
+  state-read : receiverIn st ≡ AReceiver s
+  state-read = ap receiverIn (h .receiver .state .is) ∙ words-read s (h .receiver .state .rest) (i .ends .receiver-valid)
+
   -- ---- reading
   module _ (u : ℕ) where
     abbrev readEnd : System
     readEnd =
         let e = y .receiving in
-        link (y .sending) (receiving (e .volatile) (e .persisted) (e .pending) (e .arrived ++ brought g u (y .forward))) (linePast g u (y .forward)) (y .back)
+        link (y .sending) (receiving (e .receiver) (e .persisted) (e .message) (e .reports) (e .pending) (e .arrived ++ brought g u (y .forward))) (linePast g u (y .forward)) (y .back)
 
     requests-run : u ≤ length (y .forward .bytes) → runOf every l y (repeated u linkReads) ≡ readEnd
     requests-run most =
@@ -131,7 +213,7 @@ module _ (k : Passed) (ag : Agrees k) (rd : Ready (k .link)) (x : Drivers) (y : 
     readBy =
         let e = x .receiver in
         let m = x .receiver .memory in
-        drivers (x .sender) (receiverEnd (receiverMemory (m .state) (m .report) (afterReading reading) (m .reply)) (e .has) (e .stored) (e .«stored_has») (e .pending) (e .arrived ++ newVerdict reading))
+        drivers (x .sender) (receiverEnd (receiverMemory (m .state) (m .decision) (m .report) (afterReading reading) (m .reply)) (e .stored) (e .«stored_has») (e .noted) (e .reports) (e .pending) (e .arrived ++ newVerdict reading))
         (linePast g used (x .forward)) (x .back)
 
     read-shows : Took g (x .forward) reading → Shows l readBy (readEnd used)
@@ -140,10 +222,12 @@ module _ (k : Passed) (ag : Agrees k) (rd : Ready (k .link)) (x : Drivers) (y : 
           sender = h .sender;
           receiver = record {
             state = h .receiver .state;
+            decision = h .receiver .decision;
             report = h .receiver .report;
-            has = h .receiver .has;
             stored = h .receiver .stored;
             stored-has = h .receiver .stored-has;
+            note = h .receiver .note;
+            reports = h .receiver .reports;
             pending = h .receiver .pending;
             arrived = each-both (h .receiver .arrived) (subst (λ (z : Line). Each (SameVerdict g) (newVerdict reading) (brought g used z)) (h .forward) (t .shows));
             reader = t .stands;
@@ -165,159 +249,197 @@ module _ (k : Passed) (ag : Agrees k) (rd : Ready (k .link)) (x : Drivers) (y : 
                   (read-shows t);
             }
 
-  -- ---- a block is offered
-  module _ (application start : ℕ) (w : Shown) (ws : List Shown) (v : Judged) (vs : List Judged) (queue : y .receiving .arrived ≡ v ∷ vs) (is : SameVerdict g w v) (rest : Each (SameVerdict g) ws vs) where
-    abbrev st : List ℕ
-    st = x .receiver .memory .state
+  -- ---- a decision
+  module _ (application : ℕ) (a : Application) (known : applicationFrom application ≡ AnApplication a) (t : ℕ) (d : List ℕ) (type : isType t ≡ true) where
+    decision-is : decideCall application t d st q ≡ decidedAs st q (decideOf a s t d)
+    unfolding decideCall
+    decision-is =
+        ap (λ (z : ApplicationMade). decideFor z t d st q) known
+        ∙ rw (type, le-leb 9 (length st) state-long, le-leb 5 (length q) (h .receiver .decision))
+        (ap (decideWith a t d st q) state-read)
 
-    abbrev p : List ℕ
-    p = x .receiver .memory .report
+  -- what the driver has after any decision
+  abbrev afterDecision : List ℕ → List Shown → Called → Drivers
+  afterDecision d ws c =
+      let e = x .receiver in
+      let m = x .receiver .memory in
+      drivers (x .sender) (receiverEnd (receiverMemory (c .state) (c .report) (m .report) (m .reader) (m .reply)) (e .stored) (e .«stored_has») (notedBy (e .noted) d c) (e .reports) (e .pending) ws)
+      (x .forward) (x .back)
 
-    abbrev b : List ℕ
-    b = x .receiver .memory .reply
+  -- what a decision leaves
+  module _ (x' : Decided) (d : List ℕ) (ws : List Shown) (vs : List Judged) (rest : Each (SameVerdict g) ws vs) where
+    abbrev report : List ℕ
+    report = over q (decisionWords x')
 
-    abbrev e : Expected
-    e = y .receiving .volatile .expected
+    five : (o : Open) → over q (x' .block ∷ flag (x' .opened) ∷ toStore x' o) ≡ (x' .block ∷ flag (x' .opened) ∷ toStore x' o) ++ drop 5 q
+    five NoDecision = over-is q _ (h .receiver .decision)
+    five (Decision id r) = over-is q _ (h .receiver .decision)
 
-    abbrev outcome : Application → Outcome Received
-    outcome a = receiveOf g a e (v .verdict) (v .content) start b
+    report-long : 5 ≤ length report
+    report-long = go (cond (x' .opened) (x' .receiver .decision) NoDecision)
+      where
+        go : (o : Open) → 5 ≤ length (over q (x' .block ∷ flag (x' .opened) ∷ toStore x' o))
+        go NoDecision = let z = over-length q (x' .block ∷ flag (x' .opened) ∷ toStore x' NoDecision) (h .receiver .decision) in let m = h .receiver .decision in omega arith
+        go (Decision id r) = let z = over-length q (x' .block ∷ flag (x' .opened) ∷ toStore x' (Decision id r)) (h .receiver .decision) in let m = h .receiver .decision in omega arith
 
-    valid-state : validExpected e ≡ true
-    valid-state = i .ends .volatile .valid
+    abbrev doneCall : Called
+    doneCall = called 0 (cond (x' .opened) (over st (receiverWords (x' .receiver))) st) [] report
 
-    word-back : expectedFrom (getD st 0 0) ≡ e
-    word-back = ap (λ (s : List ℕ). expectedFrom (getD s 0 0)) (h .receiver .state .is) ∙ expected-back e valid-state
+    abbrev decidedDrivers : Drivers
+    decidedDrivers = afterDecision d ws doneCall
 
+    abbrev decidedSystem : System
+    decidedSystem = link (y .sending) (decidedEnd (y .receiving) vs d x') (y .forward) (y .back)
+
+    -- with the state's words and the note
+    decided-with : Behind (receiverWords (x' .receiver)) (doneCall .state)
+        → SameNote (notedBy (x .receiver .noted) d doneCall) (cond (x' .opened) d (y .receiving .message)) (x' .receiver .expected) (x' .receiver .decision) → Shows l decidedDrivers decidedSystem
+    decided-with w n =
+        record {
+          sender = h .sender;
+          receiver = record {
+            state = w;
+            decision = report-long;
+            report = h .receiver .report;
+            stored = h .receiver .stored;
+            stored-has = h .receiver .stored-has;
+            note = n;
+            reports = h .receiver .reports;
+            pending = h .receiver .pending;
+            arrived = rest;
+            reader = h .receiver .reader;
+          };
+          forward = h .forward;
+          back = h .back;
+        }
+
+    note-new : x' .opened ≡ true → (o : Open) → x' .receiver .decision ≡ o → SameNote (notedBy (x .receiver .noted) d doneCall) d (x' .receiver .expected) o
+    note-new z NoDecision e = refl
+    note-new z (Decision id r) e =
+        ap (λ (ws : List ℕ). cond (eqb (getD ws 1 0) 0) (x .receiver .noted) (noted (getD ws 2 0) (getD ws 3 0) (getD ws 4 0) d))
+        (ap (λ (u : Bool). over q (x' .block ∷ flag u ∷ toStore x' (cond u (x' .receiver .decision) NoDecision))) z
+        ∙ ap (λ (o : Open). over q (x' .block ∷ 1 ∷ toStore x' o)) e
+        ∙ over-is q _ (h .receiver .decision))
+
+    note-old : x' .opened ≡ false → notedBy (x .receiver .noted) d doneCall ≡ x .receiver .noted
+    note-old z =
+        ap (λ (ws : List ℕ). cond (eqb (getD ws 1 0) 0) (x .receiver .noted) (noted (getD ws 2 0) (getD ws 3 0) (getD ws 4 0) d))
+        (ap (λ (u : Bool). over q (x' .block ∷ flag u ∷ toStore x' (cond u (x' .receiver .decision) NoDecision))) z ∙ over-is q _ (h .receiver .decision))
+
+    decided-shows : (x' .opened ≡ false → x' .receiver ≡ s) → Shows l decidedDrivers decidedSystem
+    decided-shows same = go (x' .opened) refl
+      where
+        go : (u : Bool) → x' .opened ≡ u → Shows l decidedDrivers decidedSystem
+        go true z =
+            decided-with
+            (subst (λ (u : Bool). Behind (receiverWords (x' .receiver)) (cond u (over st (receiverWords (x' .receiver))) st)) (sym z)
+            (over-behind (receiverWords (x' .receiver)) st (let n = nine (x' .receiver) in let m = state-long in omega arith)))
+            (subst (λ (u : Bool). SameNote (notedBy (x .receiver .noted) d doneCall) (cond u d (y .receiving .message)) (x' .receiver .expected) (x' .receiver .decision)) (sym z)
+            (note-new z (x' .receiver .decision) refl))
+        go false z =
+            decided-with
+            (subst (λ (u : Bool). Behind (receiverWords (x' .receiver)) (cond u (over st (receiverWords (x' .receiver))) st)) (sym z)
+            (subst (λ (r : Receiver). Behind (receiverWords r) st) (sym (same z)) (h .receiver .state)))
+            (subst (λ (u : Bool). SameNote (notedBy (x .receiver .noted) d doneCall) (cond u d (y .receiving .message)) (x' .receiver .expected) (x' .receiver .decision)) (sym z)
+            (subst (λ (n : Noted). SameNote n (y .receiving .message) (x' .receiver .expected) (x' .receiver .decision)) (sym (note-old z))
+            (subst (λ (r : Receiver). SameNote (x .receiver .noted) (y .receiving .message) (r .expected) (r .decision)) (sym (same z)) (h .receiver .note))))
+
+    -- done or refused
+    pub decided-goes : (x' .opened ≡ false → x' .receiver ≡ s) → Shows l (decidedBy x d ws (decidedAs st q x')) (requestDecided y vs d x')
+    decided-goes same = go (eqb (x' .refusal) 0) refl
+      where
+        go : (u : Bool) → eqb (x' .refusal) 0 ≡ u
+            → Shows l (decidedBy x d ws (cond u doneCall (called (x' .refusal) st [] q))) (cond u decidedSystem y)
+        go true e = decided-shows same
+        go false e = subst (λ (u : Bool). Shows l (cond u (afterDecision d ws (called (x' .refusal) st [] q)) x) y) (sym e) h
+
+  module _ (application : ℕ) (w : Shown) (ws : List Shown) (v : Judged) (vs : List Judged) (queue : y .receiving .arrived ≡ v ∷ vs) (is : SameVerdict g w v) (rest : Each (SameVerdict g) ws vs) where
     abbrev offered : Called
-    offered = receiveCall (linkOf (madeFrom (k .numbers))) application st (w .number) (w .type) (w .content) b start p
+    offered = decisionOn application (x .receiver .memory) w
 
-    enough-words : (leb 1 (length st) && leb 3 (length p)) ≡ true
-    enough-words = rw (le-leb 1 (length st) (behind-length (h .receiver .state)), le-leb 3 (length p) (h .receiver .report))
+    -- the link's act on the same verdict
+    acted-is : (a : Application) → eqb (w .number) 0 ≡ true → afterAct every l (receiverDecides 0 a) y ≡ requestDecided y vs (w .content) (decideOf a s (w .type) (w .content))
+    unfolding oneAt othersAt
+    acted-is a z =
+        let shown-is = is .is in
+        ap (λ (us : List Judged). requestTaken a y (oneAt 0 us) (othersAt 0 us)) queue
+        ∙ ap (verdictDecided a y vs (v .content)) (accepted-number (v .verdict) (is .given) (ap (λ (u : Shown). eqb (u .number) 0) (sym shown-is) ∙ z))
+        ∙ ap (λ (u : Shown). requestDecided y vs (u .content) (decideOf a s (u .type) (u .content))) (sym shown-is)
 
-    -- numbers that stand for no verdict of the application's
-    none-is : applicationFrom application ≡ NoApplication → offered ≡ called 1 st b p
-    unfolding receiveCall
-    none-is q =
-        ap (λ (s : Made). receiveWith s (applicationFrom application) (verdictFrom (w .number) (w .type)) st (w .content) b start p) (link-made k ag rd)
-        ∙ ap (λ (z : ApplicationMade). receiveWith (Valid g) z (verdictFrom (w .number) (w .type)) st (w .content) b start p) q
+    refused-goes : offered .number ≡ 1 → decidedBy x (w .content) ws offered ≡ x
+    refused-goes e = ap (λ (n : ℕ). cond (eqb n 0) (afterDecision (w .content) ws offered) x) e
 
-    offered-is : (a : Application) → applicationFrom application ≡ AnApplication a → offered ≡ finished st p (outcome a)
-    unfolding receiveCall
-    offered-is a q =
-        ap (λ (s : Made). receiveWith s (applicationFrom application) (verdictFrom (w .number) (w .type)) st (w .content) b start p) (link-made k ag rd)
-        ∙ ap (λ (z : ApplicationMade). receiveWith (Valid g) z (verdictFrom (w .number) (w .type)) st (w .content) b start p) q
-        ∙ ap (λ (z : Shown). receiveWith (Valid g) (AnApplication a) (verdictFrom (z .number) (z .type)) st (z .content) b start p) (is .is)
-        ∙ ap (λ (z : VerdictMade). receiveWith (Valid g) (AnApplication a) z st (v .content) b start p) (made-again (v .verdict) (is .given))
-        ∙ ap (λ (z : Bool). cond z (cond (leb 1 (length st) && leb 3 (length p)) (finished st p (receiveOf g a (expectedFrom (getD st 0 0)) (passedOn (v .verdict)) (v .content) start b)) (called 2 st b p)) (called 1 st b p)) (rd .settings)
-        ∙ ap (λ (z : Bool). cond z (finished st p (receiveOf g a (expectedFrom (getD st 0 0)) (passedOn (v .verdict)) (v .content) start b)) (called 2 st b p))
-        enough-words
-        ∙ ap (λ (z : Expected). finished st p (receiveOf g a z (passedOn (v .verdict)) (v .content) start b)) word-back
-        ∙ ap (finished st p) (receives-the-same g a e (v .verdict) (v .content) start b)
+    unknown-refused : (z : ApplicationMade) → applicationFrom application ≡ z → z ≡ NoApplication → offered .number ≡ 1
+    unfolding decideCall
+    unknown-refused z e u = ap (λ (n : ApplicationMade). decideFor n (w .type) (w .content) st q .number) (e ∙ u)
 
-    content-is : w .content ≡ v .content
-    content-is = ap (λ (z : Shown). z .content) (is .is)
+    type-refused : (a : Application) → applicationFrom application ≡ AnApplication a → isType (w .type) ≡ false → offered .number ≡ 1
+    unfolding decideCall
+    type-refused a e u = ap (λ (n : ApplicationMade). decideFor n (w .type) (w .content) st q .number) e ∙ rw u
 
-    module _ (a : Application) where
-      abbrev o : Outcome Received
-      o = outcome a
+    one-decided : (z : ApplicationMade) → applicationFrom application ≡ z → Goes l (decidesOn z (w ∷ ws)) (oldestDecided application x (w ∷ ws)) y
+    one-decided NoApplication e =
+        stays l _ y (cond-ind (λ (u : Drivers). Shows l u y) (eqb (w .number) 0) _ _ (λ n. subst (λ (u : Drivers). Shows l u y) (sym (refused-goes (unknown-refused NoApplication e refl))) h) (λ n. h))
+    one-decided (AnApplication a) e = go (eqb (w .number) 0) (isType (w .type)) refl refl
+      where
+        go : (n t : Bool) → eqb (w .number) 0 ≡ n → isType (w .type) ≡ t → Goes l (once (n && t) (receiverDecides 0 a)) (cond n (decidedBy x (w .content) ws offered) x) y
+        go false t p u = stays l x y h
+        go true false p u = stays l _ y (subst (λ (z : Drivers). Shows l z y) (sym (refused-goes (type-refused a e u))) h)
+        go true true p u =
+            by-act l _ y (receiverDecides 0 a)
+            (subst (Shows l (decidedBy x (w .content) ws offered)) (sym (acted-is a p))
+            (subst (λ (c : Called). Shows l (decidedBy x (w .content) ws c) (requestDecided y vs (w .content) (decideOf a s (w .type) (w .content)))) (sym (decision-is application a e (w .type) (w .content) u))
+            (decided-goes (decideOf a s (w .type) (w .content)) (w .content) ws vs rest (decide-same a s (w .type) (w .content)))))
 
-      abbrev doneCall : Called
-      doneCall = called 0 (over st (expectedWord (o .answer .persisted .expected) ∷ [])) (o .buffer) (over p (receivedWords (o .answer)))
-
-      abbrev doneEnd : System
-      doneEnd = link (y .sending) (receivedEnd (y .receiving) vs (v .content) start o) (y .forward) (y .back)
-
-      abbrev doneDrivers : Drivers
-      doneDrivers =
-          let r = x .receiver in
-          drivers (x .sender) (receiverEnd (receiverMemory (doneCall .state) (doneCall .report) (r .memory .reader) (doneCall .buffer)) (withTransaction (r .has) (w .content) doneCall) (r .stored) (r .«stored_has»)
-          (r .pending ++ replyBy start doneCall) ws) (x .forward) (x .back)
-
-      report-is : over p (receivedWords (o .answer)) ≡ receivedWords (o .answer) ++ drop 3 p
-      report-is = three (o .answer) p (h .receiver .report)
-
-      done-shows : Shows l doneDrivers doneEnd
-      done-shows =
-          record {
-            sender = h .sender;
-            receiver = record {
-              state = over-behind (expectedWord (o .answer .persisted .expected) ∷ []) st (behind-length (h .receiver .state));
-              report = let z = over-length p (receivedWords (o .answer)) (h .receiver .report) in let m = h .receiver .report in omega arith;
-              has =
-                  ap (λ (r : List ℕ). cond (eqb (getD r 0 0) 0) (x .receiver .has) (x .receiver .has ++ w .content ∷ [])) report-is
-                  ∙ transaction-is (o .answer .persisted .transaction) (receive-some g a e (v .verdict) (v .content) start b) (w .content) (x .receiver .has)
-                  ∙ ap (λ (d : List ℕ). hasWith (o .answer .persisted .transaction) d (x .receiver .has)) content-is
-                  ∙ ap (hasWith (o .answer .persisted .transaction) (v .content)) (h .receiver .has);
-              stored = h .receiver .stored;
-              stored-has = h .receiver .stored-has;
-              pending =
-                  ap (λ (r : List ℕ). x .receiver .pending ++ cond (eqb (getD r 1 0) 0) [] (take (getD r 1 0) (drop start (o .buffer)) ∷ [])) report-is
-                  ∙ ap (λ (bs : List (List ℕ)). bs ++ repliesOf start o) (h .receiver .pending);
-              arrived = rest;
-              reader = h .receiver .reader;
-            };
-            forward = h .forward;
-            back = h .back;
-          }
-
-      acted-is : afterAct every l (receiverActs 0 a start b) y ≡ cond (eqb (o .answer .refusal) 0) doneEnd y
-      unfolding oneAt othersAt
-      acted-is = ap (λ (us : List Judged). requestActed every l a start b y (oneAt 0 us) (othersAt 0 us)) queue
-
-      finished-goes : (c : Bool) → eqb (o .answer .refusal) 0 ≡ c → Goes l (receiverActs 0 a start b ∷ []) (receivedBy x start (w .content) ws (cond c doneCall (called (o .answer .refusal) st (o .buffer) p))) y
-      finished-goes true z =
-          by-act l doneDrivers y (receiverActs 0 a start b) (subst (Shows l doneDrivers) (sym (acted-is ∙ ap (λ (c : Bool). cond c doneEnd y) z)) done-shows)
-      finished-goes false z =
-          subst (λ (t : Drivers). Goes l (receiverActs 0 a start b ∷ []) t y) (sym (nothing-changed x start (w .content) ws (called (o .answer .refusal) st (o .buffer) p) z))
-          (by-act l x y (receiverActs 0 a start b) (subst (Shows l x) (sym (acted-is ∙ ap (λ (c : Bool). cond c doneEnd y) z)) h))
-
-      known-goes : applicationFrom application ≡ AnApplication a → Goes l (receiverActs 0 a start b ∷ []) (receivedBy x start (w .content) ws offered) y
-      known-goes q = subst (λ (c : Called). Goes l (receiverActs 0 a start b ∷ []) (receivedBy x start (w .content) ws c) y) (sym (offered-is a q)) (finished-goes (eqb (o .answer .refusal) 0) refl)
-
-    offered-goes : (z : ApplicationMade) → applicationFrom application ≡ z → Goes l (offers z start x) (receivedBy x start (w .content) ws offered) y
-    offered-goes NoApplication q = subst (λ (c : Called). Goes l [] (receivedBy x start (w .content) ws c) y) (sym (none-is q)) (stays l x y h)
-    offered-goes (AnApplication a) q = known-goes a q
-
-    -- it is taken, where the reply has its space
-    offered-taken : (a : Application) → applicationFrom application ≡ AnApplication a → start + replySpace g ≤ length b → offered .number ≡ 0
-    offered-taken a q f =
-        let taken = receive-taken g a e (v .verdict) (v .content) start b (rd .settings) f valid-state in
-        ap (λ (c : Called). c .number) (offered-is a q) ∙ rw taken
-
-  pub block-taken : (application start : ℕ) (a : Application) → applicationFrom application ≡ AnApplication a → start + replySpace g ≤ length (x .receiver .memory .reply)
-      → (w : Shown) (ws : List Shown) → x .receiver .arrived ≡ w ∷ ws
-      → receiveCall (linkOf (madeFrom (k .numbers))) application (x .receiver .memory .state) (w .number) (w .type) (w .content) (x .receiver .memory .reply) start (x .receiver .memory .report) .number ≡ 0
-  block-taken application start a q f w ws z = go (each-front (subst (λ (us : List Shown). Each (SameVerdict g) us (y .receiving .arrived)) z (h .receiver .arrived)))
+  pub decides-goes : (application : ℕ) → Goes l (actsOf k (decides application) x) (afterDriver k (decides application) x) y
+  decides-goes application = go (x .receiver .arrived) (h .receiver .arrived)
     where
-      go : Front (SameVerdict g) w ws (y .receiving .arrived)
-          → receiveCall (linkOf (madeFrom (k .numbers))) application (x .receiver .memory .state) (w .number) (w .type) (w .content) (x .receiver .memory .reply) start (x .receiver .memory .report) .number ≡ 0
-      go (front v vs t is rest) = offered-taken application start w ws v vs t is rest a q f
+      none : (z : ApplicationMade) → Goes l (decidesOn z []) x y
+      none NoApplication = stays l x y h
+      none (AnApplication a) = stays l x y h
 
-  pub receives-goes : (application start : ℕ) → Goes l (actsOf k (receives application start) x) (afterDriver k (receives application start) x) y
-  receives-goes application start = go (x .receiver .arrived) (h .receiver .arrived)
-    where
-      none : (z : ApplicationMade) (vs : List Judged) → y .receiving .arrived ≡ vs → Each (SameVerdict g) [] vs → Goes l (offers z start x) x y
-      none NoApplication vs q each-none = stays l x y h
-      none (AnApplication a) vs q each-none = by-act l x y (receiverActs 0 a start (x .receiver .memory .reply)) (subst (Shows l x) (sym (nothing-offered l y a start (x .receiver .memory .reply) q)) h)
+      first : (w : Shown) (ws : List Shown) → Front (SameVerdict g) w ws (y .receiving .arrived) → Goes l (decidesOn (applicationFrom application) (w ∷ ws)) (oldestDecided application x (w ∷ ws)) y
+      first w ws (front v vs q is rest) = one-decided application w ws v vs q is rest (applicationFrom application) refl
 
-      first : (w : Shown) (ws : List Shown) → Front (SameVerdict g) w ws (y .receiving .arrived) → Goes l (offers (applicationFrom application) start x) (requestTaken k application start x (w ∷ ws)) y
-      first w ws (front v vs q is rest) = offered-goes application start w ws v vs q is rest (applicationFrom application) refl
-
-      go : (ws : List Shown) → Each (SameVerdict g) ws (y .receiving .arrived) → Goes l (offers (applicationFrom application) start x) (requestTaken k application start x ws) y
-      go [] e = none (applicationFrom application) (y .receiving .arrived) refl e
+      go : (ws : List Shown) → Each (SameVerdict g) ws (y .receiving .arrived) → Goes l (decidesOn (applicationFrom application) ws) (oldestDecided application x ws) y
+      go [] e = none (applicationFrom application)
       go (w ∷ ws) e = first w ws (each-front e)
 
   -- ---- a trial, and other memory: the link stays
-  tried-shows : (c : Called) → 3 ≤ length (c .report) → Shows l (triedBy x c) y
+  with-memory : (d r v c : List ℕ) → 5 ≤ length d → 2 ≤ length r → 8 ≤ length v
+      → Shows l (drivers (x .sender) (let e = x .receiver in receiverEnd (receiverMemory st d r (withVerdict v (e .memory .reader)) c) (e .stored) (e .«stored_has») (e .noted) (e .reports) (e .pending) (e .arrived))
+      (x .forward) (x .back)) y
+  with-memory d r v c m n o =
+      record {
+        sender = h .sender;
+        receiver = record {
+          state = h .receiver .state;
+          decision = m;
+          report = n;
+          stored = h .receiver .stored;
+          stored-has = h .receiver .stored-has;
+          note = h .receiver .note;
+          reports = h .receiver .reports;
+          pending = h .receiver .pending;
+          arrived = h .receiver .arrived;
+          reader = other-verdict g (x .receiver .memory .reader) (x .forward) (h .receiver .reader) v o;
+        };
+        forward = h .forward;
+        back = h .back;
+      }
+
+  tried-shows : (c : Called) → 5 ≤ length (c .report) → Shows l (triedBy x c) y
   tried-shows c m =
       record {
         sender = h .sender;
         receiver = record {
           state = h .receiver .state;
-          report = m;
-          has = h .receiver .has;
+          decision = m;
+          report = h .receiver .report;
           stored = h .receiver .stored;
           stored-has = h .receiver .stored-has;
+          note = h .receiver .note;
+          reports = h .receiver .reports;
           pending = h .receiver .pending;
           arrived = h .receiver .arrived;
           reader = h .receiver .reader;
@@ -326,52 +448,39 @@ module _ (k : Passed) (ag : Agrees k) (rd : Ready (k .link)) (x : Drivers) (y : 
         back = h .back;
       }
 
-  module _ (application start : ℕ) where
-    finished-long : (o : Outcome Received) → 3 ≤ length (finished (x .receiver .memory .state) (x .receiver .memory .report) o .report)
-    finished-long o =
-        cond-ind (λ (c : Called). 3 ≤ length (c .report)) (eqb (o .answer .refusal) 0) _ _
-        (λ z. let q = over-length (x .receiver .memory .report) (receivedWords (o .answer)) (h .receiver .report) in let m = h .receiver .report in omega arith) (λ z. h .receiver .report)
+  -- whatever is tried, the report has its words
+  abbrev Long : Called → Type 0
+  Long c = 5 ≤ length (c .report)
 
-    tried-long : (w : Shown) (ws : List Shown) (v : Judged) (vs : List Judged) (queue : y .receiving .arrived ≡ v ∷ vs) (is : SameVerdict g w v) (rest : Each (SameVerdict g) ws vs) (z : ApplicationMade)
-        → applicationFrom application ≡ z → 3 ≤ length (offered application start w ws v vs queue is rest .report)
-    tried-long w ws v vs queue is rest NoApplication q = subst (λ (c : Called). 3 ≤ length (c .report)) (sym (none-is application start w ws v vs queue is rest q)) (h .receiver .report)
-    tried-long w ws v vs queue is rest (AnApplication a) q =
-        subst (λ (c : Called). 3 ≤ length (c .report)) (sym (offered-is application start w ws v vs queue is rest a q)) (finished-long (outcome application start w ws v vs queue is rest a))
+  decided-long : (x' : Decided) → Long (decidedAs st q x')
+  decided-long x' =
+      cond-ind Long (eqb (x' .refusal) 0) _ _ (λ z. report-long x' [] [] [] each-none) (λ z. h .receiver .decision)
 
-    pub tries-goes : Goes l [] (afterDriver k (tries application start) x) y
-    tries-goes = go (x .receiver .arrived) (h .receiver .arrived)
-      where
-        first : (w : Shown) (ws : List Shown) → Front (SameVerdict g) w ws (y .receiving .arrived) → Goes l [] (requestTried k application start x (w ∷ ws)) y
-        first w ws (front v vs q is rest) = stays l _ y (tried-shows (offered application start w ws v vs q is rest) (tried-long w ws v vs q is rest (applicationFrom application) refl))
+  tried-long : (application t : ℕ) (d : List ℕ) (z : ApplicationMade) → applicationFrom application ≡ z → Long (decideCall application t d st q)
+  unfolding decideCall
+  tried-long application t d NoApplication e = subst (λ (n : ApplicationMade). Long (decideFor n t d st q)) (sym e) (h .receiver .decision)
+  tried-long application t d (AnApplication a) e =
+      subst (λ (n : ApplicationMade). Long (decideFor n t d st q)) (sym e)
+      (cond-ind Long (isType t) _ _
+      (λ u. cond-ind Long (leb 9 (length st) && leb 5 (length q)) _ _
+      (λ v. subst (λ (r : Decoded). Long (decideWith a t d st q r)) (sym state-read) (decided-long (decideOf a s t d))) (λ v. h .receiver .decision)) (λ u. h .receiver .decision))
 
-        go : (ws : List Shown) → Each (SameVerdict g) ws (y .receiving .arrived) → Goes l [] (requestTried k application start x ws) y
-        go [] e = stays l x y h
-        go (w ∷ ws) e = first w ws (each-front e)
-
-  pub receiver-replaces-goes : (p v b : List ℕ) → Goes l [] (afterDriver k (receiverReplaces p v b) x) y
-  receiver-replaces-goes p v b = go (leb 3 (length p) && leb 8 (length v)) refl
+  pub tries-goes : (application : ℕ) → Goes l [] (afterDriver k (tries application) x) y
+  tries-goes application = go (x .receiver .arrived)
     where
-      go : (c : Bool) → (leb 3 (length p) && leb 8 (length v)) ≡ c
-          → Goes l [] (cond c (drivers (x .sender) (receiverEnd (receiverMemory (x .receiver .memory .state) p (withVerdict v (x .receiver .memory .reader)) b) (x .receiver .has) (x .receiver .stored) (x .receiver .«stored_has»)
-          (x .receiver .pending) (x .receiver .arrived)) (x .forward) (x .back)) x) y
-      go false e = stays l x y h
-      go true e =
-          stays l _ y
-          (record {
-            sender = h .sender;
-            receiver = record {
-              state = h .receiver .state;
-              report = leb-true 3 (length p) (and-left (leb 3 (length p)) (leb 8 (length v)) e);
-              has = h .receiver .has;
-              stored = h .receiver .stored;
-              stored-has = h .receiver .stored-has;
-              pending = h .receiver .pending;
-              arrived = h .receiver .arrived;
-              reader = other-verdict g (x .receiver .memory .reader) (x .forward) (h .receiver .reader) v (leb-true 8 (length v) (and-right (leb 3 (length p)) (leb 8 (length v)) e));
-            };
-            forward = h .forward;
-            back = h .back;
-          })
+      go : (ws : List Shown) → Goes l [] (oldestTried application x ws) y
+      go [] = stays l x y h
+      go (w ∷ ws) = stays l _ y (tried-shows (decisionOn application (x .receiver .memory) w) (tried-long application (w .type) (w .content) (applicationFrom application) refl))
+
+  pub receiver-replaces-goes : (d r v c : List ℕ) → Goes l [] (afterDriver k (receiverReplaces d r v c) x) y
+  receiver-replaces-goes d r v c =
+      let long = leb 5 (length d) in
+      let reports = leb 2 (length r) in
+      let verdict = leb 8 (length v) in
+      stays l _ y
+      (cond-ind (λ (z : Drivers). Shows l z y) (long && (reports && verdict)) _ _
+      (λ e. with-memory d r v c (leb-true 5 (length d) (and-left long (reports && verdict) e)) (leb-true 2 (length r) (and-left reports verdict (and-right long (reports && verdict) e)))
+      (leb-true 8 (length v) (and-right reports verdict (and-right long (reports && verdict) e)))) (λ e. h))
 
   pub receiver-drops-goes : (n : ℕ) → Goes l (receiverDiscards n ∷ []) (afterDriver k (receiverDrops n) x) y
   receiver-drops-goes n =
@@ -380,10 +489,12 @@ module _ (k : Passed) (ag : Agrees k) (rd : Ready (k .link)) (x : Drivers) (y : 
         sender = h .sender;
         receiver = record {
           state = h .receiver .state;
+          decision = h .receiver .decision;
           report = h .receiver .report;
-          has = h .receiver .has;
           stored = h .receiver .stored;
           stored-has = h .receiver .stored-has;
+          note = h .receiver .note;
+          reports = h .receiver .reports;
           pending = h .receiver .pending;
           arrived = each-others n (h .receiver .arrived);
           reader = h .receiver .reader;
@@ -392,18 +503,321 @@ module _ (k : Passed) (ag : Agrees k) (rd : Ready (k .link)) (x : Drivers) (y : 
         back = h .back;
       })
 
-  -- ---- storing, and going on from what is stored
+  -- ---- storing
+  -- what is noted is what the open decision says
+  pub stored-is : (o : Open) → s .decision ≡ o → isClosed o ≡ false
+      → (x .receiver .noted .expected ∷ [] ≡ expectedWord (toPersist (y .receiving) .expected) ∷ []) × (withTransaction (x .receiver .«stored_has») (x .receiver .noted) ≡ toPersist (y .receiving) .has)
+  stored-is NoDecision e z = not-both z
+  stored-is (Decision id r) e z =
+      let w = opened s id r (i .ends .receiver-valid) e in
+      let note : x .receiver .noted ≡ noted (transactionWord (r .persisted .transaction)) (expectedWord (r .persisted .expected)) (flag (not (sameExpected (r .persisted .expected) (s .expected)))) (y .receiving .message) =
+      subst (SameNote (x .receiver .noted) (y .receiving .message) (s .expected)) e (h .receiver .note) in (
+        ap (λ (n : Noted). n .expected ∷ []) note ∙ ap (λ (t : Open). expectedWord (storedBy (y .receiving .persisted) (y .receiving .message) t .expected) ∷ []) (sym e),
+        ap (withTransaction (x .receiver .«stored_has»)) note
+            ∙ transaction-is (r .persisted .transaction) (open-transaction (s .expected) (w .expected) r (w .in-table)) (y .receiving .message) (x .receiver .«stored_has»)
+            ∙ ap (hasWith (r .persisted .transaction) (y .receiving .message)) (h .receiver .stored-has)
+            ∙ ap (λ (t : Open). storedBy (y .receiving .persisted) (y .receiving .message) t .has) (sym e),
+      )
+
+  -- the driver's test is the link's
+  stores-test : (isOpenWord st && not (x .receiver .reports)) ≡ (not (isClosed (s .decision)) && not (y .receiving .reports))
+  stores-test =
+      ap (λ (ws : List ℕ). isOpenWord ws && not (x .receiver .reports)) (h .receiver .state .is)
+      ∙ ap (λ (u : Bool). u && not (x .receiver .reports)) (open-is s (h .receiver .state .rest))
+      ∙ ap (λ (u : Bool). not (isClosed (s .decision)) && not u) (h .receiver .reports)
+
+  not-closed : (u : Bool) → not u ≡ true → u ≡ false
+  not-closed true e = not-both (sym e)
+  not-closed false e = refl
+
+  abbrev storedDrivers : Drivers
+  storedDrivers =
+      let e = x .receiver in
+      drivers (x .sender) (receiverEnd (e .memory) (e .noted .expected ∷ []) (withTransaction (e .«stored_has») (e .noted)) (e .noted) true (e .pending) (e .arrived)) (x .forward) (x .back)
+
   pub receiver-stores-goes : Goes l (receiverPersists ∷ []) (afterDriver k receiverStores x) y
-  receiver-stores-goes =
-      by-act l (afterDriver k receiverStores x) y receiverPersists
+  receiver-stores-goes = by-act l (afterDriver k receiverStores x) y receiverPersists (go (not (isClosed (s .decision)) && not (y .receiving .reports)) refl)
+    where
+      done : (not (isClosed (s .decision)) && not (y .receiving .reports)) ≡ true
+          → Shows l storedDrivers (receiverPersisted y (toPersist (y .receiving)) true)
+      done e =
+          let t = stored-is (s .decision) refl (not-closed (isClosed (s .decision)) (and-left (not (isClosed (s .decision))) (not (y .receiving .reports)) e)) in
+          record {
+            sender = h .sender;
+            receiver = record {
+              state = h .receiver .state;
+              decision = h .receiver .decision;
+              report = h .receiver .report;
+              stored = t .0;
+              stored-has = t .1;
+              note = h .receiver .note;
+              reports = refl;
+              pending = h .receiver .pending;
+              arrived = h .receiver .arrived;
+              reader = h .receiver .reader;
+            };
+            forward = h .forward;
+            back = h .back;
+          }
+
+      go : (u : Bool) → (not (isClosed (s .decision)) && not (y .receiving .reports)) ≡ u
+          → Shows l (cond (isOpenWord st && not (x .receiver .reports)) storedDrivers x) (cond (not (isClosed (s .decision)) && not (y .receiving .reports)) (receiverPersisted y (toPersist (y .receiving)) true) y)
+      go u e =
+          subst (λ (v : Bool). Shows l (cond v storedDrivers x) (cond (not (isClosed (s .decision)) && not (y .receiving .reports)) (receiverPersisted y (toPersist (y .receiving)) true) y)) (sym stores-test)
+          (both u e)
+        where
+          both : (v : Bool) → (not (isClosed (s .decision)) && not (y .receiving .reports)) ≡ v
+              → Shows l (cond (not (isClosed (s .decision)) && not (y .receiving .reports)) storedDrivers x)
+              (cond (not (isClosed (s .decision)) && not (y .receiving .reports)) (receiverPersisted y (toPersist (y .receiving)) true) y)
+          both true f =
+              subst (λ (v : Bool). Shows l (cond v storedDrivers x) (cond v (receiverPersisted y (toPersist (y .receiving)) true) y)) (sym f) (done f)
+          both false f = subst (λ (v : Bool). Shows l (cond v storedDrivers x) (cond v (receiverPersisted y (toPersist (y .receiving)) true) y)) (sym f) h
+
+  -- one more reply is pending, of which the report says the length
+  more-pending : (start n : ℕ) (c : List ℕ)
+      → x .receiver .pending ++ (let r = over p (reportWords n 0) in cond (eqb (getD r 0 0) 0) [] (take (getD r 0 0) (drop start c) ∷ [])) ≡ y .receiving .pending ++ cond (eqb n 0) [] (take n (drop start c) ∷ [])
+  more-pending start n c =
+      ap (λ (m : ℕ). x .receiver .pending ++ cond (eqb m 0) [] (take m (drop start c) ∷ [])) (report-word p n (h .receiver .report))
+      ∙ ap (λ (bs : List (List ℕ)). bs ++ cond (eqb n 0) [] (take n (drop start c) ∷ [])) (h .receiver .pending)
+
+  -- ---- a report
+  module _ (success : Bool) (start : ℕ) where
+    abbrev o : Outcome Answered
+    o = answerOf g success s start b
+
+    abbrev space : Bool
+    space = leb (start + replySpace g) (length b)
+
+    answer-long : space ≡ true → answerOn k success start (x .receiver .memory) ≡ answeredAs st p o
+    unfolding answerCall
+    answer-long f =
+        ap (λ (m : Made). answerWith m (outcomeFrom (flag success)) st b start p) (link-made k ag rd)
+        ∙ ap (λ (z : OutcomeMade). answerWith (Valid g) z st b start p) (outcome-made success)
+        ∙ rw (rd .settings, le-leb 9 (length st) state-long, le-leb 2 (length p) (h .receiver .report), f) (ap (answerWords g success st b start p) state-read)
+
+    answer-too-short : space ≡ false → answerOn k success start (x .receiver .memory) ≡ answeredAs st p o
+    unfolding answerCall
+    answer-too-short f =
+        ap (λ (m : Made). answerWith m (outcomeFrom (flag success)) st b start p) (link-made k ag rd)
+        ∙ ap (λ (z : OutcomeMade). answerWith (Valid g) z st b start p) (outcome-made success)
+        ∙ rw (rd .settings, le-leb 9 (length st) state-long, le-leb 2 (length p) (h .receiver .report), f)
+        (sym (ap (answeredAs st p) (answer-short g (rd .settings) s (i .ends .receiver-valid) start b success f)))
+
+    answer-is : answerOn k success start (x .receiver .memory) ≡ answeredAs st p o
+    answer-is = go space refl
+      where
+        go : (u : Bool) → space ≡ u → answerOn k success start (x .receiver .memory) ≡ answeredAs st p o
+        go true e = answer-long e
+        go false e = answer-too-short e
+
+    report-test : (success : Bool) (u v : Bool) → u ≡ v → mayReport success u ≡ isTrue every success v
+    report-test true u v e = e
+    report-test false u v e = ap not e
+
+    -- no decision is open then
+    note-closed : (d : List ℕ) (t : Open) → isClosed t ≡ true → SameNote (x .receiver .noted) d (o .answer .receiver .expected) t
+    note-closed d NoDecision e = refl
+    note-closed d (Decision id r) e = not-both (sym e)
+
+    abbrev answered : Drivers
+    answered =
+        let e = x .receiver in
+        let m = x .receiver .memory in
+        let r = over p (reportWords (o .answer .«reply_length») 0) in
+        drivers (x .sender) (receiverEnd (receiverMemory (over st (receiverWords (o .answer .receiver))) (m .decision) r (m .reader) (o .buffer)) (e .stored) (e .«stored_has») (e .noted) false
+        (e .pending ++ replyBy start (called 0 (over st (receiverWords (o .answer .receiver))) (o .buffer) r)) (e .arrived)) (x .forward) (x .back)
+
+    answered-shows : eqb (o .answer .refusal) 0 ≡ true → Shows l answered (reportedEnd y start o)
+    answered-shows e =
+        record {
+          sender = h .sender;
+          receiver = record {
+            state = over-behind (receiverWords (o .answer .receiver)) st (let n = nine (o .answer .receiver) in let m = state-long in omega arith);
+            decision = h .receiver .decision;
+            report = let z = over-length p (reportWords (o .answer .«reply_length») 0) (h .receiver .report) in let m = h .receiver .report in omega arith;
+            stored = h .receiver .stored;
+            stored-has = h .receiver .stored-has;
+            note = note-closed (y .receiving .message) (o .answer .receiver .decision) (report-closes g s start b success e);
+            reports = refl;
+            pending = more-pending start (o .answer .«reply_length») (o .buffer);
+            arrived = h .receiver .arrived;
+            reader = h .receiver .reader;
+          };
+          forward = h .forward;
+          back = h .back;
+        }
+
+    -- what the driver has after any call
+    abbrev after : Called → Drivers
+    after c =
+        let e = x .receiver in
+        let m = x .receiver .memory in
+        drivers (x .sender) (receiverEnd (receiverMemory (c .state) (m .decision) (c .report) (m .reader) (c .buffer)) (e .stored) (e .«stored_has») (e .noted) false (e .pending ++ replyBy start c) (e .arrived))
+        (x .forward) (x .back)
+
+    abbrev doneAnswer : Called
+    doneAnswer = called 0 (over st (receiverWords (o .answer .receiver))) (o .buffer) (over p (reportWords (o .answer .«reply_length») 0))
+
+    abbrev refusedAnswer : Called
+    refusedAnswer = called (o .answer .refusal) st (o .buffer) p
+
+    abbrev may : Bool
+    may = mayReport success (x .receiver .reports)
+
+    refused-call : eqb (o .answer .refusal) 0 ≡ false → answeredBy x success start (answeredAs st p o) ≡ x
+    refused-call f =
+        ap (λ (u : Bool). answeredBy x success start (cond u doneAnswer refusedAnswer)) f
+        ∙ ap (λ (u : Bool). cond (may && u) (after refusedAnswer) x) f
+        ∙ ap (λ (u : Bool). cond u (after refusedAnswer) x) (and-none may)
+
+    refused-act : eqb (o .answer .refusal) 0 ≡ false → decisionReported every y success start o ≡ y
+    refused-act f =
+        let t = isTrue every success (y .receiving .reports) in
+        ap (λ (u : Bool). cond (t && u) (reportedEnd y start o) y) f ∙ ap (λ (u : Bool). cond u (reportedEnd y start o) y) (and-none t)
+
+    done-call : eqb (o .answer .refusal) 0 ≡ true → answeredBy x success start (answeredAs st p o) ≡ cond may (after doneAnswer) x
+    done-call f =
+        ap (λ (u : Bool). answeredBy x success start (cond u doneAnswer refusedAnswer)) f
+        ∙ ap (λ (u : Bool). cond u (after doneAnswer) x) (and-all may)
+
+    done-act : eqb (o .answer .refusal) 0 ≡ true → decisionReported every y success start o ≡ cond may (reportedEnd y start o) y
+    done-act f =
+        let t = isTrue every success (y .receiving .reports) in
+        ap (λ (u : Bool). cond (t && u) (reportedEnd y start o) y) f
+        ∙ ap (λ (u : Bool). cond u (reportedEnd y start o) y) (and-all t ∙ sym (report-test success (x .receiver .reports) (y .receiving .reports) (h .receiver .reports)))
+
+    reported-shows : Shows l (answeredBy x success start (answeredAs st p o)) (decisionReported every y success start o)
+    reported-shows = go (eqb (o .answer .refusal) 0) refl
+      where
+        either : eqb (o .answer .refusal) 0 ≡ true → (u : Bool) → Shows l (cond u (after doneAnswer) x) (cond u (reportedEnd y start o) y)
+        either f true = answered-shows f
+        either f false = h
+
+        go : (u : Bool) → eqb (o .answer .refusal) 0 ≡ u → Shows l (answeredBy x success start (answeredAs st p o)) (decisionReported every y success start o)
+        go true f =
+            subst (λ (z : Drivers). Shows l z (decisionReported every y success start o)) (sym (done-call f)) (subst (Shows l (cond may (after doneAnswer) x)) (sym (done-act f)) (either f may))
+        go false f = subst (λ (z : Drivers). Shows l z (decisionReported every y success start o)) (sym (refused-call f)) (subst (Shows l x) (sym (refused-act f)) h)
+
+    pub answers-goes : Goes l (actsOf k (answers success start) x) (afterDriver k (answers success start) x) y
+    answers-goes =
+        by-act l (afterDriver k (answers success start) x) y (receiverReports success start b)
+        (subst (λ (c : Called). Shows l (answeredBy x success start c) (decisionReported every y success start o)) (sym answer-is) reported-shows)
+
+  -- ---- an N reply
+  module _ (number start : ℕ) where
+    abbrev n : Outcome Answered
+    n = nakOf g number s start b
+
+    abbrev fits : Bool
+    fits = leb (start + replySpace g) (length b)
+
+    numbered : (u : Bool) → isBlockNumber number ≡ u → (validLink g && isBlockNumber number) ≡ u
+    numbered u e = ap (λ (v : Bool). v && isBlockNumber number) (rd .settings) ∙ e
+
+    bad-number : isBlockNumber number ≡ false → nakOf g number s start b ≡ refused 1 s b
+    unfolding nakOf
+    bad-number e = ap (λ (u : Bool). cond u (cond fits (cond (validReceiver s && isClosed (s .decision)) (replied s (nakReply g number) start b) (refused 11 s b)) (refused 2 s b)) (refused 1 s b)) (numbered false e)
+
+    short-buffer : isBlockNumber number ≡ true → fits ≡ false → nakOf g number s start b ≡ refused 2 s b
+    unfolding nakOf
+    short-buffer e f =
+        ap (λ (u : Bool). cond u (cond fits (cond (validReceiver s && isClosed (s .decision)) (replied s (nakReply g number) start b) (refused 11 s b)) (refused 2 s b)) (refused 1 s b)) (numbered true e)
+        ∙ ap (λ (u : Bool). cond u (cond (validReceiver s && isClosed (s .decision)) (replied s (nakReply g number) start b) (refused 11 s b)) (refused 2 s b)) f
+
+    abbrev enough : Bool
+    enough = leb 9 (length st) && (leb 2 (length p) && fits)
+
+    enough-is : enough ≡ fits
+    enough-is = rw (le-leb 9 (length st) state-long, le-leb 2 (length p) (h .receiver .report))
+
+    call-is : nakOn k number start (x .receiver .memory) ≡ cond (isBlockNumber number) (cond fits (nakAs p n) (called 2 [] b p)) (called 1 [] b p)
+    unfolding nakCall
+    call-is =
+        ap (λ (m : Made). nakWith m number st b start p) (link-made k ag rd)
+        ∙ ap (λ (u : Bool). cond (u && isBlockNumber number) (cond enough (nakWords g number b start p (receiverIn st)) (called 2 [] b p)) (called 1 [] b p)) (rd .settings)
+        ∙ ap (λ (u : Bool). cond (isBlockNumber number) (cond u (nakWords g number b start p (receiverIn st)) (called 2 [] b p)) (called 1 [] b p)) enough-is
+        ∙ ap (λ (r : Decoded). cond (isBlockNumber number) (cond fits (nakWords g number b start p r) (called 2 [] b p)) (called 1 [] b p)) state-read
+
+    nak-is : nakOn k number start (x .receiver .memory) ≡ nakAs p n
+    nak-is = call-is ∙ go (isBlockNumber number) fits refl refl
+      where
+        go : (u v : Bool) → isBlockNumber number ≡ u → fits ≡ v → cond u (cond v (nakAs p n) (called 2 [] b p)) (called 1 [] b p) ≡ nakAs p n
+        go true true e f = refl
+        go true false e f = sym (ap (nakAs p) (short-buffer e f))
+        go false v e f = sym (ap (nakAs p) (bad-number e))
+
+    abbrev nakked : Called → Drivers
+    nakked c =
+        let e = x .receiver in
+        let m = x .receiver .memory in
+        drivers (x .sender) (receiverEnd (receiverMemory st (m .decision) (c .report) (m .reader) (c .buffer)) (e .stored) (e .«stored_has») (e .noted) (e .reports) (e .pending ++ replyBy start c) (e .arrived))
+        (x .forward) (x .back)
+
+    abbrev doneNak : Called
+    doneNak = called 0 [] (n .buffer) (over p (reportWords (n .answer .«reply_length») 0))
+
+    abbrev refusedNak : Called
+    refusedNak = called (n .answer .refusal) [] (n .buffer) p
+
+    abbrev nakSystem : System
+    nakSystem =
+        let e = y .receiving in
+        link (y .sending) (receiving (e .receiver) (e .persisted) (e .message) (e .reports) (e .pending ++ repliesOf start n) (e .arrived)) (y .forward) (y .back)
+
+    nakked-shows : Shows l (nakked doneNak) nakSystem
+    nakked-shows =
+        record {
+          sender = h .sender;
+          receiver = record {
+            state = h .receiver .state;
+            decision = h .receiver .decision;
+            report = let z = over-length p (reportWords (n .answer .«reply_length») 0) (h .receiver .report) in let m = h .receiver .report in omega arith;
+            stored = h .receiver .stored;
+            stored-has = h .receiver .stored-has;
+            note = h .receiver .note;
+            reports = h .receiver .reports;
+            pending = more-pending start (n .answer .«reply_length») (n .buffer);
+            arrived = h .receiver .arrived;
+            reader = h .receiver .reader;
+          };
+          forward = h .forward;
+          back = h .back;
+        }
+
+    naks-shows : Shows l (nakkedBy x start (nakAs p n)) (nakTaken y start n)
+    naks-shows = go (eqb (n .answer .refusal) 0) refl
+      where
+        go : (u : Bool) → eqb (n .answer .refusal) 0 ≡ u → Shows l (nakkedBy x start (nakAs p n)) (nakTaken y start n)
+        go true f =
+            subst (λ (u : Bool). Shows l (nakkedBy x start (cond u doneNak refusedNak)) (cond u nakSystem y)) (sym f) nakked-shows
+        go false f =
+            subst (λ (u : Bool). Shows l (nakkedBy x start (cond u doneNak refusedNak)) (cond u nakSystem y)) (sym f)
+            (subst (λ (u : Bool). Shows l (cond u (nakked refusedNak) x) y) (sym f) h)
+
+    pub naks-goes : Goes l (actsOf k (naks number start) x) (afterDriver k (naks number start) x) y
+    naks-goes =
+        by-act l (afterDriver k (naks number start) x) y (receiverNaks number start b)
+        (subst (λ (c : Called). Shows l (nakkedBy x start c) (nakTaken y start n)) (sym nak-is) naks-shows)
+
+  -- ---- going on from what is stored; and a crash: the memory is new
+  pub word-restored : (z : List ℕ) → 9 ≤ length z → Behind (receiverWords (closed (y .receiving .persisted .expected))) (restoredReceiver (x .receiver) z)
+  word-restored z m =
+      subst (λ (d : List ℕ). Behind (receiverWords (closed (y .receiving .persisted .expected))) (over z (d ++ 0 ∷ 0 ∷ 0 ∷ 0 ∷ 0 ∷ 0 ∷ 0 ∷ 0 ∷ []))) (sym (h .receiver .stored))
+      (over-behind (receiverWords (closed (y .receiving .persisted .expected))) z m)
+
+  pub receiver-restores-goes : Goes l (linkRestores ∷ []) (afterDriver k receiverRestores x) y
+  receiver-restores-goes =
+      by-act l (afterDriver k receiverRestores x) y linkRestores
       (record {
         sender = h .sender;
         receiver = record {
-          state = h .receiver .state;
+          state = word-restored st state-long;
+          decision = h .receiver .decision;
           report = h .receiver .report;
-          has = h .receiver .has;
-          stored = ap (take 1) (h .receiver .state .is);
-          stored-has = h .receiver .has;
+          stored = h .receiver .stored;
+          stored-has = h .receiver .stored-has;
+          note = refl;
+          reports = refl;
           pending = h .receiver .pending;
           arrived = h .receiver .arrived;
           reader = h .receiver .reader;
@@ -412,42 +826,19 @@ module _ (k : Passed) (ag : Agrees k) (rd : Ready (k .link)) (x : Drivers) (y : 
         back = h .back;
       })
 
-  pub word-restored : (s : List ℕ) → 1 ≤ length s → Behind (expectedWord (y .receiving .persisted .expected) ∷ []) (over s (x .receiver .stored))
-  word-restored s m =
-      subst (λ (d : List ℕ). Behind (expectedWord (y .receiving .persisted .expected) ∷ []) (over s d)) (sym (h .receiver .stored))
-      (over-behind (expectedWord (y .receiving .persisted .expected) ∷ []) s m)
-
-  pub receiver-restores-goes : Goes l (receiverRestores ∷ []) (afterDriver k restoresReceiver x) y
-  receiver-restores-goes =
-      by-act l (afterDriver k restoresReceiver x) y receiverRestores
-      (record {
-        sender = h .sender;
-        receiver = record {
-          state = word-restored (x .receiver .memory .state) (behind-length (h .receiver .state));
-          report = h .receiver .report;
-          has = h .receiver .stored-has;
-          stored = h .receiver .stored;
-          stored-has = h .receiver .stored-has;
-          pending = refl;
-          arrived = h .receiver .arrived;
-          reader = h .receiver .reader;
-        };
-        forward = h .forward;
-        back = h .back;
-      })
-
-  -- ---- a crash: the memory is new
   pub receiver-crashes-goes : (m : ReceiverMemory) → Goes l (actsOf k (receiverCrashes m) x) (afterDriver k (receiverCrashes m) x) y
   receiver-crashes-goes m = go (enoughToReceive g m) refl
     where
       go : (b : Bool) → enoughToReceive g m ≡ b
-          → Goes l (once b endCrashes) (cond b (drivers (x .sender) (receiverEnd (receiverMemory (over (m .state) (x .receiver .stored)) (m .report) (freshReader (m .reader)) (m .reply)) (x .receiver .«stored_has»)
-          (x .receiver .stored) (x .receiver .«stored_has») [] []) emptyLine (line (x .back .reader) [])) x) y
+          → Goes l (once b endCrashes) (cond b (drivers (x .sender) (receiverEnd (receiverMemory (restoredReceiver (x .receiver) (m .state)) (m .decision) (m .report) (freshReader (m .reader)) (m .reply))
+          (x .receiver .stored) (x .receiver .«stored_has») nothingNoted false [] []) emptyLine (line (x .back .reader) [])) x) y
       go false e = stays l x y h
       go true e =
-          let states = leb 1 (length (m .state)) in
-          let reports = leb 3 (length (m .report)) in
-          let rest = and-right states (reports && enoughToRead g (m .reader)) e in
+          let states = leb 9 (length (m .state)) in
+          let decisions = leb 5 (length (m .decision)) in
+          let reports = leb 2 (length (m .report)) in
+          let rest = and-right states (decisions && (reports && enoughToRead g (m .reader))) e in
+          let more = and-right decisions (reports && enoughToRead g (m .reader)) rest in
           by-act l _ y endCrashes
           (record {
             sender = record {
@@ -460,92 +851,125 @@ module _ (k : Passed) (ag : Agrees k) (rd : Ready (k .link)) (x : Drivers) (y : 
               reader = record { stands = h .sender .reader .stands; within = h .sender .reader .within };
             };
             receiver = record {
-              state = word-restored (m .state) (leb-true 1 (length (m .state)) (and-left states (reports && enoughToRead g (m .reader)) e));
-              report = leb-true 3 (length (m .report)) (and-left reports (enoughToRead g (m .reader)) rest);
-              has = h .receiver .stored-has;
+              state = word-restored (m .state) (leb-true 9 (length (m .state)) (and-left states (decisions && (reports && enoughToRead g (m .reader))) e));
+              decision = leb-true 5 (length (m .decision)) (and-left decisions (reports && enoughToRead g (m .reader)) rest);
+              report = leb-true 2 (length (m .report)) (and-left reports (enoughToRead g (m .reader)) more);
               stored = h .receiver .stored;
               stored-has = h .receiver .stored-has;
+              note = refl;
+              reports = refl;
               pending = refl;
               arrived = each-none;
-              reader = fresh-enough k ag rd (m .reader) (and-right reports (enoughToRead g (m .reader)) rest);
+              reader = fresh-enough k ag rd (m .reader) (and-right reports (enoughToRead g (m .reader)) more);
             };
             forward = refl;
             back = ap (λ (z : Line). line (z .reader) []) (h .back);
           })
 
   -- ---- a reply goes out
-  module _ (b : List ℕ) (bs : List (List ℕ)) (queue : x .receiver .pending ≡ b ∷ bs) where
-    abbrev replied : Drivers
-    replied =
-        let e = x .receiver in
-        drivers (x .sender) (receiverEnd (e .memory) (e .has) (e .stored) (e .«stored_has») bs (e .arrived)) (x .forward) (line (x .back .reader) (x .back .bytes ++ b))
+  replied-shows : (c : List ℕ) (bs : List (List ℕ)) → x .receiver .pending ≡ c ∷ bs → Shows l (replySent x (c ∷ bs)) (replyWritten y (c ∷ bs))
+  replied-shows c bs queue =
+      record {
+        sender = record {
+          state = h .sender .state;
+          report = h .sender .report;
+          stored = h .sender .stored;
+          named = h .sender .named;
+          arrived = h .sender .arrived;
+          reports = h .sender .reports;
+          reader = record { stands = h .sender .reader .stands; within = h .sender .reader .within };
+        };
+        receiver = record {
+          state = h .receiver .state;
+          decision = h .receiver .decision;
+          report = h .receiver .report;
+          stored = h .receiver .stored;
+          stored-has = h .receiver .stored-has;
+          note = h .receiver .note;
+          reports = h .receiver .reports;
+          pending = refl;
+          arrived = h .receiver .arrived;
+          reader = h .receiver .reader;
+        };
+        forward = h .forward;
+        back = ap (λ (z : Line). line (z .reader) (z .bytes ++ c)) (h .back);
+      }
 
-    abbrev repliedEnd : System
-    repliedEnd =
-        let e = y .receiving in
-        link (y .sending) (receiving (e .volatile) (e .persisted) bs (e .arrived)) (y .forward) (line (y .back .reader) (y .back .bytes ++ b))
-
-    replied-shows : Shows l replied repliedEnd
-    replied-shows =
-        record {
-          sender = record {
-            state = h .sender .state;
-            report = h .sender .report;
-            stored = h .sender .stored;
-            named = h .sender .named;
-            arrived = h .sender .arrived;
-            reports = h .sender .reports;
-            reader = record { stands = h .sender .reader .stands; within = h .sender .reader .within };
-          };
-          receiver = record {
-            state = h .receiver .state;
-            report = h .receiver .report;
-            has = h .receiver .has;
-            stored = h .receiver .stored;
-            stored-has = h .receiver .stored-has;
-            pending = refl;
-            arrived = h .receiver .arrived;
-            reader = h .receiver .reader;
-          };
-          forward = h .forward;
-          back = ap (λ (z : Line). line (z .reader) (z .bytes ++ b)) (h .back);
-        }
-
-    abbrev words : Bool
-    words = same (take 1 (x .receiver .memory .state)) (x .receiver .stored)
-
-    abbrev transactions : Bool
-    transactions = eqb (length (x .receiver .has)) (length (x .receiver .«stored_has»))
-
-    -- the driver's test is the link's
-    stored-same : words ≡ true → transactions ≡ true → sameStored (y .receiving .volatile) (y .receiving .persisted) ≡ true
-    stored-same a c =
-        let v = y .receiving .volatile in
-        let p = y .receiving .persisted in
-        let w = sym (ap (take 1) (h .receiver .state .is)) ∙ same-is (take 1 (x .receiver .memory .state)) (x .receiver .stored) a ∙ h .receiver .stored in
-        let e : y .receiving .volatile .expected ≡ y .receiving .persisted .expected =
-        same-word (y .receiving .volatile .expected) (y .receiving .persisted .expected) (i .ends .volatile .valid) (i .ends .persisted .valid) (ap (λ (z : List ℕ). getD z 0 0) w) in
-        let n : eqb (length (y .receiving .volatile .has)) (length (y .receiving .persisted .has)) ≡ true =
-        ap (λ (z : List (List ℕ)). eqb (length z) (length (y .receiving .persisted .has))) (sym (h .receiver .has))
-        ∙ ap (λ (z : List (List ℕ)). eqb (length (x .receiver .has)) (length z)) (sym (h .receiver .stored-has)) ∙ c in
-        rw (e, expected-self (y .receiving .persisted .expected), n)
-
-    written-is : sameStored (y .receiving .volatile) (y .receiving .persisted) ≡ true → afterAct every l receiverWrites y ≡ repliedEnd
-    written-is s = ap (replyWritten every y) (sym (h .receiver .pending) ∙ queue) ∙ ap (λ (c : Bool). cond c repliedEnd y) s
-
-    one-replied : (c : Bool) → (words && transactions) ≡ c → Goes l (once c receiverWrites) (cond c replied x) y
-    one-replied false e = stays l x y h
-    one-replied true e =
-        by-act l replied y receiverWrites (subst (Shows l replied) (sym (written-is (stored-same (and-left words transactions e) (and-right words transactions e)))) replied-shows)
-
-  pub replies-goes : Goes l (actsOf k replies x) (afterDriver k replies x) y
-  replies-goes = go (x .receiver .pending) refl
+  pub replies-goes : Goes l (receiverWrites ∷ []) (afterDriver k replies x) y
+  replies-goes =
+      by-act l (afterDriver k replies x) y receiverWrites
+      (subst (λ (bs : List (List ℕ)). Shows l (replySent x (x .receiver .pending)) (replyWritten y bs)) (h .receiver .pending) (go (x .receiver .pending) refl))
     where
-      -- with no reply the link's act changes nothing
-      none : (c : Bool) → x .receiver .pending ≡ [] → Goes l (once c receiverWrites) x y
-      none false e = stays l x y h
-      none true e = by-act l x y receiverWrites (subst (Shows l x) (sym (ap (replyWritten every y) (sym (h .receiver .pending) ∙ e))) h)
+      go : (bs : List (List ℕ)) → x .receiver .pending ≡ bs → Shows l (replySent x bs) (replyWritten y bs)
+      go [] e = h
+      go (c ∷ bs) e = replied-shows c bs e
 
-      go : (bs : List (List ℕ)) → x .receiver .pending ≡ bs → Goes l (once (allStored x) receiverWrites) (replySent x bs) y
-      go [] e = none (allStored x) e
-      go (b ∷ bs) e = one-replied b bs e (words b bs e && transactions b bs e) refl
+  -- ---- what is called is done: no driver is stuck
+  closed-word : isOpenWord st ≡ false → isClosed (s .decision) ≡ true
+  closed-word e = go (isClosed (s .decision)) (sym (ap isOpenWord (h .receiver .state .is) ∙ open-is s (h .receiver .state .rest)) ∙ e)
+    where
+      go : (u : Bool) → not u ≡ false → u ≡ true
+      go true z = refl
+      go false z = not-both z
+
+  open-word : isOpenWord st ≡ true → isClosed (s .decision) ≡ false
+  open-word e = not-closed (isClosed (s .decision)) (sym (ap isOpenWord (h .receiver .state .is) ∙ open-is s (h .receiver .state .rest)) ∙ e)
+
+  module _ (application t : ℕ) (a : Application) (known : applicationFrom application ≡ AnApplication a) (type : isType t ≡ true) (d : List ℕ) where
+    -- a block that was accepted is decided on, while no decision is open
+    pub decide-done : isOpenWord st ≡ false → decideCall application t d st q .number ≡ 0
+    decide-done e =
+        ap (λ (c : Called). c .number) (decision-is application a known t d type)
+        ∙ cond-ind (λ (c : Called). c .number ≡ 0) (eqb (decideOf a s t d .refusal) 0) _ _ (λ z. refl) (λ z. decide-taken a s t d (i .ends .receiver-valid) (closed-word e))
+
+    -- and refused by 11, with nothing changed, while one is
+    pub decide-held : isOpenWord st ≡ true → decideCall application t d st q ≡ called 11 st [] q
+    decide-held e =
+        decision-is application a known t d type
+        ∙ ap (decidedAs st q) (decide-while-open a s t d (i .ends .receiver-valid) (open-word e))
+
+  -- ---- where GMV_DECISION_CHANGES is 0, storing leaves what is stored: a driver that does not store then does this act all the same
+  module _ (is-open : isOpenWord st ≡ true) (unreported : x .receiver .reports ≡ false) (unchanged : x .receiver .noted .changes ≡ 0) where
+    abbrev Same : Type 0
+    Same = (x .receiver .noted .expected ∷ [] ≡ x .receiver .stored) × (withTransaction (x .receiver .«stored_has») (x .receiver .noted) ≡ x .receiver .«stored_has»)
+
+    flag-false : (u : Bool) → flag (not u) ≡ 0 → u ≡ true
+    flag-false true e = refl
+    flag-false false e = absurd (omega arith)
+
+    row-same : (id : ControlId) (r : Row) → s .decision ≡ Decision id r → s .expected ≡ y .receiving .persisted .expected → Same
+    row-same id r e now =
+        let w = opened s id r (i .ends .receiver-valid) e in
+        let table = is-row (s .expected) (w .expected) r (w .in-table) in
+        let note : x .receiver .noted ≡ noted (transactionWord (r .persisted .transaction)) (expectedWord (r .persisted .expected)) (flag (not (sameExpected (r .persisted .expected) (s .expected)))) (y .receiving .message) =
+        subst (SameNote (x .receiver .noted) (y .receiving .message) (s .expected)) e (h .receiver .note) in
+        let same : r .persisted .expected ≡ s .expected =
+        expected-is (r .persisted .expected) (s .expected) (flag-false (sameExpected (r .persisted .expected) (s .expected)) (sym (ap (λ (n : Noted). n .changes) note) ∙ unchanged)) in
+        let none : r .persisted .transaction ≡ NoTransaction =
+        ap (λ (z : Row). z .persisted .transaction) (table .is)
+        ∙ unchanged-row (table .application) (s .expected) (table .field) (sym (ap (λ (z : Row). z .persisted .expected) (table .is)) ∙ same) in (
+          ap (λ (n : Noted). n .expected ∷ []) note ∙ ap (λ (z : Expected). expectedWord z ∷ []) (same ∙ now) ∙ sym (h .receiver .stored),
+          ap (withTransaction (x .receiver .«stored_has»)) note
+              ∙ ap (λ (z : Transaction). cond (eqb (transactionWord z) 0) (x .receiver .«stored_has») (x .receiver .«stored_has» ++ y .receiving .message ∷ [])) none,
+        )
+
+    pub stores-nothing : Same
+    stores-nothing = go (i .opening)
+      where
+        go : {v p : Reach} {os : List Answer} → Opening l (y .receiving) v p os → Same
+        go (none-open a u c) = not-both (sym (ap (λ (z : Receiver). isClosed (z .decision)) a) ∙ open-word is-open)
+        go (to-store n r a u c d f) = row-same (inWords (textOf n)) r (ap (λ (z : Receiver). z .decision) a) (ap (λ (z : Receiver). z .expected) a)
+        go (to-report n r a u c d f) = not-both (sym u ∙ sym (h .receiver .reports) ∙ unreported)
+
+  -- ---- the open decision can be reported, where the buffer has its length
+  pub answer-done : isOpenWord st ≡ true → (success : Bool) (start : ℕ) → start + replySpace g ≤ length b → answerOn k success start (x .receiver .memory) .number ≡ 0
+  answer-done e success start m =
+      let fits = le-leb (start + replySpace g) (length b) m in
+      ap (λ (c : Called). c .number) (answer-is success start)
+      ∙ cond-ind (λ (c : Called). c .number ≡ 0) (eqb (answerOf g success s start b .answer .refusal) 0) _ _ (λ z. refl)
+      (λ z. ap (λ (n : Outcome Answered). n .answer .refusal) (reported-is g (rd .settings) s (i .ends .receiver-valid) start b success fits) ∙ open-taken (s .decision) (open-word e) success)
+    where
+      open-taken : (t : Open) → isClosed t ≡ false → (q : Bool) → reportedOf g q s start b t .answer .refusal ≡ 0
+      open-taken NoDecision z q = not-both z
+      open-taken (Decision id r) z true = refl
+      open-taken (Decision id r) z false = refl

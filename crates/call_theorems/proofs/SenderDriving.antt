@@ -140,10 +140,12 @@ module _ (k : Passed) (ag : Agrees k) (rd : Ready (k .link)) (x : Drivers) (y : 
           sender = record { state = h .sender .state; report = h .sender .report; stored = h .sender .stored; named = rest; arrived = h .sender .arrived; reports = h .sender .reports; reader = h .sender .reader };
           receiver = record {
             state = h .receiver .state;
+            decision = h .receiver .decision;
             report = h .receiver .report;
-            has = h .receiver .has;
             stored = h .receiver .stored;
             stored-has = h .receiver .stored-has;
+            note = h .receiver .note;
+            reports = h .receiver .reports;
             pending = h .receiver .pending;
             arrived = h .receiver .arrived;
             reader = record { stands = h .receiver .reader .stands; within = h .receiver .reader .within };
@@ -355,10 +357,12 @@ module _ (k : Passed) (ag : Agrees k) (rd : Ready (k .link)) (x : Drivers) (y : 
             };
             receiver = record {
               state = h .receiver .state;
+              decision = h .receiver .decision;
               report = h .receiver .report;
-              has = h .receiver .has;
               stored = h .receiver .stored;
               stored-has = h .receiver .stored-has;
+              note = h .receiver .note;
+              reports = h .receiver .reports;
               pending = h .receiver .pending;
               arrived = h .receiver .arrived;
               reader = record { stands = h .receiver .reader .stands; within = h .receiver .reader .within };

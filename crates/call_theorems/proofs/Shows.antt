@@ -25,14 +25,18 @@ use Rattle.sender.specs.declared.Event.{Event}
 use Rattle.sender.specs.declared.Event.the-variants.{NoEvent, Delivered, DeliveredUnknown, Abandoned, Froze, Dropped}
 use Rattle.sender.specs.declared.Acted.{Acted}
 use Rattle.sender_calls.specs.SenderCalls.{waitingWord, persistedWords, senderWords, sendWords, eventWords, actWords}
-use Rattle.receiver.specs.ReceiverCalls.{expectedWord}
+use Rattle.receiver.specs.Receiver.{sameExpected}
+use Rattle.receiver.specs.declared.Expected.{Expected}
+use Rattle.receiver.specs.declared.Open.{Open}
+use Rattle.receiver.specs.declared.Open.the-variants.{NoDecision, Decision}
+use Rattle.receiver_calls.specs.ReceiverCalls.{expectedWord, transactionWord, flag, receiverWords}
 use Rattle.link.specs.SenderHistory.{Entry, reported, crashed}
 use Rattle.link.specs.Line.{Line}
 use Rattle.link.specs.System.{Link, System, SendingEnd, ReceivingEnd, sendsOf, namedAfter, actedEnd}
 use Rattle.link.proofs.Queues.{Each, each-none, each-more}
 use Rattle.call_theorems.specs.Verdicts.{readerGives}
 use Rattle.call_theorems.specs.Reading.{Shown, shown}
-use Rattle.call_theorems.specs.Driver.{ReaderMemory, Named, CallReport, SenderEnd, ReceiverEnd, Drivers, withVerdict, namedBy, waitsWords, reportOf, senderCalled}
+use Rattle.call_theorems.specs.Driver.{ReaderMemory, Named, CallReport, SenderEnd, ReceiverEnd, Noted, noted, Drivers, withVerdict, namedBy, waitsWords, reportOf, senderCalled}
 use Rattle.call_theorems.proofs.OneCall.{over-length}
 use Rattle.call_theorems.proofs.Streams.{StandsAt}
 
@@ -69,12 +73,20 @@ pub record SenderShows (g : Settings) (e : SenderEnd) (y : SendingEnd) (x : Line
   pub reports : Each SameReport (e .reports) (y .history)
   pub reader : StandsOn g (e .memory .reader) x
 
+-- what the driver noted of the open decision
+abbrev pub SameNote : Noted → List ℕ → Expected → Open → Type 0
+SameNote n d e NoDecision = n ≡ n
+SameNote n d e (Decision id r) =
+    n ≡ noted (transactionWord (r .persisted .transaction)) (expectedWord (r .persisted .expected)) (flag (not (sameExpected (r .persisted .expected) e))) d
+
 pub record ReceiverShows (g : Settings) (e : ReceiverEnd) (y : ReceivingEnd) (x : Line) : Type 0 where
-  pub state : Behind (expectedWord (y .volatile .expected) ∷ []) (e .memory .state)
-  pub report : 3 ≤ length (e .memory .report)
-  pub has : e .has ≡ y .volatile .has
+  pub state : Behind (receiverWords (y .receiver)) (e .memory .state)
+  pub decision : 5 ≤ length (e .memory .decision)
+  pub report : 2 ≤ length (e .memory .report)
   pub stored : e .stored ≡ expectedWord (y .persisted .expected) ∷ []
   pub stored-has : e .«stored_has» ≡ y .persisted .has
+  pub note : SameNote (e .noted) (y .message) (y .receiver .expected) (y .receiver .decision)
+  pub reports : e .reports ≡ y .reports
   pub pending : e .pending ≡ y .pending
   pub arrived : Each (SameVerdict g) (e .arrived) (y .arrived)
   pub reader : StandsOn g (e .memory .reader) x

@@ -16,7 +16,7 @@ use Rattle.settings.specs.DataBytes.{allAllowed}
 use Rattle.settings.specs.declared.Kind.{Kind}
 use Rattle.settings.specs.declared.Kind.the-variants.{Hybrid, Minimal}
 use Rattle.settings.specs.declared.Settings.{Settings}
-use Rattle.refusal.specs.Refusal.{numberOf, typeOf}
+use Rattle.refusal.specs.Refusal.{numberOf, typeOf, lengthOf}
 use Rattle.refusal.specs.declared.Verdict.{Verdict}
 use Rattle.refusal.specs.declared.Verdict.the-variants.{Accepted, Refused}
 use Rattle.block.specs.Format.{countField}
@@ -30,9 +30,6 @@ use Rattle.stream.specs.declared.Answer.{Answer}
 use Rattle.stream.specs.declared.Answer.the-variants.{Refused as RefusedCall, Pending, Found}
 use Rattle.words.specs.Words.{verdictFrom}
 use Rattle.words.specs.declared.VerdictMade.the-variants.{Known}
-use Rattle.receiver.specs.Receiver.{decisionOf, receiveOf}
-use Rattle.receiver.specs.declared.Application.{Application}
-use Rattle.receiver.specs.declared.Expected.{Expected}
 use Rattle.sender.specs.Sender.{blockReadOf}
 use Rattle.sender.specs.declared.Sender.{Sender}
 use Rattle.call_theorems.specs.Verdicts.{passedOn, readerGives}
@@ -125,13 +122,12 @@ pub read-again : (g : Settings) (r : Reader) (xs b : List ℕ) (s : ℕ) (v : Ve
     → verdictFrom (numberOf v) (typeOf v) ≡ Known (passedOn v)
 read-again g r xs b s v e = made-again v (reader-gives g r xs b s v e)
 
--- and both ends decide on it as on the verdict itself
-pub receives-the-same : (g : Settings) (a : Application) (s : Expected) (v : Verdict) (d : List ℕ) (start : ℕ) (b : List ℕ)
-    → receiveOf g a s (passedOn v) d start b ≡ receiveOf g a s v d start b
-unfolding receiveOf decisionOf
-receives-the-same g a s (Accepted t n) d start b = refl
-receives-the-same g a s (Refused n i) d start b = refl
+-- an accepted block goes to the receiver's decision with its type and data; a refused one has a number
+pub accepted-number : (v : Verdict) → readerGives v ≡ true → eqb (numberOf v) 0 ≡ true → v ≡ Accepted (typeOf v) (lengthOf v)
+accepted-number (Accepted t n) h z = refl
+accepted-number (Refused n i) h z = let least = leb-true 3 n (and-left (leb 3 n) (leb n 8) h) in let same = eqb-true n 0 z in absurd (omega arith)
 
+-- and the sender acts on it as on the verdict itself
 pub sends-the-same : (r : ℕ) (s : Sender) (v : Verdict) (d : List ℕ) → blockReadOf r s (passedOn v) d ≡ blockReadOf r s v d
 unfolding blockReadOf
 sends-the-same r s (Accepted t n) d = refl

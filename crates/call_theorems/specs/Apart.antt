@@ -1,9 +1,10 @@
 -- The two drivers of Driver.antt change circuit at different moments: the sender's opens the next one, and the receiver's still acts on the old one until it notices.
 use mathlib.Core.List.{List, [], _∷_}
 use mathlib.Core.Bool.{Bool, true, false, _&&_}
-use Rattle.call_theorems.specs.Driver.{Passed, ReaderMemory, ReceiverEnd, Drivers, drivers, receiverMemory, receiverEnd, freshReader, afterDriver, drivenBy}
+use Rattle.link.specs.Line.{emptyLine}
+use Rattle.call_theorems.specs.Driver.{Passed, ReaderMemory, SenderEnd, ReceiverEnd, Drivers, drivers, receiverMemory, receiverEnd, freshReader, afterDriver, drivenBy}
 use Rattle.call_theorems.specs.Driver.{DriverAct, opens, ends, resets, timer, submits, stores, restores, receiverStores, receiverRestores, replies, sends, forgets, reads, takes, drops}
-use Rattle.call_theorems.specs.Driver.{receiverReads, receiverDrops, receives, replaces, receiverReplaces, tries, crashes, receiverCrashes, damagesForward, damagesBack}
+use Rattle.call_theorems.specs.Driver.{receiverReads, receiverDrops, decides, answers, naks, replaces, receiverReplaces, tries, crashes, receiverCrashes, damagesForward, damagesBack}
 
 -- what the sender's driver does by itself on a circuit, and what happens on its lines
 abbrev pub ofSender : DriverAct → Bool
@@ -28,9 +29,11 @@ ofSender receiverRestores = false
 ofSender replies = false
 ofSender (receiverReads n) = false
 ofSender (receiverDrops n) = false
-ofSender (receives a start) = false
-ofSender (receiverReplaces p v b) = false
-ofSender (tries a start) = false
+ofSender (decides a) = false
+ofSender (answers b start) = false
+ofSender (naks n start) = false
+ofSender (receiverReplaces d p v b) = false
+ofSender (tries a) = false
 ofSender (receiverCrashes m) = false
 
 -- and the receiver's
@@ -40,9 +43,11 @@ ofReceiver receiverRestores = true
 ofReceiver replies = true
 ofReceiver (receiverReads n) = true
 ofReceiver (receiverDrops n) = true
-ofReceiver (receives a start) = true
-ofReceiver (receiverReplaces p v b) = true
-ofReceiver (tries a start) = true
+ofReceiver (decides a) = true
+ofReceiver (answers b start) = true
+ofReceiver (naks n start) = true
+ofReceiver (receiverReplaces d p v b) = true
+ofReceiver (tries a) = true
 ofReceiver (receiverCrashes m) = true
 ofReceiver (damagesForward xs) = true
 ofReceiver (damagesBack xs) = true
@@ -68,12 +73,23 @@ allOf p (a ∷ ds) = p a && allOf p ds
 abbrev pub withReceiver : ReceiverEnd → Drivers → Drivers
 withReceiver e x = drivers (x .sender) e (x .forward) (x .back)
 
--- the receiver's driver goes over to the new circuit: what it decided and stored on the old one stands, all else of it is dropped
+-- the receiver's driver goes over to the new circuit: what it decided and stored on the old one stands, and a decision that is open stays open; all else of it is dropped
 abbrev pub goneOver : ReaderMemory → ReceiverEnd → ReceiverEnd
 goneOver q e =
     let n = e .memory in
-    receiverEnd (receiverMemory (n .state) (n .report) (freshReader q) (n .reply)) (e .has) (e .stored) (e .«stored_has») [] []
+    receiverEnd (receiverMemory (n .state) (n .decision) (n .report) (freshReader q) (n .reply)) (e .stored) (e .«stored_has») (e .noted) (e .reports) [] []
 
 -- the sender's driver opens a circuit and does the acts ds on it; the receiver's does the acts rs on the old one and then goes over
 abbrev pub opensApart : Passed → ReaderMemory → ReaderMemory → Drivers → List DriverAct → List DriverAct → Drivers
 opensApart k r q x ds rs = withReceiver (goneOver q (drivenBy k x rs .receiver)) (drivenBy k (afterDriver k (opens r q) x) ds)
+
+abbrev pub withSender : SenderEnd → Drivers → Drivers
+withSender e x = drivers e (x .receiver) (x .forward) (x .back)
+
+-- the receiver's driver is on the new circuit, with its own lines, before the sender's has opened it
+abbrev pub goneFirst : ReaderMemory → Drivers → Drivers
+goneFirst q x = drivers (x .sender) (goneOver q (x .receiver)) emptyLine emptyLine
+
+-- the sender's driver does the acts ds on the old circuit and then opens the next; the receiver's does the acts rs on that one, so reports a decision that it made on the old one, and replies
+abbrev pub opensLater : Passed → ReaderMemory → ReaderMemory → Drivers → List DriverAct → List DriverAct → Drivers
+opensLater k r q x ds rs = withSender (afterDriver k (opens r q) (drivenBy k x ds) .sender) (drivenBy k (goneFirst q x) rs)

@@ -1,7 +1,7 @@
 -- include/giamuvich.h: two drivers that run a link by the C functions and keep their duties. All that they have is words and bytes: what they lend to a call, what they
 -- store and restore, what a report showed them, and a verdict handed on as its number, its type and its data.
 use mathlib.Core.List.{List, [], _∷_, _++_, map}
-use mathlib.Core.Bool.{Bool, cond, not, _&&_}
+use mathlib.Core.Bool.{Bool, true, false, cond, not, _&&_}
 use Prim.Native.Nat.{ℕ, _+_}
 use Prim.Native.Char.{code}
 use lib.ListN.{length, take, drop, getD}
@@ -16,7 +16,7 @@ use Rattle.block_calls.specs.WriteCalls.{writeCall}
 use Rattle.message_calls.specs.MessageCalls.{minusOne}
 use Rattle.message_calls.specs.ControlCalls.{controlBlockCall}
 use Rattle.sender_calls.specs.SenderCalls.{freshCall, openCall, endedCall, resetCall, timerCall, blockCall, submitCall}
-use Rattle.receiver.specs.ReceiverCalls.{receiveCall}
+use Rattle.receiver_calls.specs.ReceiverCalls.{flag, decideCall, answerCall, nakCall}
 use Rattle.link.specs.Duties.{oneAt, othersAt}
 use Rattle.link.specs.Line.{Reader, Line, line, newReader, emptyLine, readerAfter, damages, disorders}
 use Rattle.link.specs.System.{Link}
@@ -54,12 +54,18 @@ sendNumber c = reportWord 1 c
 abbrev pub blockLength : Called → ℕ
 blockLength c = reportWord 0 c
 
--- GMV_RECEIVED_TRANSACTION, GMV_RECEIVED_REPLY_LENGTH
-abbrev pub transactionNumber : Called → ℕ
-transactionNumber c = reportWord 0 c
+-- GMV_DECISION_OPENED, GMV_DECISION_TRANSACTION, GMV_DECISION_EXPECTED, GMV_DECISION_CHANGES
+abbrev pub openedWord : Called → ℕ
+openedWord c = reportWord 1 c
 
-abbrev pub replyLength : Called → ℕ
-replyLength c = reportWord 1 c
+abbrev pub transactionNumber : Called → ℕ
+transactionNumber c = reportWord 2 c
+
+abbrev pub expectedNumber : Called → ℕ
+expectedNumber c = reportWord 3 c
+
+abbrev pub changesWord : Called → ℕ
+changesWord c = reportWord 4 c
 
 -- ---- what a driver has
 -- for a reader: GMV_READER words, the buffer, GMV_VERDICT words
@@ -98,19 +104,28 @@ pub record SenderEnd : Type 0 where
   pub arrived : List Shown
   pub reports : List CallReport
 
--- in memory at the receiver's end: GMV_RECEIVER and GMV_RECEIVED words, a reader's, and a buffer for replies
+-- in memory at the receiver's end: GMV_RECEIVER words, GMV_DECISION words, GMV_REPORT words, a reader's, and a buffer for replies
 pub record ReceiverMemory : Type 0 where
   pub state : List ℕ
+  pub decision : List ℕ
   pub report : List ℕ
   pub reader : ReaderMemory
   pub reply : List ℕ
 
--- and the transactions, as held and as stored; the stored word; the replies not yet sent, the verdicts not yet acted on
+-- what a decision said is to be stored: GMV_DECISION_TRANSACTION, GMV_DECISION_EXPECTED and GMV_DECISION_CHANGES, and the block's data
+pub record Noted : Type 0 where
+  pub transaction : ℕ
+  pub expected : ℕ
+  pub changes : ℕ
+  pub message : List ℕ
+
+-- and what it stores, the state's first word and the transactions; what the last decision said, and whether that is stored; the replies not yet sent, the verdicts not yet acted on
 pub record ReceiverEnd : Type 0 where
   pub memory : ReceiverMemory
-  pub has : List (List ℕ)
   pub stored : List ℕ
   pub «stored_has» : List (List ℕ)
+  pub noted : Noted
+  pub reports : Bool
   pub pending : List (List ℕ)
   pub arrived : List Shown
 
@@ -127,11 +142,17 @@ senderMemory s p r b w = record { state = s; report = p; reader = r; block = b; 
 abbrev pub senderEnd : SenderMemory → List ℕ → List Named → List Shown → List CallReport → SenderEnd
 senderEnd m d ns ws rs = record { memory = m; stored = d; named = ns; arrived = ws; reports = rs }
 
-abbrev pub receiverMemory : List ℕ → List ℕ → ReaderMemory → List ℕ → ReceiverMemory
-receiverMemory s p r b = record { state = s; report = p; reader = r; reply = b }
+abbrev pub receiverMemory : List ℕ → List ℕ → List ℕ → ReaderMemory → List ℕ → ReceiverMemory
+receiverMemory s d p r b = record { state = s; decision = d; report = p; reader = r; reply = b }
 
-abbrev pub receiverEnd : ReceiverMemory → List (List ℕ) → List ℕ → List (List ℕ) → List (List ℕ) → List Shown → ReceiverEnd
-receiverEnd m ts d us bs ws = record { memory = m; has = ts; stored = d; «stored_has» = us; pending = bs; arrived = ws }
+abbrev pub noted : ℕ → ℕ → ℕ → List ℕ → Noted
+noted t e c d = record { transaction = t; expected = e; changes = c; message = d }
+
+abbrev pub nothingNoted : Noted
+nothingNoted = noted 0 0 0 []
+
+abbrev pub receiverEnd : ReceiverMemory → List ℕ → List (List ℕ) → Noted → Bool → List (List ℕ) → List Shown → ReceiverEnd
+receiverEnd m d ts n r bs ws = record { memory = m; stored = d; «stored_has» = ts; noted = n; reports = r; pending = bs; arrived = ws }
 
 abbrev pub drivers : SenderEnd → ReceiverEnd → Line → Line → Drivers
 drivers s e x b = record { sender = s; receiver = e; forward = x; back = b }
@@ -144,7 +165,7 @@ abbrev pub enoughToSend : Settings → SenderMemory → Bool
 enoughToSend g m = leb 7 (length (m .state)) && (leb 8 (length (m .report)) && enoughToRead g (m .reader))
 
 abbrev pub enoughToReceive : Settings → ReceiverMemory → Bool
-enoughToReceive g m = leb 1 (length (m .state)) && (leb 3 (length (m .report)) && enoughToRead g (m .reader))
+enoughToReceive g m = leb 9 (length (m .state)) && (leb 5 (length (m .decision)) && (leb 2 (length (m .report)) && enoughToRead g (m .reader)))
 
 -- ---- reading
 -- gmv_reader_fresh
@@ -210,7 +231,7 @@ openedBy x r q c =
     let n = x .receiver .memory in
     let e = x .receiver in
     drivers (senderEnd (senderMemory (c .state) (c .report) (freshReader r) (m .block) (m .written)) (x .sender .stored) (namedBy c) [] (reportOf c ∷ x .sender .reports))
-    (receiverEnd (receiverMemory (n .state) (n .report) (freshReader q) (n .reply)) (e .has) (e .stored) (e .«stored_has») [] []) emptyLine emptyLine
+    (receiverEnd (receiverMemory (n .state) (n .decision) (n .report) (freshReader q) (n .reply)) (e .stored) (e .«stored_has») (e .noted) (e .reports) [] []) emptyLine emptyLine
 
 -- the block of a message named: gmv_*_control_block for -1 and 0, gmv_*_write for a transaction, from an offset of the buffer on
 abbrev pub blockOfNamed : Passed → ℕ → SenderMemory → Named → Called
@@ -251,54 +272,97 @@ restoredWords e s = over s (e .stored ++ 0 ∷ 0 ∷ [])
 
 -- ---- the receiver's end
 abbrev pub replyBy : ℕ → Called → List (List ℕ)
-replyBy start c = cond (eqb (replyLength c) 0) [] (take (replyLength c) (drop start (c .buffer)) ∷ [])
+replyBy start c = cond (eqb (blockLength c) 0) [] (take (blockLength c) (drop start (c .buffer)) ∷ [])
 
--- GMV_RECEIVED_TRANSACTION is 0 where there is none
-abbrev pub withTransaction : List (List ℕ) → List ℕ → Called → List (List ℕ)
-withTransaction ts d c = cond (eqb (transactionNumber c) 0) ts (ts ++ d ∷ [])
+-- GMV_DECISION_TRANSACTION is 0 where there is none
+abbrev pub withTransaction : List (List ℕ) → Noted → List (List ℕ)
+withTransaction ts n = cond (eqb (n .transaction) 0) ts (ts ++ n .message ∷ [])
 
 abbrev pub requestRead : Passed → Drivers → Called → Drivers
 requestRead k x c =
     let e = x .receiver in
     let m = x .receiver .memory in
     cond (eqb (c .number) 0)
-    (drivers (x .sender) (receiverEnd (receiverMemory (m .state) (m .report) (afterReading c) (m .reply)) (e .has) (e .stored) (e .«stored_has») (e .pending) (e .arrived ++ newVerdict c))
-    (linePast (k .link .settings) (usedBytes c) (x .forward)) (x .back)) x
+    (drivers (x .sender) (receiverEnd (receiverMemory (m .state) (m .decision) (m .report) (afterReading c) (m .reply)) (e .stored) (e .«stored_has») (e .noted) (e .reports) (e .pending)
+    (e .arrived ++ newVerdict c)) (linePast (k .link .settings) (usedBytes c) (x .forward)) (x .back)) x
 
--- gmv_*_receive: a call that is refused changes nothing, and the block may be offered again
-abbrev pub receivedBy : Drivers → ℕ → List ℕ → List Shown → Called → Drivers
-receivedBy x start d ws c =
+-- gmv_receiver_decide, on the data of an accepted block. A call that is refused changes nothing, and the block may be offered again; one that opens nothing (an N block, or 9) is done with its block
+abbrev pub notedBy : Noted → List ℕ → Called → Noted
+notedBy n d c = cond (eqb (openedWord c) 0) n (noted (transactionNumber c) (expectedNumber c) (changesWord c) d)
+
+abbrev pub decidedBy : Drivers → List ℕ → List Shown → Called → Drivers
+decidedBy x d ws c =
     let e = x .receiver in
-    cond (eqb (c .number) 0)
-    (drivers (x .sender) (receiverEnd (receiverMemory (c .state) (c .report) (e .memory .reader) (c .buffer)) (withTransaction (e .has) d c) (e .stored) (e .«stored_has»)
-    (e .pending ++ replyBy start c) ws) (x .forward) (x .back)) x
-
-abbrev pub requestTaken : Passed → ℕ → ℕ → Drivers → List Shown → Drivers
-requestTaken k application start x [] = x
-requestTaken k application start x (w ∷ ws) =
     let m = x .receiver .memory in
-    receivedBy x start (w .content) ws
-    (receiveCall (linkOf (madeFrom (k .numbers))) application (m .state) (w .number) (w .type) (w .content) (m .reply) start (m .report))
+    cond (eqb (c .number) 0)
+    (drivers (x .sender) (receiverEnd (receiverMemory (c .state) (c .report) (m .report) (m .reader) (m .reply)) (e .stored) (e .«stored_has») (notedBy (e .noted) d c) (e .reports) (e .pending) ws)
+    (x .forward) (x .back)) x
+
+abbrev pub decisionOn : ℕ → ReceiverMemory → Shown → Called
+decisionOn application m w = decideCall application (w .type) (w .content) (m .state) (m .decision)
+
+-- no decision is made on a refused block: its number is answered by an N reply, and it is dropped
+abbrev pub oldestDecided : ℕ → Drivers → List Shown → Drivers
+oldestDecided application x [] = x
+oldestDecided application x (w ∷ ws) = cond (eqb (w .number) 0) (decidedBy x (w .content) ws (decisionOn application (x .receiver .memory) w)) x
 
 abbrev pub triedBy : Drivers → Called → Drivers
 triedBy x c =
     let e = x .receiver in
     let m = x .receiver .memory in
-    drivers (x .sender) (receiverEnd (receiverMemory (m .state) (c .report) (m .reader) (c .buffer)) (e .has) (e .stored) (e .«stored_has») (e .pending) (e .arrived)) (x .forward) (x .back)
+    drivers (x .sender) (receiverEnd (receiverMemory (m .state) (c .report) (m .report) (m .reader) (m .reply)) (e .stored) (e .«stored_has») (e .noted) (e .reports) (e .pending) (e .arrived)) (x .forward) (x .back)
 
-abbrev pub requestTried : Passed → ℕ → ℕ → Drivers → List Shown → Drivers
-requestTried k application start x [] = x
-requestTried k application start x (w ∷ ws) =
+abbrev pub oldestTried : ℕ → Drivers → List Shown → Drivers
+oldestTried application x [] = x
+oldestTried application x (w ∷ ws) = triedBy x (decisionOn application (x .receiver .memory) w)
+
+-- what the open decision said is stored, as one act. GMV_RECEIVER_CODE is 0 where none is open
+abbrev pub isOpenWord : List ℕ → Bool
+isOpenWord st = not (eqb (getD st 1 0) 0)
+
+abbrev pub decisionStored : Drivers → Drivers
+decisionStored x =
+    let e = x .receiver in
+    cond (isOpenWord (e .memory .state) && not (e .reports))
+    (drivers (x .sender) (receiverEnd (e .memory) (e .noted .expected ∷ []) (withTransaction (e .«stored_has») (e .noted)) (e .noted) true (e .pending) (e .arrived)) (x .forward) (x .back)) x
+
+-- gmv_*_answer: stored once it is, not stored where nothing of it is
+abbrev pub mayReport : Bool → Bool → Bool
+mayReport success stored = cond success stored (not stored)
+
+abbrev pub answeredBy : Drivers → Bool → ℕ → Called → Drivers
+answeredBy x success start c =
+    let e = x .receiver in
     let m = x .receiver .memory in
-    triedBy x (receiveCall (linkOf (madeFrom (k .numbers))) application (m .state) (w .number) (w .type) (w .content) (m .reply) start (m .report))
+    cond (mayReport success (e .reports) && eqb (c .number) 0)
+    (drivers (x .sender) (receiverEnd (receiverMemory (c .state) (m .decision) (c .report) (m .reader) (c .buffer)) (e .stored) (e .«stored_has») (e .noted) false (e .pending ++ replyBy start c) (e .arrived))
+    (x .forward) (x .back)) x
 
--- the oldest reply goes out once the word and the transactions are stored
+abbrev pub answerOn : Passed → Bool → ℕ → ReceiverMemory → Called
+answerOn k success start m = answerCall (linkOf (madeFrom (k .numbers))) (flag success) (m .state) (m .reply) start (m .report)
+
+-- gmv_hybrid_nak; on a minimal link nothing is replied, and no call is made
+abbrev pub nakkedBy : Drivers → ℕ → Called → Drivers
+nakkedBy x start c =
+    let e = x .receiver in
+    let m = x .receiver .memory in
+    cond (eqb (c .number) 0)
+    (drivers (x .sender) (receiverEnd (receiverMemory (m .state) (m .decision) (c .report) (m .reader) (c .buffer)) (e .stored) (e .«stored_has») (e .noted) (e .reports) (e .pending ++ replyBy start c) (e .arrived))
+    (x .forward) (x .back)) x
+
+abbrev pub nakOn : Passed → ℕ → ℕ → ReceiverMemory → Called
+nakOn k number start m = nakCall (linkOf (madeFrom (k .numbers))) number (m .state) (m .reply) start (m .report)
+
+-- the oldest reply goes out
 abbrev pub replySent : Drivers → List (List ℕ) → Drivers
 replySent x [] = x
 replySent x (b ∷ bs) =
     let e = x .receiver in
-    cond (same (take 1 (e .memory .state)) (e .stored) && eqb (length (e .has)) (length (e .«stored_has»)))
-    (drivers (x .sender) (receiverEnd (e .memory) (e .has) (e .stored) (e .«stored_has») bs (e .arrived)) (x .forward) (line (x .back .reader) (x .back .bytes ++ b))) x
+    drivers (x .sender) (receiverEnd (e .memory) (e .stored) (e .«stored_has») (e .noted) (e .reports) bs (e .arrived)) (x .forward) (line (x .back .reader) (x .back .bytes ++ b))
+
+-- the stored word, and 0 for the others
+abbrev pub restoredReceiver : ReceiverEnd → List ℕ → List ℕ
+restoredReceiver e s = over s (e .stored ++ 0 ∷ 0 ∷ 0 ∷ 0 ∷ 0 ∷ 0 ∷ 0 ∷ 0 ∷ [])
 
 -- ---- the acts, in any order
 pub data DriverAct : Type 0 where
@@ -310,13 +374,15 @@ pub data DriverAct : Type 0 where
   -- at an offset of the buffer for blocks; which message named; at most so many bytes; which verdict
   sends forgets reads takes drops : ℕ → DriverAct
   receiverReads receiverDrops : ℕ → DriverAct
-  -- the application's verdict, and the reply's offset
-  receives : ℕ → ℕ → DriverAct
-  -- other memory for what calls only write: a report, a verdict, a buffer for blocks and its report; a report, a verdict and a buffer for replies
+  -- the application's verdict; stored or not, and the answer's offset; the number of a refused block, and the reply's offset
+  decides : ℕ → DriverAct
+  answers : Bool → ℕ → DriverAct
+  naks : ℕ → ℕ → DriverAct
+  -- other memory for what calls only write: a report, a verdict, a buffer for blocks and its report; two reports, a verdict and a buffer for replies
   replaces : List ℕ → List ℕ → List ℕ → List ℕ → DriverAct
-  receiverReplaces : List ℕ → List ℕ → List ℕ → DriverAct
-  -- gmv_*_receive on a copy of the state, to see whether a transaction is due before the application is asked
-  tries : ℕ → ℕ → DriverAct
+  receiverReplaces : List ℕ → List ℕ → List ℕ → List ℕ → DriverAct
+  -- gmv_receiver_decide on a copy of the state, to see whether a transaction is due before the application is asked
+  tries : ℕ → DriverAct
   -- the memory is new, of any content
   crashes : SenderMemory → DriverAct
   receiverCrashes : ReceiverMemory → DriverAct
@@ -357,36 +423,36 @@ afterDriver k (crashes m) x =
     (drivers (senderEnd (senderMemory (restoredWords e (m .state)) (m .report) (freshReader (m .reader)) (m .block) (m .written)) (e .stored) [] [] (restarted ∷ e .reports)) (x .receiver)
     (line (x .forward .reader) []) emptyLine) x
 afterDriver k (receiverReads n) x = requestRead k x (readBytes (k .numbers) n (x .receiver .memory .reader) (x .forward))
-afterDriver k (receives application start) x = requestTaken k application start x (x .receiver .arrived)
+afterDriver k (decides application) x = oldestDecided application x (x .receiver .arrived)
+afterDriver k (answers success start) x = answeredBy x success start (answerOn k success start (x .receiver .memory))
+afterDriver k (naks number start) x = nakkedBy x start (nakOn k number start (x .receiver .memory))
 afterDriver k (receiverDrops n) x =
     let e = x .receiver in
-    drivers (x .sender) (receiverEnd (e .memory) (e .has) (e .stored) (e .«stored_has») (e .pending) (othersAt n (e .arrived))) (x .forward) (x .back)
-afterDriver k receiverStores x =
-    let e = x .receiver in
-    drivers (x .sender) (receiverEnd (e .memory) (e .has) (take 1 (e .memory .state)) (e .has) (e .pending) (e .arrived)) (x .forward) (x .back)
+    drivers (x .sender) (receiverEnd (e .memory) (e .stored) (e .«stored_has») (e .noted) (e .reports) (e .pending) (othersAt n (e .arrived))) (x .forward) (x .back)
+afterDriver k receiverStores x = decisionStored x
 afterDriver k replies x = replySent x (x .receiver .pending)
--- storing failed: on the same circuit, and no reply that was pending goes out
+-- it cannot be told whether it was stored: the driver reports nothing, and goes on from what is stored, on the same circuit
 afterDriver k receiverRestores x =
     let e = x .receiver in
     let m = x .receiver .memory in
-    drivers (x .sender) (receiverEnd (receiverMemory (over (m .state) (e .stored)) (m .report) (m .reader) (m .reply)) (e .«stored_has») (e .stored) (e .«stored_has») [] (e .arrived))
+    drivers (x .sender) (receiverEnd (receiverMemory (restoredReceiver e (m .state)) (m .decision) (m .report) (m .reader) (m .reply)) (e .stored) (e .«stored_has») nothingNoted false (e .pending) (e .arrived))
     (x .forward) (x .back)
 afterDriver k (receiverCrashes m) x =
     let e = x .receiver in
     cond (enoughToReceive (k .link .settings) m)
-    (drivers (x .sender) (receiverEnd (receiverMemory (over (m .state) (e .stored)) (m .report) (freshReader (m .reader)) (m .reply)) (e .«stored_has») (e .stored) (e .«stored_has») [] [])
+    (drivers (x .sender) (receiverEnd (receiverMemory (restoredReceiver e (m .state)) (m .decision) (m .report) (freshReader (m .reader)) (m .reply)) (e .stored) (e .«stored_has») nothingNoted false [] [])
     emptyLine (line (x .back .reader) [])) x
 afterDriver k (replaces p v b w) x =
     let e = x .sender in
     let m = x .sender .memory in
     cond (leb 8 (length p) && leb 8 (length v))
     (drivers (senderEnd (senderMemory (m .state) p (withVerdict v (m .reader)) b w) (e .stored) (e .named) (e .arrived) (e .reports)) (x .receiver) (x .forward) (x .back)) x
-afterDriver k (receiverReplaces p v b) x =
+afterDriver k (receiverReplaces d p v b) x =
     let e = x .receiver in
     let m = x .receiver .memory in
-    cond (leb 3 (length p) && leb 8 (length v))
-    (drivers (x .sender) (receiverEnd (receiverMemory (m .state) p (withVerdict v (m .reader)) b) (e .has) (e .stored) (e .«stored_has») (e .pending) (e .arrived)) (x .forward) (x .back)) x
-afterDriver k (tries application start) x = requestTried k application start x (x .receiver .arrived)
+    cond (leb 5 (length d) && (leb 2 (length p) && leb 8 (length v)))
+    (drivers (x .sender) (receiverEnd (receiverMemory (m .state) d p (withVerdict v (m .reader)) b) (e .stored) (e .«stored_has») (e .noted) (e .reports) (e .pending) (e .arrived)) (x .forward) (x .back)) x
+afterDriver k (tries application) x = oldestTried application x (x .receiver .arrived)
 afterDriver k (damagesForward xs) x = cond (damages (k .link .settings) (x .forward) xs) (drivers (x .sender) (x .receiver) (line (x .forward .reader) xs) (x .back)) x
 afterDriver k (damagesBack xs) x = cond (disorders (k .link .settings) (x .back) xs) (drivers (x .sender) (x .receiver) (x .forward) (line (x .back .reader) xs)) x
 
@@ -402,10 +468,10 @@ pub record DriversLeft : Type 0 where
   pub pending : List (List ℕ)
   pub answers : List Judged
 
--- gmv_sender_fresh, whose words are stored; a receiver whose word is stored, with none of the log; gmv_reader_fresh at both ends
+-- gmv_sender_fresh, whose words are stored; a receiver whose word is stored, with no decision open and none of the log; gmv_reader_fresh at both ends
 abbrev pub driversStart : Passed → DriversLeft → SenderMemory → ReceiverMemory → ℕ → Drivers
 driversStart k d m n e =
     let s = freshCall (k .link .first) (m .state) .state in
     drivers (senderEnd (senderMemory s (m .report) (freshReader (m .reader)) (m .block) (m .written)) (take 5 s) [] (map (shown (k .link .settings)) (d .answers)) [])
-    (receiverEnd (receiverMemory (over (n .state) (e ∷ [])) (n .report) (freshReader (n .reader)) (n .reply)) [] (e ∷ []) [] (d .pending) [])
+    (receiverEnd (receiverMemory (over (n .state) (e ∷ 0 ∷ 0 ∷ 0 ∷ 0 ∷ 0 ∷ 0 ∷ 0 ∷ 0 ∷ [])) (n .decision) (n .report) (freshReader (n .reader)) (n .reply)) (e ∷ []) [] nothingNoted false (d .pending) [])
     emptyLine (line newReader (d .back))

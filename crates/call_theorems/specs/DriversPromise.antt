@@ -56,16 +56,12 @@ frozenWord ws = getD ws 4 0
 
 -- "the receiver has the first k transactions, each once, in order, and the sender's mark covers k or k less one .. The sender never freezes."
 pub record DriversSafe (l : Link) (x : Drivers) : Type 0 where
-  pub held : ℕ
-  pub stored : ℕ
-  pub has : x .receiver .has ≡ transactions l held
-  pub stored-has : x .receiver .«stored_has» ≡ transactions l stored
-  pub covers : Covers l (deliveredWord (x .sender .memory .state)) held
-  pub covers-stored : Covers l (deliveredWord (x .sender .memory .state)) stored
-  pub stored-covers : Covers l (deliveredWord (x .sender .stored)) held
-  pub stored-covers-stored : Covers l (deliveredWord (x .sender .stored)) stored
+  pub count : ℕ
+  pub has : x .receiver .«stored_has» ≡ transactions l count
+  pub covers : Covers l (deliveredWord (x .sender .memory .state)) count
+  pub stored-covers : Covers l (deliveredWord (x .sender .stored)) count
   -- nothing is there that was not submitted: GMV_SENDER_LAST, as stored
-  pub submitted : l .first + held ≤ lastWord (x .sender .stored) + 1
+  pub submitted : l .first + count ≤ lastWord (x .sender .stored) + 1
   pub unfrozen : frozenWord (x .sender .memory .state) ≡ 0
   pub stored-unfrozen : frozenWord (x .sender .stored) ≡ 0
 

@@ -12,6 +12,8 @@ use settings::Settings;
 const DATA_LIMIT: usize = 128;
 // The application accepts what is due.
 const CODE_AA: u64 = 1;
+// And what was decided is stored.
+const STORED: u64 = 1;
 // Where the MSA segment of a reply to a control ID of 15 bytes stands, without its CR.
 const MSA_START: usize = 48;
 
@@ -37,24 +39,31 @@ fn print_word(word: u64) {
     print_number(word);
 }
 
-// The act's number, the transaction to persist, the expected number then, and the end of the answer: MSA-1 to MSA-4.
+// The decision's number, the report's, the transaction to persist, the expected number then, and the end of the answer: MSA-1 to
+// MSA-4.
 fn print_received(made: Made, expected: u64, content: &[u8]) -> u64 {
-    let mut state = [expected];
-    let mut report = [0u64; 3];
+    let mut state = [expected, 0, 0, 0, 0, 0, 0, 0, 0];
+    let mut decision = [0u64; 5];
+    let mut report = [0u64; 2];
     let mut buffer = [0u8; DATA_LIMIT + 15];
-    let number = receiver::received_words(
-        made,
+    let decided = receiver_calls::decide_words(
         CODE_AA,
-        &mut state,
-        0,
         b'D' as u64,
         content,
+        &mut state,
+        &mut decision,
+    );
+    let answered = receiver_calls::answer_words(
+        made,
+        STORED,
+        &mut state,
         &mut buffer,
         0,
         &mut report,
     );
-    print_number(number);
-    print_word(report[0]);
+    print_number(decided);
+    print_number(answered);
+    print_word(decision[2]);
     print_word(state[0]);
     print_text(b" ");
     print_acknowledgment(&buffer);

@@ -1,6 +1,7 @@
 -- Document 01, 'Cases by hand (P: proved)', and 02, §2: "The P cases are proved of the definitions as one list under one claim". A later case is one equation more in the list.
 use mathlib.Core.Path.{_≡_}
 use mathlib.Core.List.{List, [], _∷_, _++_}
+use mathlib.Core.Bool.{true}
 use Prim.Native.Nat.{ℕ}
 use Prim.Native.Char.{code}
 use Prim.Native.String.{String}
@@ -14,13 +15,17 @@ use Rattle.settings.specs.declared.Settings.{Settings}
 use Rattle.refusal.specs.declared.Verdict.{Verdict}
 use Rattle.refusal.specs.declared.Verdict.the-variants.{Accepted, Refused}
 use Rattle.stream.specs.Stream.{Judged, verdicts}
-use Rattle.receiver.specs.Receiver.{received, receiveOf}
+use Rattle.numbers.specs.declared.SequenceNumber.the-variants.{Number}
+use Rattle.control_id.specs.ControlId.{inWords}
+use Rattle.header.specs.declared.Code.the-variants.{AA, AR}
+use Rattle.receiver.specs.Receiver.{row, closed, opens, decideOf, answered, answerOf}
 use Rattle.receiver.specs.declared.Application.the-variants.{Accepts}
 use Rattle.receiver.specs.declared.Expected.{Expected}
 use Rattle.receiver.specs.declared.Expected.the-variants.{Unknown, Next}
-use Rattle.receiver.specs.declared.Transaction.{Transaction}
 use Rattle.receiver.specs.declared.Transaction.the-variants.{NoTransaction, Numbered}
-use Rattle.receiver.specs.declared.Received.{Received}
+use Rattle.receiver.specs.declared.Row.{Row}
+use Rattle.receiver.specs.declared.Decided.{Decided}
+use Rattle.receiver.specs.declared.Answered.{Answered}
 use Rattle.sender.specs.Sender.{freshSender, openOf, timerActOf}
 use Rattle.sender.specs.declared.NumberedMessage.the-variants.{Nothing}
 use Rattle.sender.specs.declared.Event.the-variants.{Abandoned}
@@ -82,16 +87,23 @@ p2 = bytes "\u{b}D23\rA\r00007015\u{1c}\r"
 abbrev pub p3 : List ℕ
 p3 = 0x0B ∷ 0x4E ∷ 0x32 ∷ 0x33 ∷ 0x0D ∷ 0x58 ∷ 0x30 ∷ 0x30 ∷ 0x30 ∷ 0x30 ∷ 0x36 ∷ 0x30 ∷ 0x31 ∷ 0x37 ∷ 0x1C ∷ 0x0D ∷ []
 
--- a receiver's act on an accepted block with the number 5 in MSH-13, with the smallest D and just enough space for a reply
+-- a receiver's decision on an accepted block with the number 5 in MSH-13; and the report of success, with the smallest D and just enough space for a reply
 abbrev pub smallest : Settings
 smallest = record { kind = Hybrid; «start_block» = 0x0B; «end_block» = 0x1C; «data_limit» = 128 }
 
-abbrev pub receives5 : Expected → Outcome Received
-receives5 e = receiveOf smallest Accepts e (Accepted (code "D") 31) (bytes "MSH|^~\\&|||||||ADT|5|P|2.3.1|5\r") 0 (replicate 143 0)
+abbrev pub decides5 : Expected → Decided
+decides5 e = decideOf Accepts (closed e) (code "D") (bytes "MSH|^~\\&|||||||ADT|5|P|2.3.1|5\r")
 
--- what is stored, and the reply of 56 bytes; the other bytes of the buffer stay
-abbrev pub replies : String → Transaction → Expected → Outcome Received
-replies block t e = outcome (received 0 0 (record { transaction = t; expected = e }) 56) (bytes block ++ replicate 87 0)
+abbrev pub answers5 : Expected → Outcome Answered
+answers5 e = answerOf smallest true (decides5 e .receiver) 0 (replicate 143 0)
+
+-- the decision to the control ID 5, which is open then
+abbrev pub opens5 : Expected → Row → Decided
+opens5 e r = opens (closed e) (inWords (bytes "5")) r
+
+-- what is expected then, and the reply of 56 bytes; the other bytes of the buffer stay
+abbrev pub replies : String → Expected → Outcome Answered
+replies block e = outcome (answered 0 (closed e) 56) (bytes block ++ replicate 87 0)
 
 -- what a sender's act says of giving up: the sends made, and no circuit is open
 abbrev pub gaveUp : ℕ → Acted
@@ -150,9 +162,11 @@ cases =
     ∷ (lines (p1 ++ p3) ≡ line 0 0 0 ∷ line 15 0 1 ∷ [])
     ∷ (check (p1 ++ p3) ≡ Refused 5 0)
     -- "P9 receiver NONE, 5: AA 5, then expects 6."
-    ∷ (receives5 Unknown ≡ replies "\u{b}D23\rMSH|^~\\&|||||||ACK|5|P|2.3.1\rMSA|AA|5||5\r00046112\u{1c}\r" (Numbered 5) (Next 6))
+    ∷ (decides5 Unknown ≡ opens5 Unknown (row AA (Number 5) (Numbered 5) (Next 6)))
+    ∷ (answers5 Unknown ≡ replies "\u{b}D23\rMSH|^~\\&|||||||ACK|5|P|2.3.1\rMSA|AA|5||5\r00046112\u{1c}\r" (Next 6))
     -- "P10 expects 6, gets 5: AR 6."
-    ∷ (receives5 (Next 6) ≡ replies "\u{b}D23\rMSH|^~\\&|||||||ACK|5|P|2.3.1\rMSA|AR|5||6\r00046096\u{1c}\r" NoTransaction (Next 6))
+    ∷ (decides5 (Next 6) ≡ opens5 (Next 6) (row AR (Number 6) NoTransaction (Next 6)))
+    ∷ (answers5 (Next 6) ≡ replies "\u{b}D23\rMSH|^~\\&|||||||ACK|5|P|2.3.1\rMSA|AR|5||6\r00046096\u{1c}\r" (Next 6))
     -- "P11 r = 0, one timer: gives up, count 1.": on a circuit that has just been opened
     ∷ (timerActOf (record { first = 1; resends = 0 }) (openOf (freshSender 1) .sender) ≡ gaveUp 1)
     -- "P12 station expects 3, gets 2: ACK 2; gets 4: NAK."

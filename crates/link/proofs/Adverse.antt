@@ -12,6 +12,7 @@ use Rattle.link.specs.Duties.{every}
 use Rattle.link.specs.SenderActs.{afterCrash}
 use Rattle.link.specs.SenderHistory.{crashed}
 use Rattle.link.specs.Line.{Reader, Line, line, emptyLine, Arrival, arrival, arriving, sameArrival, someOf, oneOf, eachOf, damages, disorders}
+use Rattle.receiver.specs.Receiver.{closed}
 use Rattle.link.specs.System.{Link, System, sending, receiving, link, senderCrashes, receiverCrashes, damagesForward, damagesBack, afterAct}
 use Rattle.link.proofs.Queues.{All, none, more, all-sub, all-among, Sub, empty, skip, keep, In, here, there, Among, nobody, one}
 use Rattle.link.proofs.Bytes.{arriving-block}
@@ -159,7 +160,7 @@ module _ (l : Link) (y : System) (xs : List ℕ) (bs cs : List Arrival) (fit : A
 -- ---- a crash leaves what is persisted, and nothing else
 module _ (l : Link) (y : System) where
   pub receiver-crash-leaves : afterAct every l receiverCrashes y
-      ≡ link (y .sending) (receiving (y .receiving .persisted) (y .receiving .persisted) [] []) emptyLine (line (y .back .reader) [])
+      ≡ link (y .sending) (receiving (closed (y .receiving .persisted .expected)) (y .receiving .persisted) [] false [] []) emptyLine (line (y .back .reader) [])
   receiver-crash-leaves = refl
 
   pub sender-crash-leaves : afterAct every l senderCrashes y

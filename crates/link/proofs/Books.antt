@@ -273,14 +273,14 @@ module _ {f : ℕ} {b : Books} (c : Core f b) where
       let g = c .forward in
       lines-with Closed [] (b .forward) (b .back) (b .pending) (forward-of only-line (g .line) none (g .start) (g .start-line)) (c .back) (c .pending) refl
 
-  -- ---- a refused block is answered by an N block
-  pub nak : (r : ℕ) → Core f (withReceived b (b .volatile) (b .forward) (b .pending ++ refuses r ∷ []))
+  -- ---- an N block is given, at any time
+  pub nak : (r : ℕ) → Core f (withLines b (b .forward) (b .back ++ refuses r ∷ []))
   nak r =
-      lines-with (b .waiting) (b .named) (b .forward) (b .back) (b .pending ++ refuses r ∷ [])
-      (c .forward) (c .back) (all-end (c .pending) (omega arith))
-      (waits-with (withReceived b (b .volatile) (b .forward) (b .pending ++ refuses r ∷ []))
-      (λ t. queried-of (t .synchronized) (t .zeros) (subst (All (NamesExpected (b .volatile .expected))) (append-assoc (b .back) (b .pending) (refuses r ∷ []))
-      (all-end (t .names) refl)) (t .names-stored)))
+      let bs = b .back in
+      lines-with (b .waiting) (b .named) (b .forward) (bs ++ refuses r ∷ []) (b .pending)
+      (c .forward) (all-end (c .back) (omega arith)) (c .pending)
+      (waits-with (withLines b (b .forward) (bs ++ refuses r ∷ []))
+      (λ t. queried-of (t .synchronized) (t .zeros) (all-append (all-end (all-left bs (b .pending) (t .names)) refl) (all-right bs (b .pending) (t .names))) (all-end (t .names-stored) refl)))
 
 -- ---- a crash, and the lines are empty
 module _ {f : ℕ} {b : Books} (c : Core f b) where

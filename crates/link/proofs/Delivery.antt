@@ -32,7 +32,7 @@ use Rattle.link.specs.Duties.{every, oneAt, othersAt}
 use Rattle.link.specs.Line.{arrival, accepts, arriving}
 use Rattle.link.specs.System.{Link, System, Remains, beginning, answerTaken, SystemAct, senderActs, runOf}
 use Rattle.link.specs.Promise.{Ready, OnlyAnswers}
-use Rattle.link.proofs.Queues.{all-in, each-in, Found, found, replies, refuses, Given, ToNumber, to-zero, to-stored, to-repeat}
+use Rattle.link.proofs.Queues.{all-in, all-left, each-in, Found, found, replies, refuses, Given, ToNumber, to-zero, to-stored, to-repeat}
 use Rattle.link.proofs.Texts.{text-is}
 use Rattle.link.proofs.Messages.{IsReply}
 use Rattle.link.proofs.AnswersRead.{read-own}
@@ -83,7 +83,7 @@ module _ (l : Link) (rd : Ready l) (remains : Remains) (only : OnlyAnswers remai
     act-moves (found (replies v c m) j q) =
         let r = q .reads in
         let same : v ≡ Number (reached + 1) = text-is v (Number (reached + 1)) (sym (r .id-read) ∙ own) in
-        let given = all-in j (i .core .back) in
+        let given = all-in j (all-left (i .way .back) (i .way .pending) (i .core .back)) in
         let asks : waitsOf s ≡ Numbered v = ap (waitingMessage (s .persisted)) waits ∙ ap Numbered (sym same) in
         ap (λ (k : Verdict). deliveredAfter (blockReadOf (l .resends) s k (w .content))) is
         ∙ ap deliveredAfter (read-own (l .resends) s (w .content) v c m r (rd .resends) (i .ends .valid) (ap isOpen waits) asks n)

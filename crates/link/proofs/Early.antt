@@ -1,12 +1,13 @@
 -- Before the first circuit: an earlier tenant's answers may be left on the line back, at the receiver and at the sender. Nobody takes them, and the first circuit drops them.
 use mathlib.Core.Path.{_≡_, refl, sym, ap, _∙_, subst}
-use mathlib.Core.List.{List, [], _∷_}
+use mathlib.Core.List.{List, [], _∷_, _++_}
 use mathlib.Core.Bool.{Bool, true, false, cond, not, _&&_}
 use mathlib.Core.Logic.{_⊎_, inl, inr}
 use Prim.Native.Nat.{ℕ, _+_}
 use lib.ListN.{length}
 use lib.Dec.{leb, eqb}
 use Rattle.lists.specs.Bytes.{same}
+use Rattle.lists.specs.Outcome.{Outcome}
 use Rattle.lists.proofs.Tests.{cond-ind}
 use Rattle.settings.specs.Settings.{validLinkLimit}
 use Rattle.settings.specs.DataBytes.{allAllowed}
@@ -18,7 +19,10 @@ use Rattle.header.specs.Header.{headerOf}
 use Rattle.header.specs.declared.Header.{Header}
 use Rattle.header.specs.declared.Header.the-variants.{Unreadable, Readable}
 use Rattle.stream.specs.Stream.{Judged, run}
-use Rattle.receiver.specs.Receiver.{validExpected, receiveOf}
+use Rattle.refusal.specs.declared.Verdict.{Verdict}
+use Rattle.refusal.specs.declared.Verdict.the-variants.{Accepted, Refused}
+use Rattle.receiver.specs.Receiver.{validExpected, closed as closedReceiver, isClosed, decideOf, answerOf, nakOf}
+use Rattle.receiver.specs.declared.Answered.{Answered}
 use Rattle.receiver.specs.declared.Application.{Application}
 use Rattle.receiver.specs.declared.Expected.{Expected}
 use Rattle.sender.specs.Sender.{validSender, freshSender, isOpen, onCircuit, noState, refused, beginsToWait, isNumber, takenIn, submittedHeader, validResends, whenOpen}
@@ -33,25 +37,25 @@ use Rattle.link.specs.SenderActs.{afterCrash}
 use Rattle.link.specs.Duties.{every, oneAt, othersAt}
 use Rattle.link.specs.Line.{Line, line, newReader, emptyLine, acceptedOf, damages, disorders}
 use Rattle.link.specs.System.{Link, System, Remains, beginning, stored, sending, receiving, link, senderActed, circuitOpened, requestWritten, senderRead, answerTaken}
-use Rattle.link.specs.System.{receivedEnd, receiverRead, requestTaken, sameStored, replyWritten, SystemAct, opens, ends, resets, timer, submits, senderPersists, senderWrites, senderForgets, senderReads}
-use Rattle.link.specs.System.{senderActs, senderDiscards, senderRestores, senderCrashes, receiverReads, receiverActs, receiverDiscards, receiverPersists, receiverWrites, receiverRestores}
-use Rattle.link.specs.System.{receiverCrashes, damagesForward, damagesBack, persistsNumber, persistsTransactions, revertsTo, senderRevertsTo, bringsLate, bringsLateRequest, afterAct}
+use Rattle.link.specs.System.{decidedEnd, verdictDecided, nakTaken, repliesOf, receiverPersisted, toPersist, isTrue, reportedEnd, receiverRead, requestTaken, replyWritten, SystemAct, opens, ends, resets, timer, submits, senderPersists, senderWrites, senderForgets, senderReads}
+use Rattle.link.specs.System.{senderActs, senderDiscards, senderRestores, senderCrashes, receiverReads, receiverDecides, receiverReports, receiverNaks, receiverDiscards, receiverPersists, receiverWrites}
+use Rattle.link.specs.System.{receiverRestores, receiverCrashes, damagesForward, damagesBack, persistsNumber, persistsTransaction, landsLate, revertsTo, senderRevertsTo, bringsLate, bringsLateRequest, afterAct}
 use Rattle.link.specs.Promise.{Ready, OnlyAnswers}
 use Rattle.link.proofs.Facts.{not-both}
-use Rattle.link.proofs.Queues.{none, each-none}
+use Rattle.link.proofs.Queues.{none, all-right, each-none}
 use Rattle.link.proofs.Books.{Waits, Queried, books, Core, queried-of, lines-with, waits-with}
 use Rattle.link.proofs.Naming.{quiet}
-use Rattle.link.proofs.Invariant.{Transit, transit, booksOf, Ends, Inv, sender-acts}
+use Rattle.link.proofs.Invariant.{Transit, transit, booksOf, Ends, Opening, opening-as, Inv, sender-acts}
 use Rattle.link.proofs.RequestsRead.{request-one}
 use Rattle.link.proofs.Acts.{start, opens-keeps, resets-keeps, submits-keeps, sender-persists-keeps, sender-forgets-keeps, sender-restores-keeps, sender-crashes-keeps, receiver-reads-keeps}
-use Rattle.link.proofs.Acts.{receiver-discards-keeps, receiver-persists-keeps, receiver-restores-keeps, receiver-crashes-keeps, damages-forward-keeps}
+use Rattle.link.proofs.Acts.{receiver-discards-keeps, receiver-persists-keeps, receiver-reports-keeps, receiver-naks-keeps, receiver-restores-keeps, receiver-crashes-keeps, damages-forward-keeps}
 
 -- all else equal, without the answers: those on the line back, those read and not yet acted on, and those not yet sent
 abbrev pub withoutAnswers : System → System
 withoutAnswers y =
     let s = y .sending in
     let r = y .receiving in
-    link (sending (s .sender) (s .persisted) (s .named) [] (s .history)) (receiving (r .volatile) (r .persisted) [] (r .arrived)) (y .forward) emptyLine
+    link (sending (s .sender) (s .persisted) (s .named) [] (s .history)) (receiving (r .receiver) (r .persisted) (r .message) (r .reports) [] (r .arrived)) (y .forward) emptyLine
 
 -- no circuit is open, and but for the answers the invariant holds
 pub record Early (l : Link) (y : System) : Type 0 where
@@ -108,8 +112,8 @@ module _ (l : Link) (rd : Ready l) where
       let end = sending (afterCrash p) p [] [] [] in
       record {
         closed = refl;
-        rest = subst (λ (xs : List ℕ). Inv l (link end (receiving (stored e []) (stored e []) [] (m .requests)) (line newReader xs) emptyLine)) (sym (only .forward))
-            (subst (λ (ws : List Judged). Inv l (link end (receiving (stored e []) (stored e []) [] ws) emptyLine emptyLine)) (sym (only .requests)) (start l rd e v));
+        rest = subst (λ (xs : List ℕ). Inv l (link end (receiving (closedReceiver e) (stored e []) (m .message) false [] (m .requests)) (line newReader xs) emptyLine)) (sym (only .forward))
+            (subst (λ (ws : List Judged). Inv l (link end (receiving (closedReceiver e) (stored e []) (m .message) false [] ws) emptyLine emptyLine)) (sym (only .requests)) (start l rd e v (m .message)));
       }
 
   without-answers : (y : System) → Inv l y → Inv l (withoutAnswers y)
@@ -118,11 +122,12 @@ module _ (l : Link) (rd : Ready l) where
       let c = i .core in
       let b = booksOf l y (i .way) in
       record {
-        way = transit (i .way .forward) [] [] (i .way .volatile) (i .way .persisted);
-        core = lines-with c (b .waiting) (b .named) (b .forward) [] [] (c .forward) none none
-            (waits-with c (books (b .held) (b .persisted) (b .waiting) (b .named) (b .volatile) (b .stored) (b .forward) [] [])
-            (λ t. queried-of (t .synchronized) (t .zeros) none none));
+        way = transit (i .way .forward) [] [] (i .way .opening) (i .way .volatile) (i .way .persisted);
+        core = lines-with c (b .waiting) (b .named) (b .forward) [] (b .pending) (c .forward) none (c .pending)
+            (waits-with c (books (b .held) (b .persisted) (b .waiting) (b .named) (b .volatile) (b .stored) (b .forward) [] (b .pending))
+            (λ t. queried-of (t .synchronized) (t .zeros) (all-right (b .back) (b .pending) (t .names)) none));
         ends = i .ends;
+        opening = opening-as [] (y .receiving .arrived) (i .opening);
         forward = i .forward;
         back = each-none;
         pending = each-none;
@@ -188,22 +193,54 @@ module _ (l : Link) (rd : Ready l) where
     request-read-early [] e = i
     request-read-early (x ∷ xs) e = early (receiverRead l y (x ∷ xs)) (i .closed) (receiver-reads-keeps l rd (withoutAnswers y) (i .rest) (x ∷ xs) e)
 
-    request-early : (a : Application) (start : ℕ) (b : List ℕ) (ws : List Judged) → y .receiving .arrived ≡ ws → Early l (requestTaken every l a start b y (oneAt 0 ws) (othersAt 0 ws))
-    unfolding oneAt othersAt
-    request-early a start b [] e = i
-    request-early a start b (w ∷ ws) e =
-        let o = receiveOf (l .settings) a (y .receiving .volatile .expected) (w .verdict) (w .content) start b in
+    decided-early : (a : Application) (ws : List Judged) (d : List ℕ) (v : Verdict) → Inv l (verdictDecided a (withoutAnswers y) ws d v) → Early l (verdictDecided a y ws d v)
+    decided-early a ws d (Refused n k) j = i
+    decided-early a ws d (Accepted t n) j =
+        let x = decideOf a (y .receiving .receiver) t d in
         let bare = withoutAnswers y in
-        let then = link (bare .sending) (receivedEnd (bare .receiving) ws (w .content) start o) (bare .forward) (bare .back) in
-        cond-ind (Early l) (eqb (o .answer .refusal) 0) _ _
-        (λ z. early (link (y .sending) (receivedEnd (y .receiving) ws (w .content) start o) (y .forward) (y .back)) (i .closed)
-        (without-answers then (subst (λ (k : Bool). Inv l (cond k then bare)) z (request-one l rd a start b bare (i .rest) w ws e))))
+        let then = link (bare .sending) (decidedEnd (bare .receiving) ws d x) (bare .forward) (bare .back) in
+        cond-ind (Early l) (eqb (x .refusal) 0) _ _
+        (λ z. early (link (y .sending) (decidedEnd (y .receiving) ws d x) (y .forward) (y .back)) (i .closed) (subst (λ (k : Bool). Inv l (cond k then bare)) z j))
         (λ z. i)
 
-    reply-early : (bs : List (List ℕ)) → Early l (replyWritten every y bs)
+    request-early : (a : Application) (ws : List Judged) → y .receiving .arrived ≡ ws → Early l (requestTaken a y (oneAt 0 ws) (othersAt 0 ws))
+    unfolding oneAt othersAt
+    request-early a [] e = i
+    request-early a (w ∷ ws) e = decided-early a ws (w .content) (w .verdict) (request-one l rd a (withoutAnswers y) (i .rest) w ws e)
+
+    -- a decision is reported, and an N block given: its reply is pending, and is left out too
+    stored-early : Early l (afterAct every l receiverPersists y)
+    stored-early =
+        let e = y .receiving in
+        let bare = withoutAnswers y in
+        cond-ind (Early l) (not (isClosed (e .receiver .decision)) && not (e .reports)) _ _
+        (λ z. early (receiverPersisted y (toPersist e) true) (i .closed)
+        (subst (λ (k : Bool). Inv l (cond k (receiverPersisted bare (toPersist e) true) bare)) z (receiver-persists-keeps l rd bare (i .rest))))
+        (λ z. i)
+
+    reported-early : (success : Bool) (start : ℕ) (b : List ℕ) → Early l (afterAct every l (receiverReports success start b) y)
+    reported-early success start b =
+        let o = answerOf (l .settings) success (y .receiving .receiver) start b in
+        let bare = withoutAnswers y in
+        cond-ind (Early l) (isTrue every success (y .receiving .reports) && eqb (o .answer .refusal) 0) _ _
+        (λ z. early (reportedEnd y start o) (i .closed)
+        (without-answers (reportedEnd bare start o) (subst (λ (k : Bool). Inv l (cond k (reportedEnd bare start o) bare)) z (receiver-reports-keeps l rd bare (i .rest) success start b))))
+        (λ z. i)
+
+    nak-early : (n start : ℕ) (b : List ℕ) → Early l (afterAct every l (receiverNaks n start b) y)
+    nak-early n start b =
+        let o = nakOf (l .settings) n (y .receiving .receiver) start b in
+        let e = y .receiving in
+        let bare = withoutAnswers y in
+        let then = link (bare .sending) (receiving (e .receiver) (e .persisted) (e .message) (e .reports) ([] ++ repliesOf start o) (e .arrived)) (bare .forward) (bare .back) in
+        cond-ind (Early l) (eqb (o .answer .refusal) 0) _ _
+        (λ z. early (link (y .sending) (receiving (e .receiver) (e .persisted) (e .message) (e .reports) (e .pending ++ repliesOf start o) (e .arrived)) (y .forward) (y .back)) (i .closed)
+        (without-answers then (subst (λ (k : Bool). Inv l (cond k then bare)) z (receiver-naks-keeps l rd bare (i .rest) n start b))))
+        (λ z. i)
+
+    reply-early : (bs : List (List ℕ)) → Early l (replyWritten y bs)
     reply-early [] = i
-    reply-early (b ∷ bs) =
-        cond-ind (Early l) (sameStored (y .receiving .volatile) (y .receiving .persisted)) _ _ (λ z. early _ (i .closed) (i .rest)) (λ z. i)
+    reply-early (b ∷ bs) = early _ (i .closed) (i .rest)
 
     damages-forward-early : (xs : List ℕ) → Early l (afterAct every l (damagesForward xs) y)
     damages-forward-early xs =
@@ -232,7 +269,7 @@ module _ (l : Link) (rd : Ready l) where
     early-acts senderRestores = inl (early (afterAct every l senderRestores y) refl (sender-restores-keeps l rd (withoutAnswers y) (i .rest)))
     early-acts senderCrashes = inl (early (afterAct every l senderCrashes y) refl (sender-crashes-keeps l rd (withoutAnswers y) (i .rest)))
     early-acts receiverReads = inl (request-read-early (y .forward .bytes) refl)
-    early-acts receiverPersists = inl (early (afterAct every l receiverPersists y) (i .closed) (receiver-persists-keeps l rd (withoutAnswers y) (i .rest)))
+    early-acts receiverPersists = inl stored-early
     early-acts receiverWrites = inl (reply-early (y .receiving .pending))
     early-acts receiverRestores = inl (early (afterAct every l receiverRestores y) (i .closed) (receiver-restores-keeps l rd (withoutAnswers y) (i .rest)))
     early-acts receiverCrashes = inl (early (afterAct every l receiverCrashes y) (i .closed) (receiver-crashes-keeps l rd (withoutAnswers y) (i .rest)))
@@ -241,23 +278,28 @@ module _ (l : Link) (rd : Ready l) where
     early-acts (senderActs n) = inl (answer-early (oneAt n (y .sending .arrived)) (othersAt n (y .sending .arrived)))
     early-acts (senderDiscards n) = inl (early (afterAct every l (senderDiscards n) y) (i .closed) (i .rest))
     early-acts (receiverDiscards n) = inl (early (afterAct every l (receiverDiscards n) y) (i .closed) (receiver-discards-keeps l rd (withoutAnswers y) (i .rest) n))
-    early-acts (receiverActs n a start b) = inl (request-early a start b (y .receiving .arrived) refl)
+    early-acts (receiverDecides n a) = inl (request-early a (y .receiving .arrived) refl)
+    early-acts (receiverReports success start b) = inl (reported-early success start b)
+    early-acts (receiverNaks n start b) = inl (nak-early n start b)
     early-acts (damagesForward b) = inl (damages-forward-early b)
     early-acts (damagesBack b) = inl (damages-back-early b)
     -- a host that keeps its duties does none of these
     early-acts persistsNumber = inl i
-    early-acts persistsTransactions = inl i
+    early-acts persistsTransaction = inl i
+    early-acts (landsLate p) = inl i
     early-acts (revertsTo p) = inl i
     early-acts (senderRevertsTo p) = inl i
     early-acts (bringsLate b) = inl i
     early-acts (bringsLateRequest b) = inl i
 
--- ---- what holds before the first circuit and after it: the numbers and the stored transactions
+-- ---- what holds before the first circuit and after it: the numbers, the stored transactions and the open decision
 pub record Standing (l : Link) (y : System) : Type 0 where
   pub way : Transit
   pub core : Core (l .first) (booksOf l y way)
-  pub ends : Ends l (y .sending .sender) (y .sending .persisted) (y .receiving .volatile) (y .receiving .persisted) (way .volatile .count) (way .persisted .count)
+  pub ends : Ends l (y .sending .sender) (y .sending .persisted) (y .receiving .receiver) (y .receiving .persisted) (way .persisted .count)
+  pub opening : Opening l (y .receiving) (way .volatile) (way .persisted) (way .opening)
 
 pub stands : (l : Link) (y : System) → Early l y ⊎ Inv l y → Standing l y
-stands l y (inl i) = record { way = i .rest .way; core = i .rest .core; ends = i .rest .ends }
-stands l y (inr i) = record { way = i .way; core = i .core; ends = i .ends }
+stands l y (inl i) =
+    record { way = i .rest .way; core = i .rest .core; ends = i .rest .ends; opening = opening-as (y .receiving .pending) (y .receiving .arrived) (i .rest .opening) }
+stands l y (inr i) = record { way = i .way; core = i .core; ends = i .ends; opening = i .opening }

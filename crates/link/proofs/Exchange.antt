@@ -1,5 +1,5 @@
 -- One exchange on a good line: a message is written, read, stored and answered, and its answer is read.
-use mathlib.Core.Path.{_≡_, refl, ap, _∙_}
+use mathlib.Core.Path.{_≡_, refl, ap, _∙_, subst}
 use mathlib.Core.List.{List, [], _∷_, append-nil}
 use mathlib.Core.Bool.{Bool, true, false, cond}
 use Prim.Native.Nat.{ℕ, zero, suc, _+_}
@@ -15,15 +15,18 @@ use Rattle.numbers.specs.declared.SequenceNumber.{SequenceNumber}
 use Rattle.numbers.specs.declared.NumberField.the-variants.{Present}
 use Rattle.header.specs.declared.Code.{Code}
 use Rattle.messages.specs.Messages.{answerMessage, answerable}
-use Rattle.refusal.specs.declared.Verdict.the-variants.{Accepted}
 use Rattle.message_theorems.proofs.Answer.{answer-reads-back}
 use Rattle.stream.specs.Stream.{Judged, Mode, between, run, after}
-use Rattle.receiver.specs.Receiver.{validExpected, rowOf, answerBlock, replied, replySpace, receiveOf}
+use Rattle.numbers.proofs.Reading.{text-allowed}
+use Rattle.control_id.specs.ControlId.{inWords}
+use Rattle.receiver.specs.Receiver.{validExpected, validReceiver, rowOf, closed, opens, decideOf, answerBlock, replied, reportedOf, replySpace, answerOf as reportOf}
+use Rattle.receiver.proofs.Rows.{id-back}
 use Rattle.receiver.specs.declared.Application.{Application}
-use Rattle.receiver.specs.declared.Expected.{Expected}
-use Rattle.receiver.specs.declared.Expected.the-variants.{Unknown, Next}
 use Rattle.receiver.specs.declared.Row.{Row}
-use Rattle.receiver.specs.declared.Received.{Received}
+use Rattle.receiver.specs.declared.Open.the-variants.{Decision}
+use Rattle.receiver.specs.declared.Receiver.{Receiver}
+use Rattle.receiver.specs.declared.Decided.{Decided}
+use Rattle.receiver.specs.declared.Answered.{Answered}
 use Rattle.sender.specs.Sender.{validSender, isOpen, waitsOf, answerOf}
 use Rattle.sender.specs.declared.Persisted.{Persisted}
 use Rattle.header.specs.declared.CodeField.the-variants.{Known}
@@ -34,13 +37,13 @@ use Rattle.block_theorems.specs.Shapes.{Writable, accepted}
 use Rattle.block_theorems.proofs.RoundTrip.{reads-back}
 use Rattle.link.specs.SenderHistory.{Entry, reported}
 use Rattle.link.specs.Line.{Reader, Line, line, newReader}
-use Rattle.link.specs.Duties.{oneAt, othersAt}
+use Rattle.link.specs.Duties.{every, oneAt, othersAt}
 use Rattle.link.specs.System.{Link, System, SendingEnd, Stored, stored, sending, ReceivingEnd, receiving, link, requestOf, namedAfter, actedEnd, sameFlag, samePersisted}
-use Rattle.link.specs.System.{hasWith, receivedEnd, sameExpected, sameStored, senderPersists, senderWrites, senderActs, receiverActs, receiverPersists, receiverWrites}
+use Rattle.link.specs.System.{hasWith, requestDecided, reportedEnd, decisionReported, senderPersists, senderWrites, senderActs, receiverDecides, receiverPersists, receiverReports, receiverWrites}
 use Rattle.link.specs.Promise.{Ready}
 use Rattle.link.proofs.Messages.{Nameable, SayableAnswer, request-reads, request-control, request-writable, answer-writable, data-read}
-use Rattle.link.proofs.Receiving.{received}
-use Rattle.link.proofs.RequestsRead.{reply-is}
+use Rattle.link.proofs.Receiving.{decided, holding-valid, answer-is}
+use Rattle.link.proofs.RequestsRead.{nameable-fits, reply-is}
 use Rattle.link.proofs.AnswersRead.{read-own}
 use Rattle.link.proofs.Bytes.{alone}
 use Rattle.link.proofs.Runs.{Reaches, act, join, to, from, readerThrough, verdictsOf, read-requests, read-answers, through-mode}
@@ -52,13 +55,6 @@ flag-same false = refl
 persisted-same : (p : Persisted) → samePersisted p p ≡ true
 persisted-same p =
     rw (eq-eqb (p .first) (p .first) refl, eq-eqb (p .delivered) (p .delivered) refl, eq-eqb (p .last) (p .last) refl, flag-same (p .resynchronized), flag-same (p .frozen))
-
-expected-same : (e : Expected) → sameExpected e e ≡ true
-expected-same Unknown = refl
-expected-same (Next n) = eq-eqb n n refl
-
-stored-same : (x : Stored) → sameStored x x ≡ true
-stored-same x = rw (expected-same (x .expected), eq-eqb (length (x .has)) (length (x .has)) refl)
 
 -- a buffer for a reply
 unfoldable pub blank : ℕ → List ℕ
@@ -88,15 +84,20 @@ resting = record { reader = newReader; rests = refl }
 abbrev pub sendingAt : Sender → List SequenceNumber → List Entry → SendingEnd
 sendingAt s ns h = sending s (s .persisted) ns [] h
 
--- both ends have persisted all and acted on all, no reply is pending, and the lines are empty
-abbrev pub quietAt : SendingEnd → Stored → Resting → Resting → System
-quietAt s x far own = link s (receiving x x [] []) (line (far .reader) []) (line (own .reader) [])
+-- a receiver's end that has persisted and reported all
+abbrev pub receivingAt : Stored → List ℕ → List Judged → ReceivingEnd
+receivingAt x d ws = receiving (closed (x .expected)) x d false [] ws
+
+-- both ends have persisted all and acted on all, no decision is open, no reply is pending, and the lines are empty
+abbrev pub quietAt : SendingEnd → Stored → List ℕ → Resting → Resting → System
+quietAt s x d far own = link s (receivingAt x d []) (line (far .reader) []) (line (own .reader) [])
 
 -- some run leads to such ends
 pub record Comes (l : Link) (y : System) (s : SendingEnd) (x : Stored) : Type 0 where
+  pub message : List ℕ
   pub far : Resting
   pub own : Resting
-  pub run : Reaches l y (quietAt s x far own)
+  pub run : Reaches l y (quietAt s x message far own)
 
 module _ (l : Link) (rd : Ready l) where
   -- a block of data that is all that is on the line
@@ -153,6 +154,9 @@ module _ (l : Link) (rd : Ready l) where
       (names : waitsOf s ≡ Numbered v) (nm : Nameable (l .first) v)
       (x : Stored) (vx : validExpected (x .expected) ≡ true) (r : Row) (meets : rowOf a (x .expected) (Present v) ≡ r) (sayable : answerable (r .number) ≡ true)
       (k : Acted) (takes : answerOf s (Known (r .code)) (Present (r .number)) ≡ k) (h : List Entry) (y : System) (i : Comes l y (sendingAt s (v ∷ []) h) x) where
+    abbrev before : List ℕ
+    before = i .message
+
     abbrev far : Resting
     far = i .far
 
@@ -188,54 +192,76 @@ module _ (l : Link) (rd : Ready l) where
     at e xs r bs = link (sendingAt s [] h) e (line r xs) (line (own .reader) bs)
 
     -- written
-    step-1 : Reaches l (quietAt (sendingAt s (v ∷ []) h) x far own) (at (receiving x x [] []) requestBlock (far .reader) [])
+    step-1 : Reaches l (quietAt (sendingAt s (v ∷ []) h) x before far own) (at (receivingAt x before []) requestBlock (far .reader) [])
     unfolding oneAt othersAt
     step-1 =
-        let z = quietAt (sendingAt s (v ∷ []) h) x far own in
+        let z = quietAt (sendingAt s (v ∷ []) h) x before far own in
         to l (act l (senderWrites 0) z)
-        (ap (λ (b : Bool). cond b (at (receiving x x [] []) requestBlock (far .reader) []) z) (persisted-same (s .persisted)))
+        (ap (λ (b : Bool). cond b (at (receivingAt x before []) requestBlock (far .reader) []) z) (persisted-same (s .persisted)))
 
     -- read
     abbrev one : Judged
     one = accepted (far .reader .offset) (code "D") request
 
-    step-2 : Reaches l (at (receiving x x [] []) requestBlock (far .reader) []) (at (receiving x x [] (one ∷ [])) [] (far' .reader) [])
+    step-2 : Reaches l (at (receivingAt x before []) requestBlock (far .reader) []) (at (receivingAt x before (one ∷ [])) [] (far' .reader) [])
     step-2 =
-        from l (ap (λ (xs : List ℕ). at (receiving x x [] []) xs (far .reader) []) (append-nil requestBlock))
-        (to l (read-requests l requestBlock [] (far .reader) (sendingAt s [] h) x x [] [] (line (own .reader) []))
-        (ap (λ (ws : List Judged). at (receiving x x [] ws) [] (far' .reader) []) (block-says request able far)))
+        from l (ap (λ (xs : List ℕ). at (receivingAt x before []) xs (far .reader) []) (append-nil requestBlock))
+        (to l (read-requests l requestBlock [] (far .reader) (sendingAt s [] h) (closed (x .expected)) x before false [] [] (line (own .reader) []))
+        (ap (λ (ws : List Judged). at (receivingAt x before ws) [] (far' .reader) []) (block-says request able far)))
 
-    -- acted on
-    outcomeOf : Row → Outcome Received
-    outcomeOf z = replied 0 (z .persisted) (answerBlock (l .settings) (textOf v) z) 0 (replyBuffer l)
+    -- decided on
+    abbrev holding : Receiver
+    holding = record { expected = x .expected; decision = Decision (inWords (textOf v)) r }
 
-    decided : receiveOf (l .settings) a (x .expected) (Accepted (code "D") (length request)) request 0 (replyBuffer l) ≡ outcomeOf r
-    unfolding outcomeOf
-    decided = received l rd a (x .expected) vx 0 (replyBuffer l) (buffer-fits l) request v (request-reads l rd v nm) (able .bytes) (length request) ∙ ap outcomeOf meets
+    abbrev held : Stored → Bool → ReceivingEnd
+    held y b = receiving holding y request b [] []
 
-    step-3 : Reaches l (at (receiving x x [] (one ∷ [])) [] (far' .reader) []) (at (receiving x' x (reply ∷ []) []) [] (far' .reader) [])
-    unfolding oneAt othersAt outcomeOf
+    decides : decideOf a (closed (x .expected)) (code "D") request ≡ opens (closed (x .expected)) (inWords (textOf v)) r
+    decides = decided a (x .expected) vx request v (request-reads l rd v nm) (able .bytes) ∙ ap (opens (closed (x .expected)) (inWords (textOf v))) meets
+
+    step-3 : Reaches l (at (receivingAt x before (one ∷ [])) [] (far' .reader) []) (at (held x false) [] (far' .reader) [])
+    unfolding oneAt othersAt
     step-3 =
-        let z = at (receiving x x [] (one ∷ [])) [] (far' .reader) [] in
-        to l (act l (receiverActs 0 a 0 (replyBuffer l)) z)
-        (ap (λ (o : Outcome Received). cond (eqb (o .answer .refusal) 0) (at (receivedEnd (receiving x x [] (one ∷ [])) [] request 0 o) [] (far' .reader) []) z) decided
-        ∙ ap (λ (bs : List (List ℕ)). at (receiving x' x bs []) [] (far' .reader) [])
-        (reply-is (l .settings) (code "D") (answerMessage (textOf v) (r .code) (r .number)) 0 (replyBuffer l) (outcomeOf r) (omega arith) refl refl))
+        let z = at (receivingAt x before (one ∷ [])) [] (far' .reader) [] in
+        to l (act l (receiverDecides 0 a) z) (ap (λ (k : Decided). requestDecided z [] request k) decides)
 
-    -- persisted, and answered
-    step-4 : Reaches l (at (receiving x' x (reply ∷ []) []) [] (far' .reader) []) (at (receiving x' x' [] []) [] (far' .reader) reply)
-    step-4 =
-        let z = at (receiving x' x' (reply ∷ []) []) [] (far' .reader) [] in
-        join l (act l receiverPersists (at (receiving x' x (reply ∷ []) []) [] (far' .reader) []))
-        (to l (act l receiverWrites z) (ap (λ (b : Bool). cond b (at (receiving x' x' [] []) [] (far' .reader) reply) z) (stored-same x')))
+    -- stored
+    step-4 : Reaches l (at (held x false) [] (far' .reader) []) (at (held x' true) [] (far' .reader) [])
+    step-4 = act l receiverPersists (at (held x false) [] (far' .reader) [])
+
+    -- reported, and answered
+    reply-given : Outcome Answered
+    reply-given = replied (closed (r .persisted .expected)) reply 0 (replyBuffer l)
+
+    reports : reportOf (l .settings) true holding 0 (replyBuffer l) ≡ reply-given
+    unfolding reply-given
+    reports =
+        let control = request-control l rd v nm in
+        answer-is (l .settings) (rd .settings) holding
+        (subst (λ (z : Row). validReceiver (record { expected = x .expected; decision = Decision (inWords (textOf v)) z }) ≡ true) meets
+        (holding-valid a (x .expected) vx v control (nameable-fits (l .first) v nm))) 0 (replyBuffer l) true (buffer-fits l)
+        ∙ ap (λ (id : List ℕ). replied (closed (r .persisted .expected)) (answerBlock (l .settings) id r) 0 (replyBuffer l)) (id-back (textOf v) (text-allowed v) control)
+
+    step-5 : Reaches l (at (held x' true) [] (far' .reader) []) (at (receiving (closed (r .persisted .expected)) x' request false (reply ∷ []) []) [] (far' .reader) [])
+    unfolding reply-given
+    step-5 =
+        let z = at (held x' true) [] (far' .reader) [] in
+        to l (act l (receiverReports true 0 (replyBuffer l)) z)
+        (ap (λ (o : Outcome Answered). decisionReported every z true 0 o) reports
+        ∙ ap (λ (bs : List (List ℕ)). at (receiving (closed (r .persisted .expected)) x' request false bs []) [] (far' .reader) [])
+        (reply-is (l .settings) (code "D") (answerMessage (textOf v) (r .code) (r .number)) 0 (replyBuffer l) reply-given (omega arith) refl refl))
+
+    step-6 : Reaches l (at (receiving (closed (r .persisted .expected)) x' request false (reply ∷ []) []) [] (far' .reader) []) (at (receivingAt x' request []) [] (far' .reader) reply)
+    step-6 = act l receiverWrites (at (receiving (closed (r .persisted .expected)) x' request false (reply ∷ []) []) [] (far' .reader) [])
 
     pub exchange : Comes l y (sendingAt (k .sender) (namedAfter [] k) (reported k ∷ h)) x'
     exchange =
         record {
+          message = request;
           far = far';
           own = own';
           run =
               join l (i .run)
-              (join l step-1 (join l step-2 (join l step-3 (join l step-4
-              (read-answer s v valid on names (r .code) (r .number) says k takes h (receiving x' x' [] []) (line (far' .reader) []) own)))));
+              (join l step-1 (join l step-2 (join l step-3 (join l step-4 (join l step-5 (join l step-6
+              (read-answer s v valid on names (r .code) (r .number) says k takes h (receivingAt x' request []) (line (far' .reader) []) own)))))));
         }

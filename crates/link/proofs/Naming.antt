@@ -12,20 +12,20 @@ use Rattle.sender.specs.declared.Waiting.{Waiting}
 use Rattle.sender.specs.declared.Waiting.the-variants.{Closed, Idle, Resynchronizing, Querying, Sending}
 use Rattle.link.proofs.Facts.{not-both}
 use Rattle.link.proofs.Queues.{All, none, more, all-map, all-append, all-end, IsZero, NotOver, Bounded, bounded-more, Good, good-none, good-minus, good-zero}
-use Rattle.link.proofs.Queues.{good-minus-ones, good-end-zero, good-end}
+use Rattle.link.proofs.Queues.{good-minus-ones, good-end-zero, good-end, NamesExpected}
 use Rattle.link.proofs.Books.{forward-of, queried-of, chain, Books, books, withSender, Senders, Waits, Queried, Core, lines-with}
 
 module _ {f : ℕ} {b : Books} (c : Core f b) where
-  -- ---- a new circuit: the lines are empty, and no reply is pending
+  -- ---- a new circuit: the lines are empty, and no reply is still to be sent but that of a decision that is open
   abbrev opened : Waiting → SequenceNumber → Books
-  opened w v = books (b .held) (b .persisted) w (v ∷ []) (b .volatile) (b .stored) [] [] []
+  opened w v = books (b .held) (b .persisted) w (v ∷ []) (b .volatile) (b .stored) [] [] (b .pending)
 
   open-circuit : (w : Waiting) (v : SequenceNumber) → Good f (b .volatile .next) (v ∷ []) → Bounded (b .held) v
       → Waits (b .held .resynchronized) (v ∷ []) (Queried (opened w v)) w
       → Core f (opened w v)
   open-circuit w v g m t =
-      lines-with c w (v ∷ []) [] [] []
-      (forward-of g none (more m none) (c .forward .start) (λ y. none)) none none
+      lines-with c w (v ∷ []) [] [] (b .pending)
+      (forward-of g none (more m none) (c .forward .start) (λ y. none)) none (c .pending)
       t
 
   pub open-first : b .held .resynchronized ≡ false → Core f (opened Resynchronizing MinusOne)
@@ -33,10 +33,10 @@ module _ {f : ℕ} {b : Books} (c : Core f b) where
       open-circuit Resynchronizing MinusOne (good-minus (c .forward .start (c .senders .later z)) good-none) (record { delivered = omega arith; last = omega arith })
       (record { unsynchronized = z; minus-ones = more refl none })
 
-  pub open-later : b .held .resynchronized ≡ true → Core f (opened Querying (Number 0))
-  open-later z =
+  pub open-later : b .held .resynchronized ≡ true → All (NamesExpected (b .volatile .expected)) (b .pending) → Core f (opened Querying (Number 0))
+  open-later z n =
       open-circuit Querying (Number 0) (good-zero refl good-none) (record { delivered = omega arith; last = omega arith })
-      (queried-of z (more refl none) none none)
+      (queried-of z (more refl none) n none)
 
   -- ---- nothing is named
   quiet-named : (w : Waiting) → Waits (b .held .resynchronized) (b .named) (Queried b) w → cond (isOpen w) (b .named ++ []) [] ≡ b .named

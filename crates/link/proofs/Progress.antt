@@ -42,7 +42,7 @@ use Rattle.link.specs.SenderActs.{senderAt, afterCrash}
 use Rattle.link.specs.Duties.{every}
 use Rattle.link.specs.SenderHistory.{Entry, reported}
 use Rattle.link.specs.Line.{emptyLine}
-use Rattle.link.specs.System.{Link, System, Stored, stored, receiving, link, startOf, requestOf, namedAfter, circuitOpened, hasWith, opens, submits, senderPersists, afterAct}
+use Rattle.link.specs.System.{Link, System, Stored, stored, link, startOf, requestOf, namedAfter, circuitOpened, hasWith, opens, submits, senderPersists, afterAct}
 use Rattle.link.specs.Promise.{Logged, Ready}
 use Rattle.link.proofs.Facts.{not-both}
 use Rattle.link.proofs.SenderValid.{numbers-of, WaitsRight, right-from, right-valid}
@@ -50,7 +50,7 @@ use Rattle.link.proofs.Messages.{Nameable, minus, query, transaction, l
 use Rattle.lists.proofs.Same.{same-self}
 use Rattle.link.proofs.RequestsRead.{number-answerable, unknown-row, next-row}
 use Rattle.link.proofs.Runs.{Reaches, stay, act, join, to}
-use Rattle.link.proofs.Exchange.{resting, sendingAt, quietAt, Comes, exchange}
+use Rattle.link.proofs.Exchange.{resting, sendingAt, receivingAt, quietAt, Comes, exchange}
 
 module _ (l : Link) (rd : Ready l) where
   answer-known : (p : Persisted) (a : Application)
@@ -104,7 +104,7 @@ module _ (l : Link) (rd : Ready l) where
     pub last : ℕ
     pub is : last + 1 ≡ l .first + n
     pub history : List Entry
-    pub run : Reaches l (startOf l e) (quietAt (sendingAt (afterCrash (before last)) [] history) (stored e []) resting resting)
+    pub run : Reaches l (startOf l e) (quietAt (sendingAt (afterCrash (before last)) [] history) (stored e []) [] resting resting)
 
   pub submitted-all : (e : Expected) (n : ℕ) → l .first + n ≤ greatestSent + 1 → Submitted e n
   submitted-all e zero h = record { last = l .first - 1; is = let a = rd .first-least in omega arith; history = []; run = stay l (startOf l e) }
@@ -112,7 +112,7 @@ module _ (l : Link) (rd : Ready l) where
       let t = submitted-all e n (omega arith) in
       let a = rd .first-least in
       let i = t .is in
-      let y = quietAt (sendingAt (afterCrash (before (t .last))) [] (t .history)) (stored e []) resting resting in
+      let y = quietAt (sendingAt (afterCrash (before (t .last))) [] (t .history)) (stored e []) [] resting resting in
       let next = submits (l .settings .«data_limit») (l .log (t .last + 1)) in
       let k = submit-is (before (t .last)) (before-valid (t .last) (omega arith) (omega arith)) refl (omega arith) (omega arith) in
       record {
@@ -122,7 +122,7 @@ module _ (l : Link) (rd : Ready l) where
         run =
             join l (t .run)
             (join l (act l next y)
-            (to l (act l senderPersists (afterAct every l next y)) (ap (λ (x : Acted). quietAt (sendingAt (x .sender) (namedAfter [] x) (reported x ∷ t .history)) (stored e []) resting resting) k)));
+            (to l (act l senderPersists (afterAct every l next y)) (ap (λ (x : Acted). quietAt (sendingAt (x .sender) (namedAfter [] x) (reported x ∷ t .history)) (stored e []) [] resting resting) k)));
       }
 
   -- ---- a stage: so many are delivered, and the next waits, or nothing does
@@ -142,8 +142,8 @@ module _ (l : Link) (rd : Ready l) where
 
   module _ (a : Application) (y : System) where
     -- ---- the first exchange of a circuit, from ends that have persisted all and hold nothing else
-    module _ (q : Persisted) (hist : List Entry) (d : Stored) (vd : validExpected (d .expected) ≡ true) (z : validSender (afterCrash q) ≡ true) (unfrozen : q .frozen ≡ false)
-        (here : Reaches l y (link (sendingAt (afterCrash q) [] hist) (receiving d d [] []) emptyLine emptyLine)) where
+    module _ (q : Persisted) (hist : List Entry) (d : Stored) (m : List ℕ) (vd : validExpected (d .expected) ≡ true) (z : validSender (afterCrash q) ≡ true) (unfrozen : q .frozen ≡ false)
+        (here : Reaches l y (link (sendingAt (afterCrash q) [] hist) (receivingAt d m []) emptyLine emptyLine)) where
       open-is : (b : Bool) → q .resynchronized ≡ b → openOf (afterCrash q) ≡ beginsToWait q (firstWaiting b) NoEvent
       unfolding openOf
       open-is true e = rw (z, unfrozen, e)
@@ -151,13 +151,13 @@ module _ (l : Link) (rd : Ready l) where
 
       opened : (b : Bool) → q .resynchronized ≡ b
           → Comes l y (sendingAt (senderAt q (firstWaiting b) 1) (firstMessage b ∷ []) (reported (beginsToWait q (firstWaiting b) NoEvent) ∷ hist)) d
-      opened b e = record { far = resting; own = resting; run = go b (open-is b e) }
+      opened b e = record { message = m; far = resting; own = resting; run = go b (open-is b e) }
         where
           t : System
-          t = link (sendingAt (afterCrash q) [] hist) (receiving d d [] []) emptyLine emptyLine
+          t = link (sendingAt (afterCrash q) [] hist) (receivingAt d m []) emptyLine emptyLine
 
           go : (b : Bool) → openOf (afterCrash q) ≡ beginsToWait q (firstWaiting b) NoEvent
-              → Reaches l y (quietAt (sendingAt (senderAt q (firstWaiting b) 1) (firstMessage b ∷ []) (reported (beginsToWait q (firstWaiting b) NoEvent) ∷ hist)) d resting resting)
+              → Reaches l y (quietAt (sendingAt (senderAt q (firstWaiting b) 1) (firstMessage b ∷ []) (reported (beginsToWait q (firstWaiting b) NoEvent) ∷ hist)) d m resting resting)
           go true i = join l here (to l (act l opens t) (ap (λ (x : Acted). circuitOpened every t x) i))
           go false i = join l here (to l (act l opens t) (ap (λ (x : Acted). circuitOpened every t x) i))
 

@@ -74,6 +74,19 @@ pub among-more : {A : Type 0} {y : A} {xs ys : List A} → Among xs ys → Among
 among-more nobody = nobody
 among-more (one i a) = one (there i) (among-more a)
 
+in-front : {A : Type 0} {x : A} {ys : List A} (zs : List A) → In x ys → In x (ys ++ zs)
+in-front zs here = here
+in-front zs (there i) = there (in-front zs i)
+
+among-behind : {A : Type 0} (ys : List A) {us zs : List A} → Among us zs → Among us (ys ++ zs)
+among-behind [] a = a
+among-behind (y ∷ ys) a = among-more (among-behind ys a)
+
+-- those of two lists, each in its own
+pub among-both : {A : Type 0} {xs ys us zs : List A} → Among xs ys → Among us zs → Among (xs ++ us) (ys ++ zs)
+among-both {ys = ys} nobody b = among-behind ys b
+among-both {zs = zs} (one i a) b = one (in-front zs i) (among-both a b)
+
 pub sub-among : {A : Type 0} {xs ys : List A} → Sub xs ys → Among xs ys
 sub-among empty = nobody
 sub-among (skip s) = among-more (sub-among s)

@@ -1,83 +1,77 @@
--- What the receiver makes of a request, and of a block that is refused.
-use mathlib.Core.Path.{_≡_, refl, sym, ap, _∙_}
-use mathlib.Core.List.{List, []}
+-- What the receiver's acts are: a decision on a request, a report, and an N reply.
+use mathlib.Core.Path.{_≡_, ap, _∙_}
+use mathlib.Core.List.{List}
 use mathlib.Core.Bool.{Bool, true, false, cond}
 use Prim.Native.Nat.{ℕ, _+_}
 use Prim.Native.Char.{code}
 use lib.ListN.{length}
 use lib.Dec.{leb}
+use Rattle.settings.specs.Settings.{validLink}
+use Rattle.settings.specs.declared.Settings.{Settings}
 use Rattle.settings.specs.DataBytes.{allAllowed}
-use Rattle.settings.specs.declared.Kind.{Kind}
-use Rattle.settings.specs.declared.Kind.the-variants.{Hybrid, Minimal}
-use Rattle.refusal.specs.Refusal.{TOO-SHORT}
-use Rattle.refusal.specs.declared.Verdict.{Verdict}
-use Rattle.refusal.specs.declared.Verdict.the-variants.{Accepted, Refused}
+use Rattle.refusal.specs.Refusal.{TOO-SHORT, STATE}
 use Rattle.fields.specs.Fields.{bytesOf}
 use Rattle.numbers.specs.Numbers.{numberField, greatestSent, textOf}
 use Rattle.numbers.specs.declared.SequenceNumber.{SequenceNumber}
 use Rattle.numbers.specs.declared.NumberField.{NumberField}
 use Rattle.numbers.specs.declared.NumberField.the-variants.{Present}
+use Rattle.control_id.specs.ControlId.{inWords}
+use Rattle.control_id.specs.declared.ControlId.{ControlId}
+use Rattle.numbers.proofs.Reading.{text-allowed}
+use Rattle.messages.specs.Messages.{validControlId}
+use Rattle.receiver.specs.Internal.{fieldFits}
+use Rattle.receiver.proofs.Rows.{row-is, id-carried}
+use Rattle.receiver.proofs.Acts.{decide-while-open}
 use Rattle.header.specs.Header.{headerOf, controlIdField, sequenceField}
 use Rattle.header.specs.declared.Header.{Header}
 use Rattle.message_theorems.specs.ReadBack.{ReadsControl}
 use Rattle.message_theorems.proofs.Control.{control-header}
 use Rattle.message_theorems.proofs.HandedOut.{handed-out-allowed}
-use Rattle.receiver.specs.Receiver.{refused as refusedAct, validExpected, rowOf, answerBlock, refusedBy, headerDecision, isNak, decisionOf, replied, repliedOf, replySpace, receiveOf}
+use Rattle.receiver.specs.Receiver.{validExpected, validReceiver, closed, isClosed, rowOf, undecided, opens, headerDecided, decideOf, refused, reportedOf, replySpace, answerOf}
 use Rattle.receiver.specs.declared.Application.{Application}
 use Rattle.receiver.specs.declared.Expected.{Expected}
-use Rattle.receiver.specs.declared.Decision.the-variants.{Drops, Naks, Answers}
-use Rattle.receiver.proofs.Replying.{receive-replied}
-use Rattle.link.specs.Line.{accepts}
-use Rattle.link.specs.System.{Link}
-use Rattle.link.specs.Promise.{Ready}
-use Rattle.link.proofs.Facts.{not-both}
+use Rattle.receiver.specs.declared.Row.{Row}
+use Rattle.receiver.specs.declared.Open.{Open}
+use Rattle.receiver.specs.declared.Open.the-variants.{Decision}
+use Rattle.receiver.specs.declared.Receiver.{Receiver}
 
-module _ (l : Link) (rd : Ready l) (a : Application) (e : Expected) (valid : validExpected e ≡ true) (start : ℕ) (b : List ℕ) where
-  -- ---- a buffer that is too short
-  pub too-short : (x : Verdict) (d : List ℕ) → leb (start + replySpace (l .settings)) (length b) ≡ false → receiveOf (l .settings) a e x d start b ≡ refusedAct TOO-SHORT e b
-  unfolding receiveOf
-  too-short x d z = rw (rd .settings, z)
+pub closed-valid : (e : Expected) → validExpected e ≡ true → validReceiver (closed e) ≡ true
+unfolding validReceiver
+closed-valid e v = rw v
 
-  module _ (fits : leb (start + replySpace (l .settings)) (length b) ≡ true) where
-    decided : (x : Verdict) (d : List ℕ) → receiveOf (l .settings) a e x d start b ≡ repliedOf (l .settings) e d start b (decisionOf (l .settings .kind) a e x d)
-    decided x d = sym (receive-replied (l .settings) a e x d start b (rd .settings) fits valid)
+module _ (a : Application) where
+  -- ---- a request, where no decision is open
+  module _ (e : Expected) (valid : validExpected e ≡ true) (d : List ℕ) (v : SequenceNumber) (r : ReadsControl d v) (allowed : allAllowed d ≡ true) where
+    header : headerDecided a (closed e) d (headerOf d) ≡ opens (closed e) (inWords (textOf v)) (rowOf a e (Present v))
+    header =
+        ap (λ (z : Header). headerDecided a (closed e) d z) (control-header d v r)
+        ∙ ap (λ (z : Bool). cond z (opens (closed e) (inWords (bytesOf (controlIdField d) d)) (rowOf a e (numberField greatestSent (bytesOf (sequenceField d) d)))) (undecided 0 9 (closed e)))
+        (handed-out-allowed d (controlIdField d) allowed)
+        ∙ ap (λ (z : NumberField). opens (closed e) (inWords (bytesOf (controlIdField d) d)) (rowOf a e z)) (r .number-read)
+        ∙ ap (λ (z : List ℕ). opens (closed e) (inWords z) (rowOf a e (Present v))) (r .id-read)
 
-    -- ---- a request
-    module _ (d : List ℕ) (v : SequenceNumber) (r : ReadsControl d v) (allowed : allAllowed d ≡ true) where
-      data-no-nak : (k : Kind) → isNak k (code "D") ≡ false
-      data-no-nak Hybrid = refl
-      data-no-nak Minimal = refl
+    pub decided : decideOf a (closed e) (code "D") d ≡ opens (closed e) (inWords (textOf v)) (rowOf a e (Present v))
+    unfolding decideOf
+    decided =
+        ap (λ (z : Bool). cond z (headerDecided a (closed e) d (headerOf d)) (undecided STATE 0 (closed e))) (closed-valid e valid)
+        ∙ header
 
-      decision : (n : ℕ) → decisionOf (l .settings .kind) a e (Accepted (code "D") n) d ≡ Answers (controlIdField d) (rowOf a e (Present v))
-      unfolding decisionOf
-      decision n =
-          ap (λ (z : Bool). cond z (Drops 0) (headerDecision (l .settings .kind) a e d (headerOf d))) (data-no-nak (l .settings .kind))
-          ∙ ap (λ (z : Header). headerDecision (l .settings .kind) a e d z) (control-header d v r)
-          ∙ ap (λ (z : Bool). cond z (Answers (controlIdField d) (rowOf a e (numberField greatestSent (bytesOf (sequenceField d) d)))) (refusedBy (l .settings .kind) 9))
-          (handed-out-allowed d (controlIdField d) allowed)
-          ∙ ap (λ (z : NumberField). Answers (controlIdField d) (rowOf a e z)) (r .number-read)
+  -- the decision that it opens is a state's
+  pub holding-valid : (e : Expected) → validExpected e ≡ true → (v : SequenceNumber) → validControlId (textOf v) ≡ true → fieldFits (Present v) ≡ true
+      → validReceiver (record { expected = e; decision = Decision (inWords (textOf v)) (rowOf a e (Present v)) }) ≡ true
+  unfolding validReceiver
+  holding-valid e valid v control fits = rw (valid, id-carried (textOf v) (text-allowed v) control, row-is a e (Present v) valid fits)
 
-      pub received : (n : ℕ) → receiveOf (l .settings) a e (Accepted (code "D") n) d start b
-          ≡ replied 0 (rowOf a e (Present v) .persisted) (answerBlock (l .settings) (textOf v) (rowOf a e (Present v))) start b
-      received n =
-          let row = rowOf a e (Present v) in
-          decided (Accepted (code "D") n) d
-          ∙ ap (repliedOf (l .settings) e d start b) (decision n)
-          ∙ ap (λ (id : List ℕ). replied 0 (row .persisted) (answerBlock (l .settings) id row) start b) (r .id-read)
+  -- ---- and where one is
+  pub decided-open : (s : Receiver) (id : ControlId) (r : Row) (t : ℕ) (d : List ℕ) → validReceiver s ≡ true → s .decision ≡ Decision id r → decideOf a s t d ≡ undecided STATE 0 s
+  decided-open s id r t d v e = decide-while-open a s t d v (ap isClosed e)
 
-    -- ---- a refused block
-    pub data Refusal (x : Verdict) (d : List ℕ) : Type 0 where
-      naks : l .settings .kind ≡ Hybrid → (n : ℕ) → receiveOf (l .settings) a e x d start b ≡ repliedOf (l .settings) e d start b (Naks n) → Refusal x d
-      drops : (n : ℕ) → receiveOf (l .settings) a e x d start b ≡ repliedOf (l .settings) e d start b (Drops n) → Refusal x d
+module _ (g : Settings) (linked : validLink g ≡ true) (s : Receiver) (valid : validReceiver s ≡ true) (start : ℕ) (b : List ℕ) where
+  -- ---- a report
+  pub answer-short : (success : Bool) → leb (start + replySpace g) (length b) ≡ false → answerOf g success s start b ≡ refused TOO-SHORT s b
+  unfolding answerOf
+  answer-short success z = rw (linked, z)
 
-    refusal : (x : Verdict) (d : List ℕ) (n : ℕ) → decisionOf (l .settings .kind) a e x d ≡ refusedBy (l .settings .kind) n → Refusal x d
-    refusal x d n y = go (l .settings .kind) refl
-      where
-        go : (k : Kind) → l .settings .kind ≡ k → Refusal x d
-        go Hybrid w = naks w n (decided x d ∙ ap (repliedOf (l .settings) e d start b) (y ∙ ap (λ (k : Kind). refusedBy k n) w))
-        go Minimal w = drops n (decided x d ∙ ap (repliedOf (l .settings) e d start b) (y ∙ ap (λ (k : Kind). refusedBy k n) w))
-
-    pub refused : (x : Verdict) (d : List ℕ) → accepts x d ≡ [] → Refusal x d
-    unfolding decisionOf
-    refused (Accepted t n) d z = not-both cc
-    refused (Refused n i) d z = refusal (Refused n i) d n refl
+  pub answer-is : (success : Bool) → leb (start + replySpace g) (length b) ≡ true → answerOf g success s start b ≡ reportedOf g success s start b (s .decision)
+  unfolding answerOf
+  answer-is success z = rw (linked, z, valid)

@@ -1,7 +1,7 @@
 -- Demand 3, of every run: "It sends at once what waits .. and reports how many it made."
 use mathlib.Core.Path.{_≡_, refl, sym, ap, _∙_, subst}
 use mathlib.Core.List.{List, [], _∷_}
-use mathlib.Core.Bool.{Bool, true, false, cond, _&&_}
+use mathlib.Core.Bool.{Bool, true, false, cond, not, _&&_}
 use mathlib.Core.Logic.{_⊎_, inl, inr}
 use Prim.Native.Nat.{ℕ, _+_, _≤_, _<_}
 use native.Mathlib.Omega.{arith}
@@ -11,7 +11,9 @@ use Rattle.lists.proofs.Tests.{cond-ind}
 use Rattle.numbers.specs.declared.SequenceNumber.{SequenceNumber}
 use Rattle.numbers.specs.declared.SequenceNumber.the-variants.{Number}
 use Rattle.stream.specs.Stream.{Judged}
-use Rattle.receiver.specs.Receiver.{validExpected, receiveOf}
+use Rattle.refusal.specs.declared.Verdict.{Verdict}
+use Rattle.refusal.specs.declared.Verdict.the-variants.{Accepted, Refused}
+use Rattle.receiver.specs.Receiver.{validExpected, isClosed, decideOf, answerOf, nakOf}
 use Rattle.receiver.specs.declared.Application.{Application}
 use Rattle.receiver.specs.declared.Expected.{Expected}
 use Rattle.sender.specs.Sender.{isOpen, validSender, waitingMessage, waitsOf, openOf}
@@ -32,10 +34,10 @@ use Rattle.link.proofs.SenderCounts.{Counts, count-is, counts-step, rep
 use Rattle.link.proofs.SenderDue.{only-due, due-as-timer, timer-abandons}
 use Rattle.link.specs.Duties.{every, oneAt, othersAt}
 use Rattle.link.specs.Line.{damages, disorders}
-use Rattle.link.specs.System.{Link, System, SendingEnd, Remains, beginning, samePersisted, requestWritten, sameStored, replyWritten, senderRead, answerTaken, receiverRead, requestTaken}
+use Rattle.link.specs.System.{Link, System, SendingEnd, Remains, beginning, samePersisted, requestWritten, isTrue, replyWritten, senderRead, answerTaken, receiverRead, verdictDecided, requestTaken}
 use Rattle.link.specs.System.{SystemAct, opens, ends, resets, submits, timer as timerRuns, senderPersists, senderWrites, senderForgets, senderReads, senderActs, senderDiscards, senderRestores, senderCrashes}
-use Rattle.link.specs.System.{receiverReads, receiverActs, receiverDiscards, receiverPersists, receiverWrites, receiverRestores, receiverCrashes, damagesForward, damagesBack}
-use Rattle.link.specs.System.{persistsNumber, persistsTransactions, revertsTo, senderRevertsTo, bringsLate, bringsLateRequest, afterAct, runOf}
+use Rattle.link.specs.System.{receiverReads, receiverDecides, receiverReports, receiverNaks, receiverDiscards, receiverPersists, receiverWrites, receiverRestores, receiverCrashes, damagesForward, damagesBack}
+use Rattle.link.specs.System.{persistsNumber, persistsTransaction, landsLate, revertsTo, senderRevertsTo, bringsLate, bringsLateRequest, afterAct, runOf}
 use Rattle.link.specs.Promise.{Ready, OnlyAnswers}
 use Rattle.link.proofs.Safety.{run-stands}
 
@@ -67,9 +69,14 @@ module _ (l : Link) (P : Sender → Persisted → List Entry → Type 0)
     written [] vs = now
     written (x ∷ xs) vs = cond-ind (λ (z : System). At (z .sending)) (samePersisted (y .sending .sender .persisted) (y .sending .persisted)) _ _ (λ z. now) (λ z. now)
 
-    replied : (bs : List (List ℕ)) → At (replyWritten every y bs .sending)
+    replied : (bs : List (List ℕ)) → At (replyWritten y bs .sending)
     replied [] = now
-    replied (b ∷ bs) = cond-ind (λ (z : System). At (z .sending)) (sameStored (y .receiving .volatile) (y .receiving .persisted)) _ _ (λ z. now) (λ z. now)
+    replied (b ∷ bs) = now
+
+    -- whatever the test says, the sender's end is as it was
+    either-way : (t : Bool) (z : System) → z .sending ≡ y .sending → At (cond t z y .sending)
+    either-way true z e = subst At (sym e) now
+    either-way false z e = now
 
     answer-read : (xs : List ℕ) → At (senderRead l y xs .sending)
     answer-read [] = now
@@ -83,11 +90,13 @@ module _ (l : Link) (P : Sender → Persisted → List Entry → Type 0)
     request-read [] = now
     request-read (x ∷ xs) = now
 
-    request-taken : (a : Application) (start : ℕ) (b : List ℕ) (ws vs : List Judged) → At (requestTaken every l a start b y ws vs .sending)
-    request-taken a start b [] vs = now
-    request-taken a start b (w ∷ ws) vs =
-        cond-ind (λ (z : System). At (z .sending))
-        (eqb (receiveOf (l .settings) a (y .receiving .volatile .expected) (w .verdict) (w .content) start b .answer .refusal) 0) _ _ (λ z. now) (λ z. now)
+    decided : (a : Application) (ws : List Judged) (d : List ℕ) (v : Verdict) → At (verdictDecided a y ws d v .sending)
+    decided a ws d (Refused n k) = now
+    decided a ws d (Accepted t n) = either-way (eqb (decideOf a (y .receiving .receiver) t d .refusal) 0) _ refl
+
+    request-taken : (a : Application) (ws vs : List Judged) → At (requestTaken a y ws vs .sending)
+    request-taken a [] vs = now
+    request-taken a (w ∷ ws) vs = decided a vs (w .content) (w .verdict)
 
     at-after : (d : SystemAct) → At (afterAct every l d y .sending)
     at-after opens = cond-ind (λ (z : System). At (z .sending)) (eqb (openOf (y .sending .sender) .refusal) 0) _ _ (λ z. by opened (omega arith)) (λ z. by opened (omega arith))
@@ -100,7 +109,7 @@ module _ (l : Link) (P : Sender → Persisted → List Entry → Type 0)
     at-after senderRestores = crashes
     at-after senderCrashes = crashes
     at-after receiverReads = request-read (y .forward .bytes)
-    at-after receiverPersists = now
+    at-after receiverPersists = either-way (not (isClosed (y .receiving .receiver .decision)) && not (y .receiving .reports)) _ refl
     at-after receiverWrites = replied (y .receiving .pending)
     at-after receiverRestores = now
     at-after receiverCrashes = now
@@ -109,11 +118,15 @@ module _ (l : Link) (P : Sender → Persisted → List Entry → Type 0)
     at-after (senderActs n) = answer-taken (oneAt n (y .sending .arrived)) (othersAt n (y .sending .arrived))
     at-after (senderDiscards n) = now
     at-after (receiverDiscards n) = now
-    at-after (receiverActs n a start b) = request-taken a start b (oneAt 0 (y .receiving .arrived)) (othersAt 0 (y .receiving .arrived))
+    at-after (receiverDecides n a) = request-taken a (oneAt 0 (y .receiving .arrived)) (othersAt 0 (y .receiving .arrived))
+    at-after (receiverReports success start b) =
+        either-way (isTrue every success (y .receiving .reports) && eqb (answerOf (l .settings) success (y .receiving .receiver) start b .answer .refusal) 0) _ refl
+    at-after (receiverNaks n start b) = either-way (eqb (nakOf (l .settings) n (y .receiving .receiver) start b .answer .refusal) 0) _ refl
     at-after (damagesForward b) = cond-ind (λ (z : System). At (z .sending)) (damages (l .settings) (y .forward) b) _ _ (λ z. now) (λ z. now)
     at-after (damagesBack b) = cond-ind (λ (z : System). At (z .sending)) (disorders (l .settings) (y .back) b) _ _ (λ z. now) (λ z. now)
     at-after persistsNumber = now
-    at-after persistsTransactions = now
+    at-after persistsTransaction = now
+    at-after (landsLate p) = now
     at-after (revertsTo p) = now
     at-after (senderRevertsTo p) = now
     at-after (bringsLate b) = now

@@ -1,14 +1,14 @@
--- The receiver acts on one verdict.
+-- The receiver decides on one verdict.
 use mathlib.Core.Path.{_≡_, refl, sym, ap, _∙_, subst}
-use mathlib.Core.List.{List, [], _∷_, _++_, append-nil}
+use mathlib.Core.List.{List, [], _∷_, _++_}
 use mathlib.Core.Bool.{Bool, true, false, cond}
 use mathlib.Core.Logic.{_⊎_, inl, inr}
 use Prim.Native.Nat.{ℕ, suc, _+_, _≤_}
 use Prim.Native.Char.{code}
 use native.Mathlib.Omega.{arith}
 use lib.ListN.{length, take, drop}
-use lib.Dec.{eqb, leb}
-use borrow.Author.Tests.{le-leb, leb-true, eq-eqb, ne-eqb}
+use lib.Dec.{eqb}
+use borrow.Author.Tests.{le-leb, eq-eqb, ne-eqb}
 use Rattle.lists.proofs.Put.{part-put}
 use Rattle.lists.specs.Bytes.{put}
 use Rattle.lists.specs.Outcome.{Outcome}
@@ -20,31 +20,34 @@ use Rattle.numbers.specs.Numbers.{greatestSent, greatestExpected, textOf}
 use Rattle.numbers.specs.declared.SequenceNumber.{SequenceNumber}
 use Rattle.numbers.specs.declared.SequenceNumber.the-variants.{MinusOne, Number}
 use Rattle.numbers.specs.declared.NumberField.the-variants.{Present}
+use Rattle.control_id.specs.ControlId.{inWords}
 use Rattle.header.specs.declared.Code.the-variants.{AA, AE, AR}
-use Rattle.messages.specs.Messages.{answerMessage, answerable, validControlId}
+use Rattle.messages.specs.Messages.{answerable, validControlId}
 use Rattle.message_theorems.proofs.HandedOut.{handed-out}
 use Rattle.stream.specs.Stream.{Judged}
-use Rattle.receiver.specs.Receiver.{validExpected, applicationCode, expectedNumber, row, stores, rowOf, reasonOf, nakBlock, answerBlock, replied, repliedOf, replySpace, receiveOf}
+use Rattle.receiver.specs.Receiver.{validExpected, validReceiver, closed, applicationCode, expectedNumber, row, stores, rowOf, undecided, opens, decideOf}
+use Rattle.receiver.specs.Internal.{fieldFits}
 use Rattle.receiver.specs.declared.Application.{Application}
 use Rattle.receiver.specs.declared.Application.the-variants.{Accepts, Errs}
 use Rattle.receiver.specs.declared.Expected.{Expected}
 use Rattle.receiver.specs.declared.Expected.the-variants.{Unknown, Next}
 use Rattle.receiver.specs.declared.Transaction.the-variants.{NoTransaction}
 use Rattle.receiver.specs.declared.Row.{Row}
-use Rattle.receiver.specs.declared.Decision.the-variants.{Drops, Naks}
-use Rattle.receiver.specs.declared.Received.{Received}
-use Rattle.receiver.proofs.Laws.{expected-answerable}
-use Rattle.link.proofs.ReceiverInvariant.{received-valid}
+use Rattle.receiver.specs.declared.Open.the-variants.{Decision}
+use Rattle.receiver.specs.declared.Receiver.{Receiver}
+use Rattle.receiver.specs.declared.Decided.{Decided}
+use Rattle.receiver.specs.declared.Answered.{Answered}
+use Rattle.receiver.proofs.Rows.{row-expected, row-answerable}
 use Rattle.link.specs.Line.{Arrival, arrival, accepts, acceptedOf, arriving}
-use Rattle.link.specs.System.{Link, System, stored, link, repliesOf, hasWith, receivedEnd}
+use Rattle.link.specs.System.{Link, System, Stored, repliesOf, hasWith, storedBy, toPersist, requestDecided, verdictDecided}
 use Rattle.link.specs.Promise.{Ready, transactions}
 use Rattle.link.proofs.Queues.{All, none, more, all-map, all-append, all-head, NotOver, not-over-more, Good, good-none, good-minus, good-zero}
-use Rattle.link.proofs.Queues.{good-number, Each, each-end, each-front, Front, front, Answer, replies, refuses, side}
-use Rattle.link.proofs.Books.{Books, withReceived, Core, nak}
+use Rattle.link.proofs.Queues.{good-number, Each, each-front, Front, front, Answer, replies, side, NamesExpected}
+use Rattle.link.proofs.Books.{Books, withReceived, Core}
 use Rattle.link.proofs.Moves.{receive-minus-one, receive-zero, Which, which, receive-next, receive-repeat}
-use Rattle.link.proofs.Invariant.{ends-of, Reach, transit, booksOf, StoredIs, Inv}
-use Rattle.link.proofs.Messages.{IsRequest, IsBlock, Nameable, minus, query, transaction, answer-block, nak-block, block-some}
-use Rattle.link.proofs.Receiving.{too-short, received, refused, Refusal, naks, drops}
+use Rattle.link.proofs.Invariant.{ends-of, Reach, transit, booksOf, Sayable, Opening, none-open, to-store, to-report, Inv}
+use Rattle.link.proofs.Messages.{IsRequest, Nameable, minus, query, transaction, block-some}
+use Rattle.link.proofs.Receiving.{decided, holding-valid, decided-open}
 
 -- ---- what can be named
 nameable-all : (f : ℕ) {h : ℕ} {p : List SequenceNumber} → Good f h p → All (NotOver greatestSent) p → All (Nameable f) p
@@ -61,8 +64,13 @@ all-nameable {f} {b} c =
     (all-append (all-map (λ v t. not-over-more (b .persisted .last) greatestSent (omega arith) v (t .last)) (g .line))
     (all-map (λ v t. not-over-more (b .held .last) greatestSent (omega arith) v (t .last)) (g .named)))
 
+pub nameable-fits : (f : ℕ) (v : SequenceNumber) → Nameable f v → fieldFits (Present v) ≡ true
+nameable-fits f MinusOne minus = refl
+nameable-fits f (Number n) (query e) = le-leb n greatestSent (omega arith)
+nameable-fits f (Number n) (transaction a b c) = le-leb n greatestSent c
+
 -- ---- the reply
-pub reply-is : (g : Settings) (t : ℕ) (d : List ℕ) (start : ℕ) (b : List ℕ) (x : Outcome Received) → start ≤ length b → x .answer .«reply_length» ≡ length (blockOf g t d)
+pub reply-is : (g : Settings) (t : ℕ) (d : List ℕ) (start : ℕ) (b : List ℕ) (x : Outcome Answered) → start ≤ length b → x .answer .«reply_length» ≡ length (blockOf g t d)
     → x .buffer ≡ put b start (blockOf g t d) → repliesOf start x ≡ blockOf g t d ∷ []
 reply-is g t d start b x l p q =
     ap (λ (k : ℕ). cond (eqb k 0) [] (take k (drop start (x .buffer)) ∷ [])) p
@@ -117,102 +125,88 @@ pub transactions-more : (l : Link) (m : ℕ) (c : List ℕ) (ts : List (List ℕ
 unfolding transactions
 transactions-more l m c ts p q = ap (λ (t : List (List ℕ)). t ++ c ∷ []) p ∙ ap (λ (t : List ℕ). transactions l m ++ t ∷ []) q
 
-module _ (l : Link) (rd : Ready l) (a : Application) (start : ℕ) (b : List ℕ) (y : System) (i : Inv l y) (w : Judged) (ws : List Judged) (arrived : y .receiving .arrived ≡ w ∷ ws) where
+module _ (l : Link) (rd : Ready l) (a : Application) (y : System) (i : Inv l y) (w : Judged) (ws : List Judged) (arrived : y .receiving .arrived ≡ w ∷ ws) where
   abbrev expected : Expected
-  expected = y .receiving .volatile .expected
+  expected = toPersist (y .receiving) .expected
 
-  abbrev got : Outcome Received
-  got = receiveOf (l .settings) a expected (w .verdict) (w .content) start b
+  abbrev got : Decided
+  got = decideOf a (y .receiving .receiver) (code "D") (w .content)
 
-  abbrev Then : Outcome Received → Type 0
-  Then x = Inv l (cond (eqb (x .answer .refusal) 0) (link (y .sending) (receivedEnd (y .receiving) ws (w .content) start x) (y .forward) (y .back)) y)
+  abbrev Then : Decided → Type 0
+  Then x = Inv l (requestDecided y ws (w .content) x)
 
   abbrev left : List Arrival
   left = acceptedOf ws ++ arriving (l .settings) (y .forward)
 
-  module _ (fits : leb (start + replySpace (l .settings)) (length b) ≡ true) where
-    begins : start ≤ length b
-    begins = let m = leb-true (start + replySpace (l .settings)) (length b) fits in omega arith
+  -- ---- no decision is open
+  module _ (closed-now : y .receiving .receiver ≡ closed (y .receiving .persisted .expected)) (unreported : y .receiving .reports ≡ false)
+      (equal : i .way .volatile ≡ i .way .persisted) (nothing : i .way .opening ≡ []) where
+    -- what would be persisted is what is
+    pub held-is : toPersist (y .receiving) ≡ y .receiving .persisted
+    held-is = ap (λ (z : Receiver). storedBy (y .receiving .persisted) (y .receiving .message) (z .decision)) closed-now
 
-    -- the receiver acted: what it has read is no longer on the line, and its replies are pending
-    receiver-acts : (x : Outcome Received) → x .answer .refusal ≡ 0 → (xs : List SequenceNumber) (cs : List Answer) (v : Reach)
-        → Core (l .first) (withReceived (booksOf l y (i .way)) (side (x .answer .persisted .expected) (l .first + v .count) (v .old)) xs cs)
-        → StoredIs l (stored (x .answer .persisted .expected) (hasWith (x .answer .persisted .transaction) (w .content) (y .receiving .volatile .has))) (v .count)
-        → Each (IsRequest l) left xs → Each (IsBlock (l .settings)) (y .receiving .pending ++ repliesOf start x) cs → Then x
-    receiver-acts x done xs cs v c s e p =
-        let n = i .ends in
-        subst (λ (k : ℕ). Inv l (cond (eqb k 0) (link (y .sending) (receivedEnd (y .receiving) ws (w .content) start x) (y .forward) (y .back)) y)) (sym done)
-        (record {
-          way = transit xs (i .way .back) cs v (i .way .persisted);
-          core = c;
-          ends = ends-of (n .valid) (n .persisted-valid) s (n .persisted);
-          forward = e;
-          back = i .back;
-          pending = p;
-        })
+    valid : validExpected expected ≡ true
+    valid = subst (λ (z : Expected). validExpected z ≡ true) (sym (ap (λ (z : Stored). z .expected) held-is)) (i .ends .persisted .valid)
 
-    -- one more reply is pending
-    more-pending : (r : Answer) (block : List ℕ) (x : Outcome Received) → IsBlock (l .settings) block r → repliesOf start x ≡ block ∷ []
-        → Each (IsBlock (l .settings)) (y .receiving .pending ++ repliesOf start x) (i .way .pending ++ r ∷ [])
-    more-pending r block x s q =
-        subst (λ (bs : List (List ℕ)). Each (IsBlock (l .settings)) (y .receiving .pending ++ bs) (i .way .pending ++ r ∷ [])) (sym q) (each-end (i .pending) s)
-
-    -- ---- a refused block
-    refused-read : Each (IsRequest l) left (i .way .forward) → Refusal l rd a expected (i .ends .volatile .valid) start b fits (w .verdict) (w .content) → Then got
-    refused-read e (naks k n p) =
-        let x = repliedOf (l .settings) expected (w .content) start b (Naks n) in
-        subst Then (sym p)
-        (receiver-acts x refl (i .way .forward) (i .way .pending ++ refuses n ∷ []) (i .way .volatile) (nak (i .core) n) (i .ends .volatile) e
-        (more-pending (refuses n) (nakBlock (l .settings) n) x (nak-block (l .settings) (rd .settings) n k) (reply-is (l .settings) (code "N") (reasonOf n ∷ []) start b x begins refl refl)))
-    refused-read e (drops n p) =
-        subst Then (sym p)
-        (receiver-acts (repliedOf (l .settings) expected (w .content) start b (Drops n)) refl (i .way .forward) (i .way .pending) (i .way .volatile) (i .core) (i .ends .volatile) e
-        (subst (λ (bs : List (List ℕ)). Each (IsBlock (l .settings)) bs (i .way .pending)) (sym (append-nil (y .receiving .pending))) (i .pending)))
+    has-now : y .receiving .persisted .has ≡ transactions l (i .way .volatile .count)
+    has-now = i .ends .persisted .has ∙ ap (λ (z : Reach). transactions l (z .count)) (sym equal)
 
     -- ---- a request
-    module _ (n : ℕ) (v : SequenceNumber) (xs : List SequenceNumber) (verdict : w .verdict ≡ Accepted (code "D") n) (is : IsRequest l (arrival (code "D") (w .content)) v)
+    module _ (v : SequenceNumber) (xs : List SequenceNumber) (is : IsRequest l (arrival (code "D") (w .content)) v)
         (queue : i .way .forward ≡ v ∷ xs) (rest : Each (IsRequest l) left xs) where
       pub nameable : Nameable (l .first) v
       nameable = all-head (subst (λ (k : List SequenceNumber). All (Nameable (l .first)) (k ++ y .sending .named)) queue (all-nameable (i .core)))
 
-      abbrev outcomeOf : Row → Outcome Received
-      outcomeOf r = replied 0 (r .persisted) (answerBlock (l .settings) (textOf v) r) start b
-
-      got-is : (r : Row) → rowOf a expected (Present v) ≡ r → got ≡ outcomeOf r
-      got-is r p =
-          ap (λ (k : Verdict). receiveOf (l .settings) a expected k (w .content) start b) verdict
-          ∙ received l rd a expected (i .ends .volatile .valid) start b fits (w .content) v (is .reads) (is .allowed) n
-          ∙ ap outcomeOf p
-
       control : validControlId (textOf v) ≡ true
       control = subst (λ (id : List ℕ). validControlId id ≡ true) (is .reads .id-read) (handed-out (w .content) (is .reads .readable))
 
-      -- it meets the row r, and the receiver is at m then
-      met : (r : Row) (m : Reach) → rowOf a expected (Present v) ≡ r
-          → Core (l .first) (withReceived (booksOf l y (i .way)) (side (r .persisted .expected) (l .first + m .count) (m .old)) xs (i .way .pending ++ replies v (r .code) (r .number) ∷ []))
-          → answerable (r .number) ≡ true → hasWith (r .persisted .transaction) (w .content) (y .receiving .volatile .has) ≡ transactions l (m .count) → Then got
-      met r m p c g h =
-          let valid = received-valid (l .settings) a expected (w .verdict) (w .content) start b (i .ends .volatile .valid) in
-          subst Then (sym (got-is r p))
-          (receiver-acts (outcomeOf r) refl xs (i .way .pending ++ replies v (r .code) (r .number) ∷ []) m c
-          (record { valid = subst (λ (k : Outcome Received). validExpected (k .answer .persisted .expected) ≡ true) (got-is r p) valid; has = h }) rest
-          (more-pending (replies v (r .code) (r .number)) (answerBlock (l .settings) (textOf v) r) (outcomeOf r)
-          (answer-block (l .settings) (rd .settings) v (r .code) (r .number) (record { control = control; number = g }))
-          (reply-is (l .settings) (code "D") (answerMessage (textOf v) (r .code) (r .number)) start b (outcomeOf r) begins refl refl)))
+      fits : fieldFits (Present v) ≡ true
+      fits = nameable-fits (l .first) v nameable
 
-    module _ (n k : ℕ) (xs : List SequenceNumber) (verdict : w .verdict ≡ Accepted (code "D") n) (is : IsRequest l (arrival (code "D") (w .content)) (Number k))
+      abbrev holding : Row → Receiver
+      holding r = record { expected = expected; decision = Decision (inWords (textOf v)) r }
+
+      got-is : (r : Row) → rowOf a expected (Present v) ≡ r → got ≡ opens (closed expected) (inWords (textOf v)) r
+      got-is r p =
+          ap (λ (s : Receiver). decideOf a s (code "D") (w .content)) (closed-now ∙ ap (λ (z : Stored). closed (z .expected)) (sym held-is))
+          ∙ decided a expected valid (w .content) v (is .reads) (is .allowed)
+          ∙ ap (opens (closed expected) (inWords (textOf v))) p
+
+      -- it meets the row r, and once that is persisted the receiver is at m
+      met : (r : Row) (m : Reach) → rowOf a expected (Present v) ≡ r
+          → Core (l .first) (withReceived (booksOf l y (i .way)) (side (r .persisted .expected) (l .first + m .count) (m .old)) xs (i .way .opening ++ replies v (r .code) (r .number) ∷ []))
+          → NamesExpected (r .persisted .expected) (replies v (r .code) (r .number))
+          → hasWith (r .persisted .transaction) (w .content) (y .receiving .persisted .has) ≡ transactions l (m .count) → Then got
+      met r m p c names h =
+          let n = i .ends in
+          let now = ap (λ (z : Stored). z .expected) held-is in
+          subst Then (sym (got-is r p))
+          (record {
+            way = transit xs (i .way .back) (i .way .pending) (replies v (r .code) (r .number) ∷ []) m (i .way .persisted);
+            core = subst (λ (os : List Answer). Core (l .first) (withReceived (booksOf l y (i .way)) (side (r .persisted .expected) (l .first + m .count) (m .old)) xs
+                (os ++ replies v (r .code) (r .number) ∷ []))) nothing c;
+            ends = ends-of (n .valid) (n .persisted-valid) (subst (λ (z : Row). validReceiver (holding z) ≡ true) p (holding-valid a expected valid v control fits)) (n .persisted);
+            opening = to-store v r (ap (λ (e : Expected). record { expected = e; decision = Decision (inWords (textOf v)) r }) now) unreported
+                (record { control = control; number = subst (λ (z : Row). answerable (z .number) ≡ true) p (row-answerable a expected (Present v) valid fits); names = names })
+                (subst (λ (z : Row). validExpected (z .persisted .expected) ≡ true) p (row-expected a expected (Present v) valid fits)) h;
+            forward = rest;
+            back = i .back;
+            pending = i .pending;
+          })
+
+    module _ (k : ℕ) (xs : List SequenceNumber) (is : IsRequest l (arrival (code "D") (w .content)) (Number k))
         (queue : i .way .forward ≡ Number k ∷ xs) (rest : Each (IsRequest l) left xs) where
       abbrev reached : ℕ
       reached = l .first + i .way .volatile .count
 
       new-read : 1 ≤ k → k ≤ greatestSent → k ≡ reached → (expected ≡ Unknown) ⊎ (expected ≡ Next k) → Then got
       new-read p q r t =
-          met n (Number k) xs verdict is queue rest (stores a k) (record { count = suc (i .way .volatile .count); old = i .way .volatile .old }) (stored-row t)
+          met (Number k) xs is queue rest (stores a k) (record { count = suc (i .way .volatile .count); old = i .way .volatile .old }) (stored-row t)
           (subst (λ (h : ℕ). Core (l .first) (withReceived (booksOf l y (i .way)) (side (Next (k + 1)) h (i .way .volatile .old)) xs
-          (i .way .pending ++ replies (Number k) (applicationCode a) (Number k) ∷ [])))
+          (i .way .opening ++ replies (Number k) (applicationCode a) (Number k) ∷ [])))
           (let z : k + 1 ≡ l .first + suc (i .way .volatile .count) = omega arith in z) (receive-next (i .core) k xs queue p (applicationCode a) (application-known a) r))
-          (number-answerable k p (omega arith))
-          (transactions-more l (i .way .volatile .count) (w .content) (y .receiving .volatile .has) (i .ends .volatile .has) (is .carries p ∙ ap (l .log) r))
+          (λ (z : k ≡ 0). absurd (omega arith))
+          (transactions-more l (i .way .volatile .count) (w .content) (y .receiving .persisted .has) has-now (is .carries p ∙ ap (l .log) r))
         where
           stored-row : (expected ≡ Unknown) ⊎ (expected ≡ Next k) → rowOf a expected (Present (Number k)) ≡ stores a k
           stored-row (inl z) = ap (λ (e : Expected). rowOf a e (Present (Number k))) z ∙ unknown-row a k p
@@ -220,56 +214,59 @@ module _ (l : Link) (rd : Ready l) (a : Application) (start : ℕ) (b : List ℕ
 
       old-read : 1 ≤ k → k ≤ greatestSent → k + 1 ≡ reached → expected ≡ Next reached → Then got
       old-read p q r t =
-          met n (Number k) xs verdict is queue rest (row AR (Number (k + 1)) NoTransaction (Next reached)) (i .way .volatile)
+          met (Number k) xs is queue rest (row AR (Number (k + 1)) NoTransaction (Next reached)) (i .way .volatile)
           (ap (λ (e : Expected). rowOf a e (Present (Number k))) t ∙ repeat-row a k reached p r)
           (subst (λ (e : Expected). Core (l .first) (withReceived (booksOf l y (i .way)) (side e reached (i .way .volatile .old)) xs
-          (i .way .pending ++ replies (Number k) AR (Number (k + 1)) ∷ []))) t
+          (i .way .opening ++ replies (Number k) AR (Number (k + 1)) ∷ []))) t
           (receive-repeat (i .core) k xs queue p r))
-          (number-answerable (k + 1) (omega arith) (omega arith)) (i .ends .volatile .has)
+          (λ (z : k ≡ 0). absurd (omega arith)) has-now
 
       number-read : Nameable (l .first) (Number k) → Then got
       number-read (query z) =
-          met n (Number k) xs verdict is queue rest (row AA (expectedNumber expected) NoTransaction expected) (i .way .volatile) (zero-row a expected k z) (receive-zero (i .core) k xs queue z)
-          (expected-answerable expected (i .ends .volatile .valid)) (i .ends .volatile .has)
+          met (Number k) xs is queue rest (row AA (expectedNumber expected) NoTransaction expected) (i .way .volatile) (zero-row a expected k z) (receive-zero (i .core) k xs queue z)
+          (λ (u : k ≡ 0). refl) has-now
       number-read (transaction p b q) = go (which (i .core) k xs queue p)
         where
           go : Which (i .core) k xs queue p → Then got
           go (inl t) = new-read p q (t .0) (t .1)
           go (inr t) = old-read p q (t .0) (t .1)
 
-    request-read : (n : ℕ) (v : SequenceNumber) (xs : List SequenceNumber) → w .verdict ≡ Accepted (code "D") n → IsRequest l (arrival (code "D") (w .content)) v → i .way .forward ≡ v ∷ xs
+    request-read : (v : SequenceNumber) (xs : List SequenceNumber) → IsRequest l (arrival (code "D") (w .content)) v → i .way .forward ≡ v ∷ xs
         → Each (IsRequest l) left xs → Then got
-    request-read n MinusOne xs p q r s =
-        met n MinusOne xs p q r s (row AA MinusOne NoTransaction Unknown) (record { count = i .way .volatile .count; old = false }) (minus-row a expected)
-        (receive-minus-one (i .core) xs r) none-answerable (i .ends .volatile .has)
-    request-read n (Number k) xs p q r s = number-read n k xs p q r s (nameable n (Number k) xs p q r s)
+    request-read MinusOne xs q r s =
+        met MinusOne xs q r s (row AA MinusOne NoTransaction Unknown) (record { count = i .way .volatile .count; old = false }) (minus-row a expected)
+        (receive-minus-one (i .core) xs r) refl has-now
+    request-read (Number k) xs q r s = number-read k xs q r s (nameable (Number k) xs q r s)
 
-    -- ---- one verdict
-    abbrev both : List Judged → List Arrival
-    both vs = acceptedOf vs ++ arriving (l .settings) (y .forward)
+  -- ---- one is open: 11
+  held-read : (n : SequenceNumber) (r : Row) → y .receiving .receiver .decision ≡ Decision (inWords (textOf n)) r → Then got
+  held-read n r e =
+      subst Then (sym (decided-open a (y .receiving .receiver) (inWords (textOf n)) r (code "D") (w .content) (i .ends .receiver-valid) e)) i
 
-    accepted-read : (t n : ℕ) → w .verdict ≡ Accepted t n → Front (IsRequest l) (arrival t (w .content)) left (i .way .forward) → Then got
-    accepted-read t n z (front v xs p q r) =
-        request-read n v xs (z ∙ ap (λ (k : ℕ). Accepted k n) (q .type)) (subst (λ (k : ℕ). IsRequest l (arrival k (w .content)) v) (q .type) q) p r
+  -- ---- one verdict
+  abbrev both : List Judged → List Arrival
+  both vs = acceptedOf vs ++ arriving (l .settings) (y .forward)
 
-    verdict-read : Then got
-    unfolding acceptedOf
-    verdict-read = go (w .verdict) refl
-      where
-        all : (v : Verdict) → w .verdict ≡ v → Each (IsRequest l) ((accepts v (w .content) ++ acceptedOf ws) ++ arriving (l .settings) (y .forward)) (i .way .forward)
-        all v z =
-            subst (λ (k : Verdict). Each (IsRequest l) ((accepts k (w .content) ++ acceptedOf ws) ++ arriving (l .settings) (y .forward)) (i .way .forward)) z
-            (subst (λ (vs : List Judged). Each (IsRequest l) (both vs) (i .way .forward)) arrived (i .forward))
+  data-read : (v : SequenceNumber) (xs : List SequenceNumber) → IsRequest l (arrival (code "D") (w .content)) v → i .way .forward ≡ v ∷ xs → Each (IsRequest l) left xs
+      → (os : List Answer) → i .way .opening ≡ os → Opening l (y .receiving) (i .way .volatile) (i .way .persisted) os → Then got
+  data-read v xs q r s os e (none-open a b c) = request-read a b c e v xs q r s
+  data-read v xs q r s os e (to-store n x a b c d h) = held-read n x (ap (λ (z : Receiver). z .decision) a)
+  data-read v xs q r s os e (to-report n x a b c d h) = held-read n x a
 
-        go : (v : Verdict) → w .verdict ≡ v → Then got
-        go (Accepted t n) z = accepted-read t n z (each-front (all (Accepted t n) z))
-        go (Refused n k) z =
-            refused-read (all (Refused n k) z)
-            (refused l rd a expected (i .ends .volatile .valid) start b fits (w .verdict) (w .content) (ap (λ (v : Verdict). accepts v (w .content)) z))
+  accepted-read : (t n : ℕ) → Front (IsRequest l) (arrival t (w .content)) left (i .way .forward) → Inv l (verdictDecided a y ws (w .content) (Accepted t n))
+  accepted-read t n (front v xs p q r) =
+      subst (λ (k : ℕ). Inv l (requestDecided y ws (w .content) (decideOf a (y .receiving .receiver) k (w .content)))) (sym (q .type))
+      (data-read v xs (subst (λ (k : ℕ). IsRequest l (arrival k (w .content)) v) (q .type) q) p r (i .way .opening) refl (i .opening))
 
-  pub request-one : Then got
-  request-one = go (leb (start + replySpace (l .settings)) (length b)) refl
+  pub request-one : Inv l (verdictDecided a y ws (w .content) (w .verdict))
+  unfolding acceptedOf
+  request-one = go (w .verdict) refl
     where
-      go : (z : Bool) → leb (start + replySpace (l .settings)) (length b) ≡ z → Then got
-      go true z = verdict-read z
-      go false z = subst Then (sym (too-short l rd a expected (i .ends .volatile .valid) start b (w .verdict) (w .content) z)) i
+      all : (v : Verdict) → w .verdict ≡ v → Each (IsRequest l) ((accepts v (w .content) ++ acceptedOf ws) ++ arriving (l .settings) (y .forward)) (i .way .forward)
+      all v z =
+          subst (λ (k : Verdict). Each (IsRequest l) ((accepts k (w .content) ++ acceptedOf ws) ++ arriving (l .settings) (y .forward)) (i .way .forward)) z
+          (subst (λ (vs : List Judged). Each (IsRequest l) (both vs) (i .way .forward)) arrived (i .forward))
+
+      go : (v : Verdict) → w .verdict ≡ v → Inv l (verdictDecided a y ws (w .content) v)
+      go (Accepted t n) z = accepted-read t n (each-front (all (Accepted t n) z))
+      go (Refused n k) z = i

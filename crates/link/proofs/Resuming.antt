@@ -36,10 +36,10 @@ use Rattle.link.proofs.Queues.{Side, side}
 use Rattle.link.proofs.Books.{books, Core, Expects, old, unknown, next, crash-receiver, crash-sender}
 use Rattle.link.proofs.Sending.{query-same, query-moved}
 use Rattle.link.proofs.Messages.{transaction-is}
-use Rattle.receiver.proofs.Laws.{expected-answerable}
+use Rattle.receiver.proofs.Rows.{expected-answerable}
 use Rattle.link.proofs.RequestsRead.{none-answerable, minus-row, zero-row, transactions-more}
 use Rattle.link.proofs.Runs.{Reaches, act, join}
-use Rattle.link.proofs.Exchange.{sendingAt}
+use Rattle.link.proofs.Exchange.{sendingAt, receivingAt}
 use Rattle.link.proofs.Progress.{submitted-all, Stage, first-stage, next-stage}
 
 module _ (l : Link) (rd : Ready l) (a : Application) (y : System) where
@@ -101,7 +101,7 @@ module _ (l : Link) (rd : Ready l) (a : Application) (y : System) where
     core : Core (l .first) (books (y .sending .persisted) (y .sending .persisted) Closed [] reached reached [] [] [])
     core = crash-sender (crash-receiver (i .core))
 
-    here : Reaches l y (link (sendingAt (afterCrash (y .sending .persisted)) [] (crashed ∷ y .sending .history)) (receiving (y .receiving .persisted) (y .receiving .persisted) [] []) emptyLine emptyLine)
+    here : Reaches l y (link (sendingAt (afterCrash (y .sending .persisted)) [] (crashed ∷ y .sending .history)) (receivingAt (y .receiving .persisted) [] []) emptyLine emptyLine)
     here = join l (act l receiverCrashes y) (act l senderCrashes (afterAct every l receiverCrashes y))
 
     total-is : l .first + (y .sending .persisted .last + 1 - l .first) ≡ y .sending .persisted .last + 1
@@ -120,7 +120,7 @@ module _ (l : Link) (rd : Ready l) (a : Application) (y : System) where
         let n = core .numbers in
         let b = core .forward .start z in
         begun (resynchronizedOf q) Unknown
-        (first-stage l rd a y q (crashed ∷ y .sending .history) d (i .ends .persisted .valid) (i .ends .persisted-valid) (core .senders .unfrozen) here false z
+        (first-stage l rd a y q (crashed ∷ y .sending .history) d [] (i .ends .persisted .valid) (i .ends .persisted-valid) (core .senders .unfrozen) here false z
         (row AA MinusOne NoTransaction Unknown) (minus-row a (d .expected)) none-answerable (resynchronizedOf q) NoEvent refl refl)
         (core .senders .first) (core .senders .unfrozen) refl (omega arith) refl (inl refl) expects-none
 
@@ -131,7 +131,7 @@ module _ (l : Link) (rd : Ready l) (a : Application) (y : System) where
         → p .delivered + 1 ≡ l .first + count → p .last ≡ q .last → (d .expected ≡ Unknown) ⊎ (d .expected ≡ Next (p .delivered + 1)) → Delivering total count
     queried z p ev e f u r c m x =
         begun p (d .expected)
-        (first-stage l rd a y q (crashed ∷ y .sending .history) d (i .ends .persisted .valid) (i .ends .persisted-valid) (core .senders .unfrozen) here true z
+        (first-stage l rd a y q (crashed ∷ y .sending .history) d [] (i .ends .persisted .valid) (i .ends .persisted-valid) (core .senders .unfrozen) here true z
         (row AA (expectedNumber (d .expected)) NoTransaction (d .expected)) (zero-row a (d .expected) 0 refl)
         (expected-answerable (d .expected) (i .ends .persisted .valid)) p ev e refl)
         (f ∙ core .senders .first) (u ∙ core .senders .unfrozen) (r ∙ z) c m x (i .ends .persisted .valid)

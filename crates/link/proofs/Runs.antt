@@ -1,5 +1,6 @@
 -- Runs that are made of others, and bytes that are read one after another.
 use mathlib.Core.Path.{_≡_, refl, sym, ap, _∙_, subst}
+use mathlib.Core.Bool.{Bool}
 use mathlib.Core.List.{List, [], _∷_, _++_, append-assoc, append-nil}
 use Prim.Native.Nat.{ℕ}
 use Rattle.numbers.specs.declared.SequenceNumber.{SequenceNumber}
@@ -9,6 +10,7 @@ use Rattle.sender.specs.declared.Sender.{Sender}
 use Rattle.link.specs.Duties.{every}
 use Rattle.link.specs.SenderHistory.{Entry}
 use Rattle.link.specs.Line.{Reader, Line, line, readsByte, readerAfter}
+use Rattle.receiver.specs.declared.Receiver.{Receiver}
 use Rattle.link.specs.System.{Link, System, SendingEnd, sending, Stored, ReceivingEnd, receiving, link, SystemAct, senderReads, receiverReads, afterAct, runOf}
 
 pub record Reaches (l : Link) (y z : System) : Type 0 where
@@ -50,15 +52,15 @@ module _ (l : Link) where
   verdictsOf r xs = run (l .settings) (r .offset) (r .mode) xs
 
   -- the receiver reads the first bytes on its line
-  pub read-requests : (xs ys : List ℕ) (r : Reader) (s : SendingEnd) (v p : Stored) (bs : List (List ℕ)) (ws : List Judged) (b : Line)
-      → Reaches l (link s (receiving v p bs ws) (line r (xs ++ ys)) b) (link s (receiving v p bs (ws ++ verdictsOf r xs)) (line (readerThrough r xs) ys) b)
+  pub read-requests : (xs ys : List ℕ) (r : Reader) (s : SendingEnd) (v : Receiver) (p : Stored) (d : List ℕ) (t : Bool) (bs : List (List ℕ)) (ws : List Judged) (b : Line)
+      → Reaches l (link s (receiving v p d t bs ws) (line r (xs ++ ys)) b) (link s (receiving v p d t bs (ws ++ verdictsOf r xs)) (line (readerThrough r xs) ys) b)
   unfolding run
-  read-requests [] ys r s v p bs ws b = to (stay (link s (receiving v p bs ws) (line r ys) b)) (ap (λ (us : List Judged). link s (receiving v p bs us) (line r ys) b) (sym (append-nil ws)))
-  read-requests (x ∷ xs) ys r s v p bs ws b =
+  read-requests [] ys r s v p d t bs ws b = to (stay (link s (receiving v p d t bs ws) (line r ys) b)) (ap (λ (us : List Judged). link s (receiving v p d t bs us) (line r ys) b) (sym (append-nil ws)))
+  read-requests (x ∷ xs) ys r s v p d t bs ws b =
       let us = readsByte (l .settings) r x .says in
       let k = readerAfter (l .settings) r x in
-      join (act receiverReads (link s (receiving v p bs ws) (line r (x ∷ xs ++ ys)) b))
-      (to (read-requests xs ys k s v p bs (ws ++ us) b) (ap (λ (z : List Judged). link s (receiving v p bs z) (line (readerThrough k xs) ys) b) (append-assoc ws us (verdictsOf k xs))))
+      join (act receiverReads (link s (receiving v p d t bs ws) (line r (x ∷ xs ++ ys)) b))
+      (to (read-requests xs ys k s v p d t bs (ws ++ us) b) (ap (λ (z : List Judged). link s (receiving v p d t bs z) (line (readerThrough k xs) ys) b) (append-assoc ws us (verdictsOf k xs))))
 
   -- the sender reads the first bytes on its line
   pub read-answers : (xs ys : List ℕ) (r : Reader) (s : Sender) (p : Persisted) (ns : List SequenceNumber) (ws : List Judged) (h : List Entry) (e : ReceivingEnd) (b : Line)

@@ -7,11 +7,12 @@ use native.Mathlib.Omega.{arith}
 use borrow.Author.Tests.{eq-eqb}
 use Rattle.receiver.specs.Receiver.{validExpected}
 use Rattle.receiver.specs.declared.Expected.{Expected}
+use Rattle.receiver.specs.declared.Open.the-variants.{NoDecision}
 use Rattle.sender.specs.Sender.{freshSender, openOf}
 use Rattle.link.specs.Duties.{Duty, every, oneAt}
 use Rattle.link.specs.System.{Link, System, Remains, beginning, startOf, nothingLeft, newCircuit, senderActed, SystemAct, opens, ends, resets, timer, submits, senderPersists, senderWrites, senderForgets, senderReads, senderActs, senderDiscards, senderRestores}
-use Rattle.link.specs.System.{senderCrashes, receiverReads, receiverActs, receiverDiscards, receiverPersists, receiverWrites, receiverRestores, receiverCrashes}
-use Rattle.link.specs.System.{damagesForward, damagesBack, persistsNumber, persistsTransactions, revertsTo, senderRevertsTo, bringsLate, bringsLateRequest, afterAct, runOf}
+use Rattle.link.specs.System.{senderCrashes, receiverReads, receiverDecides, receiverReports, receiverNaks, receiverDiscards, receiverPersists, receiverWrites, receiverRestores, receiverCrashes}
+use Rattle.link.specs.System.{damagesForward, damagesBack, persistsNumber, persistsTransaction, landsLate, revertsTo, senderRevertsTo, bringsLate, bringsLateRequest, afterAct, runOf}
 use Rattle.link.specs.Promise.{Ready, Safe, OnlyAnswers}
 use Rattle.link.specs.Needed.{Needed}
 use Rattle.link.proofs.SenderInvariant.{fresh-valid}
@@ -20,8 +21,8 @@ use Rattle.link.proofs.Runs.{run-join}
 use Rattle.link.proofs.Invariant.{Inv}
 use Rattle.link.proofs.Early.{Early, early-start, early-acts, Standing, stands}
 use Rattle.link.proofs.Acts.{start, opens-keeps, ends-keeps, resets-keeps, timer-keeps, submits-keeps, sender-persists-keeps, sender-writes-keeps, sender-forgets-keeps, sender-reads-keeps, sender-acts-keeps}
-use Rattle.link.proofs.Acts.{sender-discards-keeps, sender-restores-keeps, sender-crashes-keeps, receiver-reads-keeps, receiver-acts-keeps, receiver-discards-keeps}
-use Rattle.link.proofs.Acts.{receiver-persists-keeps, receiver-writes-keeps, receiver-restores-keeps, receiver-crashes-keeps, damages-forward-keeps, damages-back-keeps}
+use Rattle.link.proofs.Acts.{sender-discards-keeps, sender-restores-keeps, sender-crashes-keeps, receiver-reads-keeps, receiver-decides-keeps, receiver-discards-keeps}
+use Rattle.link.proofs.Acts.{receiver-persists-keeps, receiver-reports-keeps, receiver-naks-keeps, receiver-writes-keeps, receiver-restores-keeps, receiver-crashes-keeps, damages-forward-keeps, damages-back-keeps}
 
 pub none-left : OnlyAnswers nothingLeft
 none-left = record { forward = refl; requests = refl }
@@ -47,12 +48,15 @@ module _ (l : Link) (rd : Ready l) where
   act-keeps (senderActs n) y i = sender-acts-keeps l rd y i n (oneAt n (y .sending .arrived)) refl
   act-keeps (senderDiscards n) y i = sender-discards-keeps l rd y i n
   act-keeps (receiverDiscards n) y i = receiver-discards-keeps l rd y i n
-  act-keeps (receiverActs n a start b) y i = receiver-acts-keeps l rd y i a start b (y .receiving .arrived) refl
+  act-keeps (receiverDecides n a) y i = receiver-decides-keeps l rd y i a (y .receiving .arrived) refl
+  act-keeps (receiverReports success start b) y i = receiver-reports-keeps l rd y i success start b
+  act-keeps (receiverNaks n start b) y i = receiver-naks-keeps l rd y i n start b
   act-keeps (damagesForward b) y i = damages-forward-keeps l rd y i b
   act-keeps (damagesBack b) y i = damages-back-keeps l rd y i b
   -- a host that keeps its duties does none of these
   act-keeps persistsNumber y i = i
-  act-keeps persistsTransactions y i = i
+  act-keeps persistsTransaction y i = i
+  act-keeps (landsLate p) y i = i
   act-keeps (revertsTo p) y i = i
   act-keeps (senderRevertsTo p) y i = i
   act-keeps (bringsLate b) y i = i
@@ -60,7 +64,7 @@ module _ (l : Link) (rd : Ready l) where
 
   pub run-keeps : (e : Expected) → validExpected e ≡ true → (ds : List SystemAct) → Inv l (runOf every l (startOf l e) ds)
   unfolding runOf
-  run-keeps e v [] = start l rd e v
+  run-keeps e v [] = start l rd e v []
   run-keeps e v (a ∷ ds) = act-keeps a (runOf every l (startOf l e) ds) (run-keeps e v ds)
 
   -- where an earlier tenant's answers are left, the invariant holds without them until the first circuit drops them
@@ -81,15 +85,11 @@ module _ (l : Link) (rd : Ready l) where
   is-safe y i =
       let n = i .core .numbers in
       record {
-        volatile = i .way .volatile .count;
-        persisted = i .way .persisted .count;
-        has = i .ends .volatile .has;
-        persisted-has = i .ends .persisted .has;
-        covers = record { begun = omega arith; at-most = omega arith; at-least = omega arith };
-        covers-persisted = record { begun = omega arith; at-most = n .covered; at-least = omega arith };
-        persisted-covers = record { begun = omega arith; at-most = omega arith; at-least = n .ahead };
-        persisted-covers-persisted = record { begun = omega arith; at-most = omega arith; at-least = omega arith };
-        submitted = n .submitted;
+        count = i .way .persisted .count;
+        has = i .ends .persisted .has;
+        covers = record { begun = omega arith; at-most = n .covered; at-least = omega arith };
+        persisted-covers = record { begun = omega arith; at-most = omega arith; at-least = omega arith };
+        submitted = omega arith;
         unfrozen = i .core .senders .unfrozen;
         persisted-unfrozen = i .core .senders .persisted-unfrozen;
       }
@@ -107,14 +107,20 @@ module _ (l : Link) (rd : Ready l) where
   kept d n = safety-from (n .remains) (n .only-answers) (n .expected) (n .valid) (n .acts)
 
   -- Where a circuit is opened before anything else, whatever is left of an earlier tenancy, requests too: it drops all of it
-  opened-same : (e : Expected) (m : Remains) → afterAct every l opens (beginning every l e m) ≡ afterAct every l opens (startOf l e)
+  abbrev messageOnly : Remains → Remains
+  messageOnly m = record { forward = []; back = []; pending = []; requests = []; answers = []; decision = NoDecision; message = m .message }
+
+  opened-same : (e : Expected) (m : Remains) → afterAct every l opens (beginning every l e m) ≡ afterAct every l opens (beginning every l e (messageOnly m))
   opened-same e m =
       let a = openOf (freshSender (l .first)) in
+      let k = messageOnly m in
       let done = eq-eqb (a .refusal) 0 (open-taken (freshSender (l .first)) (fresh-valid (l .first) (rd .first-least) (rd .first-most)) refl refl) in
       ap (λ (b : Bool). cond b (newCircuit every (beginning every l e m) a) (senderActed (beginning every l e m) (m .answers) a)) done
-      ∙ sym (ap (λ (b : Bool). cond b (newCircuit every (startOf l e) a) (senderActed (startOf l e) [] a)) done)
+      ∙ sym (ap (λ (b : Bool). cond b (newCircuit every (beginning every l e k) a) (senderActed (beginning every l e k) [] a)) done)
 
   pub safety-opened : (m : Remains) (e : Expected) → validExpected e ≡ true → (ds : List SystemAct) → Safe l (runOf every l (afterAct every l opens (beginning every l e m)) ds)
   unfolding runOf
   safety-opened m e v ds =
-      subst (λ (y : System). Safe l (runOf every l y ds)) (sym (opened-same e m)) (subst (Safe l) (run-join l (startOf l e) (opens ∷ []) ds) (safety e v (ds ++ opens ∷ [])))
+      let k = messageOnly m in
+      subst (λ (y : System). Safe l (runOf every l y ds)) (sym (opened-same e m))
+      (subst (Safe l) (run-join l (beginning every l e k) (opens ∷ []) ds) (safety-from k (record { forward = refl; requests = refl }) e v (ds ++ opens ∷ [])))

@@ -15,11 +15,15 @@ pub data Duty : Type 0 where
   -- messages are written in the order in which they were named, blocks offered to the receiver in the order in which they were read
   writesInOrder offersInOrder : Duty
   -- "each end stores what changed as one act before its next block goes out"
-  senderPersistsFirst receiverPersistsFirst persistsAsOne : Duty
-  -- and decides from what it holds
-  decidesFromVolatile : Duty
-  -- "A cut loses what isn't stored": what was named; and, where storing failed, every reply
-  dropsNamed dropsUnpersisted : Duty
+  senderPersistsFirst persistsAsOne : Duty
+  -- 02, §1, "if reports are true": a decision is reported stored once it is, and failed where nothing of it is stored
+  reportsPersisted reportsFailed : Duty
+  -- and what was not stored when its decision was reported failed, or when the host started again, is never stored
+  settlesWrites : Duty
+  -- "A cut loses what isn't stored": what was named; and every report that is under way
+  dropsNamed dropsReports : Duty
+  -- a tenancy finds no decision open that an earlier one left
+  dropsDecision : Duty
   -- "stored things survive"
   survives : Duty
 

@@ -4,5 +4,6 @@ pub mod System
 pub mod Promise
 pub mod Needed
 pub mod Example
+pub mod ReceiverActs
 pub mod SenderActs
 pub mod SenderHistory

@@ -6,8 +6,8 @@ use Prim.Native.Nat.{ℕ}
 use lib.Dec.{eqb}
 use Rattle.receiver.specs.Receiver.{validExpected}
 use Rattle.receiver.specs.declared.Expected.{Expected}
-use Rattle.link.specs.Duties.{Duty, exchanges, emptiesLines, dropsReplies, dropsVerdicts, bringsNothingLate, writesInOrder, offersInOrder, senderPersistsFirst, receiverPersistsFirst}
-use Rattle.link.specs.Duties.{persistsAsOne, decidesFromVolatile, dropsNamed, dropsUnpersisted, survives}
+use Rattle.link.specs.Duties.{Duty, exchanges, emptiesLines, dropsReplies, dropsVerdicts, bringsNothingLate, writesInOrder, offersInOrder, senderPersistsFirst, persistsAsOne}
+use Rattle.link.specs.Duties.{reportsPersisted, reportsFailed, settlesWrites, dropsNamed, dropsReports, dropsDecision, survives}
 use Rattle.link.specs.System.{Link, Remains, SystemAct, beginning, runOf}
 use Rattle.link.specs.Promise.{Safe, OnlyAnswers}
 
@@ -20,12 +20,14 @@ indexOf bringsNothingLate = 4
 indexOf writesInOrder = 5
 indexOf offersInOrder = 6
 indexOf senderPersistsFirst = 7
-indexOf receiverPersistsFirst = 8
-indexOf persistsAsOne = 9
-indexOf decidesFromVolatile = 10
-indexOf dropsNamed = 11
-indexOf dropsUnpersisted = 12
-indexOf survives = 13
+indexOf persistsAsOne = 8
+indexOf reportsPersisted = 9
+indexOf reportsFailed = 10
+indexOf settlesWrites = 11
+indexOf dropsNamed = 12
+indexOf dropsReports = 13
+indexOf dropsDecision = 14
+indexOf survives = 15
 
 abbrev pub everyBut : Duty → Duty → Bool
 everyBut x d = not (eqb (indexOf x) (indexOf d))

@@ -33,7 +33,7 @@ unfoldable pub transactions : Link → ℕ → List (List ℕ)
 transactions l zero = []
 transactions l (suc n) = transactions l n ++ l .log (l .first + n) ∷ []
 
--- "the receiver has the first k transactions, each once, in order, and the sender's mark covers k or k less one": both as it is held and as it is persisted.
+-- "the receiver has the first k transactions, each once, in order, and the sender's mark covers k or k less one": the mark both as it is held and as it is persisted.
 -- The mark covers j transactions where it is f - 1 + j.
 pub record Covers (l : Link) (delivered k : ℕ) : Type 0 where
   pub begun : l .first ≤ delivered + 1
@@ -41,21 +41,18 @@ pub record Covers (l : Link) (delivered k : ℕ) : Type 0 where
   pub at-least : l .first + k ≤ delivered + 2
 
 pub record Safe (l : Link) (y : System) : Type 0 where
-  pub volatile : ℕ
-  pub persisted : ℕ
-  pub has : y .receiving .volatile .has ≡ transactions l volatile
-  pub persisted-has : y .receiving .persisted .has ≡ transactions l persisted
-  pub covers : Covers l (y .sending .sender .persisted .delivered) volatile
-  pub covers-persisted : Covers l (y .sending .sender .persisted .delivered) persisted
-  pub persisted-covers : Covers l (y .sending .persisted .delivered) volatile
-  pub persisted-covers-persisted : Covers l (y .sending .persisted .delivered) persisted
+  pub count : ℕ
+  pub has : y .receiving .persisted .has ≡ transactions l count
+  pub covers : Covers l (y .sending .sender .persisted .delivered) count
+  pub persisted-covers : Covers l (y .sending .persisted .delivered) count
   -- none that was not submitted: by what the sender has persisted
-  pub submitted : l .first + volatile ≤ y .sending .persisted .last + 1
+  pub submitted : l .first + count ≤ y .sending .persisted .last + 1
   -- "The sender never freezes."
   pub unfrozen : y .sending .sender .persisted .frozen ≡ false
   pub persisted-unfrozen : y .sending .persisted .frozen ≡ false
 
--- Of an earlier tenancy only answers are left: on the line back, still to be sent, or read. The first circuit drops them; a request could be stored before it.
+-- Of an earlier tenancy only answers are left: on the line back, still to be sent, or read. The first circuit drops them; a request could be stored before it. A decision that is left
+-- is dropped when the tenancy begins.
 pub record OnlyAnswers (m : Remains) : Type 0 where
   pub forward : m .forward ≡ []
   pub requests : m .requests ≡ []

@@ -18,19 +18,23 @@ use Rattle.fields.specs.Fields.{fieldStart, fieldOf, bytesOf}
 use Rattle.numbers.specs.Numbers.{numberField, decimal, textOf}
 use Rattle.numbers.specs.declared.SequenceNumber.{SequenceNumber}
 use Rattle.numbers.specs.declared.SequenceNumber.the-variants.{MinusOne, Number}
+use Rattle.numbers.specs.declared.NumberField.the-variants.{Present}
 use Rattle.header.specs.Header.{begins, readableHeader, headerOf, readableAnswer, acknowledgmentOf, codeField}
 use Rattle.header.specs.declared.Code.the-variants.{AA}
-use Rattle.messages.specs.Messages.{answerMessage, controlMessage, numberedMessage}
-use Rattle.receiver.specs.Receiver.{validExpected, rowOf, decisionOf, receiveOf}
+use Rattle.messages.specs.Messages.{answerMessage, controlMessage, numberedMessage, validControlId}
+use Rattle.control_id.specs.ControlId.{packed, unpacked, inWords, wordBytes, bytesIn}
+use Rattle.receiver.specs.Receiver.{validExpected, rowOf, isRow, carried, validReceiver, decideOf, answerOf}
 use Rattle.receiver.specs.declared.Application.the-variants.{Accepts}
 use Rattle.receiver.specs.declared.Expected.{Expected}
 use Rattle.receiver.specs.declared.Expected.the-variants.{Unknown, Next}
+use Rattle.receiver.specs.declared.Open.{Open}
+use Rattle.receiver.specs.declared.Open.the-variants.{NoDecision, Decision}
 use Rattle.sender.specs.Sender.{validSender, submitOf, openOf, timerOf, blockReadOf}
-use Rattle.link.specs.Duties.{Duty, exchanges, emptiesLines, dropsReplies, dropsVerdicts, bringsNothingLate, writesInOrder, offersInOrder, senderPersistsFirst, receiverPersistsFirst}
-use Rattle.link.specs.Duties.{persistsAsOne, decidesFromVolatile, dropsNamed, dropsUnpersisted, survives, every, oneAt, othersAt}
+use Rattle.link.specs.Duties.{Duty, exchanges, emptiesLines, dropsReplies, dropsVerdicts, bringsNothingLate, writesInOrder, offersInOrder, senderPersistsFirst, persistsAsOne}
+use Rattle.link.specs.Duties.{reportsPersisted, reportsFailed, settlesWrites, dropsNamed, dropsReports, dropsDecision, survives, every, oneAt, othersAt}
 use Rattle.link.specs.Line.{acceptedOf, someOf}
-use Rattle.link.specs.System.{Link, System, Remains, nothingLeft, stored, beginning, runOf, SystemAct, opens, timer, submits, senderPersists, senderWrites, senderReads, senderActs, senderCrashes}
-use Rattle.link.specs.System.{receiverReads, receiverActs, receiverPersists, receiverWrites, receiverRestores, receiverCrashes, damagesForward, persistsTransactions, revertsTo, bringsLate}
+use Rattle.link.specs.System.{System, Remains, nothingLeft, stored, beginning, runOf, SystemAct, opens, timer, submits, senderPersists, senderWrites, senderReads, senderActs, senderCrashes}
+use Rattle.link.specs.System.{receiverReads, receiverDecides, receiverPersists, receiverReports, receiverWrites, receiverCrashes, damagesForward, persistsTransaction, landsLate, revertsTo, bringsLate}
 use Rattle.link.specs.Promise.{Safe, transactions}
 use Rattle.link.specs.Needed.{everyBut}
 use Rattle.link.specs.Example.{exampleLog, exampleLink}
@@ -48,21 +52,31 @@ unfoldable pub reversed : List SystemAct → List SystemAct → List SystemAct
 reversed [] ds = ds
 reversed (a ∷ more) ds = reversed more (a ∷ ds)
 
--- the oldest message named is persisted and written, one block is read at the far end, acted on, persisted and answered, and the answer is read and acted on
+-- the oldest message named is persisted and written
 unfoldable pub sends : List SystemAct
 sends = senderPersists ∷ senderWrites 0 ∷ []
 
+-- a block is read at the far end; it is decided on, that is stored, and reported; the answer is read and acted on
 unfoldable pub reads : List SystemAct
 reads = times 64 receiverReads
 
 unfoldable pub decides : SystemAct
-decides = receiverActs 0 Accepts 0 (blank 143)
+decides = receiverDecides 0 Accepts
+
+unfoldable pub reportsStored : SystemAct
+reportsStored = receiverReports true 0 (blank 143)
+
+unfoldable pub reportsFailure : SystemAct
+reportsFailure = receiverReports false 0 (blank 143)
+
+unfoldable pub receives : List SystemAct
+receives = decides ∷ receiverPersists ∷ reportsStored ∷ []
 
 unfoldable pub answered : List SystemAct
 answered = times 64 senderReads ++ senderActs 0 ∷ []
 
 unfoldable pub exchanged : List SystemAct
-exchanged = sends ++ (reads ++ decides ∷ receiverPersists ∷ receiverWrites ∷ answered)
+exchanged = sends ++ (reads ++ (receives ++ receiverWrites ∷ answered))
 
 unfoldable pub submitted : ℕ → SystemAct
 submitted n = submits 128 (exampleLog n)
@@ -75,18 +89,31 @@ begun = submitted 1 ∷ submitted 2 ∷ opens ∷ exchanged
 unfoldable pub loses : List SystemAct
 loses = senderPersists ∷ senderWrites 0 ∷ damagesForward [] ∷ []
 
--- ---- what an earlier tenant left: its answers, as bytes on the line back, as a reply not yet sent, as a verdict not yet acted on; and its request
+-- what the decision on 1 said is stored after all
+unfoldable pub landed : SystemAct
+landed = landsLate (stored (Next 2) (exampleLog 1 ∷ []))
+
+-- ---- what an earlier tenant left: its answers, as bytes on the line back, as a reply not yet sent, as a verdict not yet acted on; and a decision on its 1, still open
 unfoldable pub oldAnswer : Kind → SequenceNumber → List ℕ
 oldAnswer k v = blockOf (exampleLink k .settings) (code "D") (answerMessage (textOf v) AA v)
 
 unfoldable pub left : List ℕ → Remains
-left bs = record { forward = []; back = bs; pending = []; requests = []; answers = [] }
+left bs = record { forward = []; back = bs; pending = []; requests = []; answers = []; decision = NoDecision; message = [] }
 
 unfoldable pub leftPending : List ℕ → Remains
-leftPending b = record { forward = []; back = []; pending = b ∷ []; requests = []; answers = [] }
+leftPending b = record { forward = []; back = []; pending = b ∷ []; requests = []; answers = []; decision = NoDecision; message = [] }
 
 unfoldable pub leftRead : Kind → List ℕ → Remains
-leftRead k bs = record { forward = []; back = []; pending = []; requests = []; answers = run (exampleLink k .settings) 0 between bs }
+leftRead k bs = record { forward = []; back = []; pending = []; requests = []; answers = run (exampleLink k .settings) 0 between bs; decision = NoDecision; message = [] }
+
+unfoldable pub foreign : List ℕ
+foreign = numberedMessage (record { first = code "O"; second = code "R"; third = code "U" }) (Number 1)
+
+unfoldable pub openDecision : Open
+openDecision = Decision (inWords (textOf (Number 1))) (rowOf Accepts Unknown (Present (Number 1)))
+
+unfoldable pub leftOpen : Remains
+leftOpen = record { forward = []; back = []; pending = []; requests = []; answers = []; decision = openDecision; message = foreign }
 
 -- ---- without each duty: what the receiver expects, what is left, and the acts
 pub record Case : Type 0 where
@@ -112,25 +139,36 @@ caseOf k bringsNothingLate = case Unknown nothingLeft (begun ++ (loses ++ brings
 -- -1 was named twice, and the second is written behind 1: the receiver forgets, and stores 1 again
 caseOf k writesInOrder =
     case Unknown nothingLeft
-    (submitted 1 ∷ opens ∷ timer ∷ (exchanged ++ senderPersists ∷ senderWrites 1 ∷ senderWrites 0 ∷ (reads ++ (reads ++ decides ∷ decides ∷ timer ∷ (sends ++ (reads ++ decides ∷ []))))))
--- the second -1 is read before 1 and offered behind it
+    (submitted 1 ∷ opens ∷ timer ∷ (exchanged ++ senderPersists ∷ senderWrites 1 ∷ senderWrites 0 ∷ (reads ++ (reads ++ (receives ++ (receives ++ timer ∷ (sends
+    ++ (reads ++ decides ∷ receiverPersists ∷ []))))))))
+-- the second -1 is refused while the first is open, held, and offered behind 1
 caseOf k offersInOrder =
     case Unknown nothingLeft
-    (submitted 1 ∷ opens ∷ timer ∷ (sends ++ (sends ++ (reads ++ (reads ++ decides ∷ receiverPersists ∷ receiverWrites ∷ (answered ++ (sends ++ (reads
-    ++ receiverActs 1 Accepts 0 (blank 143) ∷ decides ∷ timer ∷ (sends ++ (reads ++ decides ∷ []))))))))))
+    (submitted 1 ∷ opens ∷ timer ∷ (sends ++ (sends ++ (reads ++ (reads ++ decides ∷ decides ∷ receiverPersists ∷ reportsStored ∷ receiverWrites ∷ (answered ++ (sends ++ (reads
+    ++ receiverDecides 1 Accepts ∷ receiverPersists ∷ reportsStored ∷ (receives ++ timer ∷ (sends ++ (reads ++ decides ∷ receiverPersists ∷ [])))))))))))
 -- 2 goes out while the delivery of 1 is not persisted
-caseOf k senderPersistsFirst = case Unknown nothingLeft (begun ++ (exchanged ++ senderWrites 0 ∷ (reads ++ decides ∷ [])))
--- the answer to 1 goes out while 1 is not persisted
-caseOf k receiverPersistsFirst = case Unknown nothingLeft (begun ++ (sends ++ (reads ++ decides ∷ receiverWrites ∷ answered)))
+caseOf k senderPersistsFirst = case Unknown nothingLeft (begun ++ (exchanged ++ senderWrites 0 ∷ (reads ++ decides ∷ receiverPersists ∷ [])))
 -- 1 is persisted, a crash comes before its number is, and 1 is sent again
 caseOf k persistsAsOne =
-    case Unknown nothingLeft (begun ++ (sends ++ (reads ++ decides ∷ persistsTransactions ∷ receiverCrashes ∷ timer ∷ (sends ++ (reads ++ decides ∷ [])))))
--- 1 and its resend are both decided from what was persisted before either
-caseOf k decidesFromVolatile = case Unknown nothingLeft (begun ++ timer ∷ (sends ++ (sends ++ (reads ++ (reads ++ decides ∷ decides ∷ [])))))
+    case Unknown nothingLeft (begun ++ (sends ++ (reads ++ decides ∷ persistsTransaction ∷ receiverCrashes ∷ timer ∷ (sends ++ (reads ++ decides ∷ receiverPersists ∷ [])))))
+-- 1 is reported stored before it is, its answer goes out, and a crash comes
+caseOf k reportsPersisted =
+    case Unknown nothingLeft (begun ++ (sends ++ (reads ++ decides ∷ reportsStored ∷ receiverWrites ∷ (answered ++ senderPersists ∷ receiverCrashes ∷ []))))
+-- 1 is stored and reported as failed, so that it is still expected; it is sent again
+caseOf k reportsFailed =
+    case Unknown nothingLeft (begun ++ (sends ++ (reads ++ decides ∷ receiverPersists ∷ reportsFailure ∷ timer ∷ (sends ++ (reads ++ decides ∷ receiverPersists ∷ [])))))
+-- 1 is reported as failed, and what was to be stored lands after that; it is sent again
+caseOf k settlesWrites =
+    case Unknown nothingLeft (begun ++ (sends ++ (reads ++ decides ∷ reportsFailure ∷ landed ∷ timer ∷ (sends ++ (reads ++ decides ∷ receiverPersists ∷ [])))))
 -- 2 was named, a crash takes the delivery of 1 back, and 2 is written after it
-caseOf k dropsNamed = case Unknown nothingLeft (begun ++ (exchanged ++ senderCrashes ∷ senderWrites 0 ∷ (reads ++ decides ∷ [])))
--- 1 could not be stored, and its answer goes out
-caseOf k dropsUnpersisted = case Unknown nothingLeft (begun ++ (sends ++ (reads ++ decides ∷ receiverRestores ∷ receiverWrites ∷ answered)))
+caseOf k dropsNamed = case Unknown nothingLeft (begun ++ (exchanged ++ senderCrashes ∷ senderWrites 0 ∷ (reads ++ decides ∷ receiverPersists ∷ [])))
+-- -1 was named twice. The second is stored, a crash comes, and the report on it comes when 1 is open
+caseOf k dropsReports =
+    case Unknown nothingLeft
+    (submitted 1 ∷ opens ∷ timer ∷ (exchanged ++ (sends ++ (reads ++ decides ∷ receiverPersists ∷ receiverCrashes ∷ (sends ++ (reads ++ decides ∷ reportsStored ∷ receiverWrites ∷ (answered
+    ++ senderPersists ∷ [])))))))
+-- the earlier tenant's 1 was decided on, and is stored for the new one, whose own 1 comes behind it
+caseOf k dropsDecision = case Unknown leftOpen (receiverPersists ∷ reportsStored ∷ (begun ++ (sends ++ (reads ++ decides ∷ receiverPersists ∷ []))))
 -- 1 was stored and answered, and the disk has the older state again
 caseOf k survives = case Unknown nothingLeft (begun ++ (exchanged ++ revertsTo (stored Unknown []) ∷ []))
 
@@ -140,27 +178,28 @@ endOf k d =
     let c = caseOf k d in
     runOf (everyBut d) l (beginning (everyBut d) l (c .expected) (c .remains)) (c .acts)
 
--- ---- what is seen then: the transactions at the receiver, as held and as persisted, and the delivered number, as held and as persisted
+-- ---- what is seen then: how many transactions the receiver has stored, and the delivered number, as held and as persisted
 abbrev pub seen : System → List ℕ
-seen y =
-    length (y .receiving .volatile .has) ∷ length (y .receiving .persisted .has) ∷ y .sending .sender .persisted .delivered ∷ y .sending .persisted .delivered ∷ []
+seen y = length (y .receiving .persisted .has) ∷ y .sending .sender .persisted .delivered ∷ y .sending .persisted .delivered ∷ []
 
--- 1 counts as delivered, and nothing is stored; or two are there, and none is stored as delivered
+-- 1 counts as delivered, and nothing is stored; or two are stored, and none is stored as delivered
 abbrev pub ends : Duty → List ℕ
-ends exchanges = 0 ∷ 0 ∷ 1 ∷ 1 ∷ []
-ends emptiesLines = 0 ∷ 0 ∷ 1 ∷ 1 ∷ []
-ends dropsReplies = 0 ∷ 0 ∷ 1 ∷ 1 ∷ []
-ends dropsVerdicts = 0 ∷ 0 ∷ 1 ∷ 1 ∷ []
-ends bringsNothingLate = 0 ∷ 0 ∷ 1 ∷ 1 ∷ []
-ends writesInOrder = 2 ∷ 0 ∷ 0 ∷ 0 ∷ []
-ends offersInOrder = 2 ∷ 0 ∷ 0 ∷ 0 ∷ []
-ends senderPersistsFirst = 2 ∷ 1 ∷ 1 ∷ 0 ∷ []
-ends receiverPersistsFirst = 1 ∷ 0 ∷ 1 ∷ 0 ∷ []
-ends persistsAsOne = 2 ∷ 1 ∷ 0 ∷ 0 ∷ []
-ends decidesFromVolatile = 2 ∷ 0 ∷ 0 ∷ 0 ∷ []
-ends dropsNamed = 2 ∷ 1 ∷ 0 ∷ 0 ∷ []
-ends dropsUnpersisted = 0 ∷ 0 ∷ 1 ∷ 0 ∷ []
-ends survives = 1 ∷ 0 ∷ 1 ∷ 0 ∷ []
+ends exchanges = 0 ∷ 1 ∷ 1 ∷ []
+ends emptiesLines = 0 ∷ 1 ∷ 1 ∷ []
+ends dropsReplies = 0 ∷ 1 ∷ 1 ∷ []
+ends dropsVerdicts = 0 ∷ 1 ∷ 1 ∷ []
+ends bringsNothingLate = 0 ∷ 1 ∷ 1 ∷ []
+ends writesInOrder = 2 ∷ 0 ∷ 0 ∷ []
+ends offersInOrder = 2 ∷ 0 ∷ 0 ∷ []
+ends senderPersistsFirst = 2 ∷ 1 ∷ 0 ∷ []
+ends persistsAsOne = 2 ∷ 0 ∷ 0 ∷ []
+ends reportsPersisted = 0 ∷ 1 ∷ 1 ∷ []
+ends reportsFailed = 2 ∷ 0 ∷ 0 ∷ []
+ends settlesWrites = 2 ∷ 0 ∷ 0 ∷ []
+ends dropsNamed = 2 ∷ 0 ∷ 0 ∷ []
+ends dropsReports = 0 ∷ 1 ∷ 1 ∷ []
+ends dropsDecision = 2 ∷ 0 ∷ 0 ∷ []
+ends survives = 0 ∷ 1 ∷ 0 ∷ []
 
 -- ---- computed, one claim for each kind of block
 abbrev Ends : Kind → Duty → Type 0
@@ -168,15 +207,15 @@ Ends k d = seen (endOf k d) ≡ ends d
 
 abbrev All : Kind → Type 0
 All k =
-    Ends k exchanges × Ends k emptiesLines × Ends k dropsReplies × Ends k dropsVerdicts × Ends k bringsNothingLate × Ends k writesInOrder × Ends k offersInOrder × Ends k senderPersistsFirst × Ends k receiverPersistsFirst × Ends k persistsAsOne × Ends k decidesFromVolatile × Ends k dropsNamed × Ends k dropsUnpersisted × Ends k survives
+    Ends k exchanges × Ends k emptiesLines × Ends k dropsReplies × Ends k dropsVerdicts × Ends k bringsNothingLate × Ends k writesInOrder × Ends k offersInOrder × Ends k senderPersistsFirst × Ends k persistsAsOne × Ends k reportsPersisted × Ends k reportsFailed × Ends k settlesWrites × Ends k dropsNamed × Ends k dropsReports × Ends k dropsDecision × Ends k survives
 
 computed-hybrid : All Hybrid
-unfolding times reversed sends reads decides answered exchanged submitted begun loses oldAnswer left leftPending leftRead case caseOf endOf fiveDigits threeDigits countField checksumOf hybridBody hybridBlock minimalBlock blockOf typeMatches headerOk checksumMatches judgeParts dataOf judgeHybrid judgeMinimal judge contentOf same put valid validLink endVerdict move run fieldStart fieldOf bytesOf numberField decimal begins readableHeader headerOf readableAnswer acknowledgmentOf codeField answerMessage controlMessage validExpected rowOf decisionOf receiveOf validSender submitOf openOf timerOf blockReadOf oneAt othersAt acceptedOf someOf runOf blank
-computed-hybrid = (refl, refl, refl, refl, refl, refl, refl, refl, refl, refl, refl, refl, refl, refl)
+unfolding times reversed sends reads decides reportsStored reportsFailure receives answered exchanged submitted begun loses landed oldAnswer left leftPending leftRead foreign openDecision leftOpen case caseOf endOf fiveDigits threeDigits countField checksumOf hybridBody hybridBlock minimalBlock blockOf typeMatches headerOk checksumMatches judgeParts dataOf judgeHybrid judgeMinimal judge contentOf same put valid validLink endVerdict move run fieldStart fieldOf bytesOf numberField decimal begins readableHeader headerOf readableAnswer acknowledgmentOf codeField answerMessage controlMessage packed unpacked inWords wordBytes bytesIn validControlId validExpected rowOf isRow carried validReceiver decideOf answerOf validSender submitOf openOf timerOf blockReadOf oneAt othersAt acceptedOf someOf runOf blank
+computed-hybrid = (refl, refl, refl, refl, refl, refl, refl, refl, refl, refl, refl, refl, refl, refl, refl, refl)
 
 computed-minimal : All Minimal
-unfolding times reversed sends reads decides answered exchanged submitted begun loses oldAnswer left leftPending leftRead case caseOf endOf fiveDigits threeDigits countField checksumOf hybridBody hybridBlock minimalBlock blockOf typeMatches headerOk checksumMatches judgeParts dataOf judgeHybrid judgeMinimal judge contentOf same put valid validLink endVerdict move run fieldStart fieldOf bytesOf numberField decimal begins readableHeader headerOf readableAnswer acknowledgmentOf codeField answerMessage controlMessage validExpected rowOf decisionOf receiveOf validSender submitOf openOf timerOf blockReadOf oneAt othersAt acceptedOf someOf runOf blank
-computed-minimal = (refl, refl, refl, refl, refl, refl, refl, refl, refl, refl, refl, refl, refl, refl)
+unfolding times reversed sends reads decides reportsStored reportsFailure receives answered exchanged submitted begun loses landed oldAnswer left leftPending leftRead foreign openDecision leftOpen case caseOf endOf fiveDigits threeDigits countField checksumOf hybridBody hybridBlock minimalBlock blockOf typeMatches headerOk checksumMatches judgeParts dataOf judgeHybrid judgeMinimal judge contentOf same put valid validLink endVerdict move run fieldStart fieldOf bytesOf numberField decimal begins readableHeader headerOf readableAnswer acknowledgmentOf codeField answerMessage controlMessage packed unpacked inWords wordBytes bytesIn validControlId validExpected rowOf isRow carried validReceiver decideOf answerOf validSender submitOf openOf timerOf blockReadOf oneAt othersAt acceptedOf someOf runOf blank
+computed-minimal = (refl, refl, refl, refl, refl, refl, refl, refl, refl, refl, refl, refl, refl, refl, refl, refl)
 
 both : (k : Kind) → All k
 both Hybrid = computed-hybrid
@@ -191,12 +230,14 @@ computed k bringsNothingLate = both k .4
 computed k writesInOrder = both k .5
 computed k offersInOrder = both k .6
 computed k senderPersistsFirst = both k .7
-computed k receiverPersistsFirst = both k .8
-computed k persistsAsOne = both k .9
-computed k decidesFromVolatile = both k .10
-computed k dropsNamed = both k .11
-computed k dropsUnpersisted = both k .12
-computed k survives = both k .13
+computed k persistsAsOne = both k .8
+computed k reportsPersisted = both k .9
+computed k reportsFailed = both k .10
+computed k settlesWrites = both k .11
+computed k dropsNamed = both k .12
+computed k dropsReports = both k .13
+computed k dropsDecision = both k .14
+computed k survives = both k .15
 
 -- ---- the night of slot 7, more closely
 -- acts from a beginning with these duties, this number expected and these answers on the line back
@@ -212,7 +253,7 @@ answerTo k v n = blockOf (exampleLink k .settings) (code "D") (answerMessage (te
 -- the new answer to -1 is taken before an old one to 1, 1 is lost, and then the old one is taken
 unfoldable pub disordered : List SystemAct
 disordered =
-    submitted 1 ∷ opens ∷ (sends ++ (reads ++ decides ∷ receiverPersists ∷ receiverWrites ∷ (times 128 senderReads ++ senderActs 1 ∷ (loses ++ senderActs 0 ∷ senderPersists ∷ []))))
+    submitted 1 ∷ opens ∷ (sends ++ (reads ++ (receives ++ receiverWrites ∷ (times 128 senderReads ++ senderActs 1 ∷ (loses ++ senderActs 0 ∷ senderPersists ∷ [])))))
 
 -- One old answer, to 1, is dropped where order is kept, since the opening message waits: 1 is delivered only when it is stored.
 -- Where answers come in another order, which the statement allows, it is enough.
@@ -220,19 +261,19 @@ disordered =
 -- And where the receiver expects 2, one old answer to -1 is enough.
 abbrev SlotSeven : Kind → Type 0
 SlotSeven k =
-    (seen (slotSevenOf k (everyBut emptiesLines) Unknown (oldAnswer k (Number 1)) (submitted 1 ∷ opens ∷ (answered ++ exchanged))) ≡ 0 ∷ 0 ∷ 0 ∷ 0 ∷ [])
-    × (seen (slotSevenOf k (everyBut emptiesLines) Unknown (oldAnswer k (Number 1)) (submitted 1 ∷ opens ∷ (answered ++ (exchanged ++ exchanged)))) ≡ 1 ∷ 1 ∷ 1 ∷ 0 ∷ [])
-    × (seen (slotSevenOf k withoutBoth Unknown (oldAnswer k (Number 1)) (submitted 1 ∷ opens ∷ (answered ++ exchanged))) ≡ 0 ∷ 0 ∷ 0 ∷ 0 ∷ [])
-    × (seen (slotSevenOf k withoutBoth Unknown (answerTo k (Number 0) MinusOne ++ oldAnswer k (Number 1)) (submitted 1 ∷ opens ∷ (loses ++ (answered ++ (loses ++ answered))))) ≡ 0 ∷ 0 ∷ 1 ∷ 0 ∷ [])
-    × (seen (slotSevenOf k (everyBut emptiesLines) (Next 2) (oldAnswer k MinusOne) (submitted 1 ∷ opens ∷ (loses ++ (answered ++ exchanged)))) ≡ 0 ∷ 0 ∷ 1 ∷ 0 ∷ [])
-    × (seen (slotSevenOf k (everyBut emptiesLines) Unknown (oldAnswer k (Number 1)) disordered) ≡ 0 ∷ 0 ∷ 1 ∷ 1 ∷ [])
+    (seen (slotSevenOf k (everyBut emptiesLines) Unknown (oldAnswer k (Number 1)) (submitted 1 ∷ opens ∷ (answered ++ exchanged))) ≡ 0 ∷ 0 ∷ 0 ∷ [])
+    × (seen (slotSevenOf k (everyBut emptiesLines) Unknown (oldAnswer k (Number 1)) (submitted 1 ∷ opens ∷ (answered ++ (exchanged ++ exchanged)))) ≡ 1 ∷ 1 ∷ 0 ∷ [])
+    × (seen (slotSevenOf k withoutBoth Unknown (oldAnswer k (Number 1)) (submitted 1 ∷ opens ∷ (answered ++ exchanged))) ≡ 0 ∷ 0 ∷ 0 ∷ [])
+    × (seen (slotSevenOf k withoutBoth Unknown (answerTo k (Number 0) MinusOne ++ oldAnswer k (Number 1)) (submitted 1 ∷ opens ∷ (loses ++ (answered ++ (loses ++ answered))))) ≡ 0 ∷ 1 ∷ 0 ∷ [])
+    × (seen (slotSevenOf k (everyBut emptiesLines) (Next 2) (oldAnswer k MinusOne) (submitted 1 ∷ opens ∷ (loses ++ (answered ++ exchanged)))) ≡ 0 ∷ 1 ∷ 0 ∷ [])
+    × (seen (slotSevenOf k (everyBut emptiesLines) Unknown (oldAnswer k (Number 1)) disordered) ≡ 0 ∷ 1 ∷ 1 ∷ [])
 
 runs-hybrid : SlotSeven Hybrid
-unfolding times reversed sends reads decides answered exchanged submitted begun loses oldAnswer left leftPending leftRead case caseOf endOf fiveDigits threeDigits countField checksumOf hybridBody hybridBlock minimalBlock blockOf typeMatches headerOk checksumMatches judgeParts dataOf judgeHybrid judgeMinimal judge contentOf same put valid validLink endVerdict move run fieldStart fieldOf bytesOf numberField decimal begins readableHeader headerOf readableAnswer acknowledgmentOf codeField answerMessage controlMessage validExpected rowOf decisionOf receiveOf validSender submitOf openOf timerOf blockReadOf oneAt othersAt acceptedOf someOf runOf blank slotSevenOf answerTo disordered
+unfolding times reversed sends reads decides reportsStored reportsFailure receives answered exchanged submitted begun loses landed oldAnswer left leftPending leftRead foreign openDecision leftOpen case caseOf endOf fiveDigits threeDigits countField checksumOf hybridBody hybridBlock minimalBlock blockOf typeMatches headerOk checksumMatches judgeParts dataOf judgeHybrid judgeMinimal judge contentOf same put valid validLink endVerdict move run fieldStart fieldOf bytesOf numberField decimal begins readableHeader headerOf readableAnswer acknowledgmentOf codeField answerMessage controlMessage packed unpacked inWords wordBytes bytesIn validControlId validExpected rowOf isRow carried validReceiver decideOf answerOf validSender submitOf openOf timerOf blockReadOf oneAt othersAt acceptedOf someOf runOf blank slotSevenOf answerTo disordered
 runs-hybrid = (refl, refl, refl, refl, refl, refl)
 
 runs-minimal : SlotSeven Minimal
-unfolding times reversed sends reads decides answered exchanged submitted begun loses oldAnswer left leftPending leftRead case caseOf endOf fiveDigits threeDigits countField checksumOf hybridBody hybridBlock minimalBlock blockOf typeMatches headerOk checksumMatches judgeParts dataOf judgeHybrid judgeMinimal judge contentOf same put valid validLink endVerdict move run fieldStart fieldOf bytesOf numberField decimal begins readableHeader headerOf readableAnswer acknowledgmentOf codeField answerMessage controlMessage validExpected rowOf decisionOf receiveOf validSender submitOf openOf timerOf blockReadOf oneAt othersAt acceptedOf someOf runOf blank slotSevenOf answerTo disordered
+unfolding times reversed sends reads decides reportsStored reportsFailure receives answered exchanged submitted begun loses landed oldAnswer left leftPending leftRead foreign openDecision leftOpen case caseOf endOf fiveDigits threeDigits countField checksumOf hybridBody hybridBlock minimalBlock blockOf typeMatches headerOk checksumMatches judgeParts dataOf judgeHybrid judgeMinimal judge contentOf same put valid validLink endVerdict move run fieldStart fieldOf bytesOf numberField decimal begins readableHeader headerOf readableAnswer acknowledgmentOf codeField answerMessage controlMessage packed unpacked inWords wordBytes bytesIn validControlId validExpected rowOf isRow carried validReceiver decideOf answerOf validSender submitOf openOf timerOf blockReadOf oneAt othersAt acceptedOf someOf runOf blank slotSevenOf answerTo disordered
 runs-minimal = (refl, refl, refl, refl, refl, refl)
 
 pub slot-seven-runs : (k : Kind) → SlotSeven k
@@ -240,11 +281,8 @@ slot-seven-runs Hybrid = runs-hybrid
 slot-seven-runs Minimal = runs-minimal
 
 -- ---- the line to the receiver is not empty when the tenancy begins: an earlier tenant's 1 is read before any circuit, and stored
-foreign : List ℕ
-foreign = numberedMessage (record { first = code "O"; second = code "R"; third = code "U" }) (Number 1)
-
 leftForward : List ℕ → Remains
-leftForward bs = record { forward = bs; back = []; pending = []; requests = []; answers = [] }
+leftForward bs = record { forward = bs; back = []; pending = []; requests = []; answers = []; decision = NoDecision; message = [] }
 
 pub withRequest : Kind → System
 withRequest k =
@@ -253,25 +291,33 @@ withRequest k =
 
 -- the same request, which was read before: the circuit is opened first, and without dropsVerdicts it is decided on after that
 leftRequest : Kind → Remains
-leftRequest k = record { forward = []; back = []; pending = []; requests = run (exampleLink k .settings) 0 between (blockOf (exampleLink k .settings) (code "D") foreign); answers = [] }
+leftRequest k =
+    let g = exampleLink k .settings in
+    record { forward = []; back = []; pending = []; requests = run g 0 between (blockOf g (code "D") foreign); answers = []; decision = NoDecision; message = [] }
 
 pub withKept : (Duty → Bool) → Kind → System
 withKept h k =
     let l = exampleLink k in
     runOf h l (beginning h l Unknown (leftRequest k)) (reversed (submitted 1 ∷ opens ∷ decides ∷ receiverPersists ∷ []) [])
 
+-- a decision on it is open, and without dropsDecision is stored for the new tenant
+pub withOpen : (Duty → Bool) → Kind → System
+withOpen h k =
+    let l = exampleLink k in
+    runOf h l (beginning h l Unknown leftOpen) (reversed (submitted 1 ∷ senderPersists ∷ receiverPersists ∷ []) [])
+
 abbrev Stores : Kind → Type 0
 Stores k =
     (withRequest k .receiving .persisted .has ≡ foreign ∷ []) × (same foreign (exampleLog 1) ≡ false) × (withKept (everyBut dropsVerdicts) k .receiving .persisted .has ≡ foreign ∷ [])
-    × (withKept every k .receiving .persisted .has ≡ [])
+    × (withKept every k .receiving .persisted .has ≡ []) × (withOpen (everyBut dropsDecision) k .receiving .persisted .has ≡ foreign ∷ []) × (withOpen every k .receiving .persisted .has ≡ [])
 
 stores-hybrid : Stores Hybrid
-unfolding times reversed sends reads decides answered exchanged submitted begun loses oldAnswer left leftPending leftRead case caseOf endOf fiveDigits threeDigits countField checksumOf hybridBody hybridBlock minimalBlock blockOf typeMatches headerOk checksumMatches judgeParts dataOf judgeHybrid judgeMinimal judge contentOf same put valid validLink endVerdict move run fieldStart fieldOf bytesOf numberField decimal begins readableHeader headerOf readableAnswer acknowledgmentOf codeField answerMessage controlMessage validExpected rowOf decisionOf receiveOf validSender submitOf openOf timerOf blockReadOf oneAt othersAt acceptedOf someOf runOf blank foreign leftForward withRequest leftRequest withKept
-stores-hybrid = (refl, refl, refl, refl)
+unfolding times reversed sends reads decides reportsStored reportsFailure receives answered exchanged submitted begun loses landed oldAnswer left leftPending leftRead foreign openDecision leftOpen case caseOf endOf fiveDigits threeDigits countField checksumOf hybridBody hybridBlock minimalBlock blockOf typeMatches headerOk checksumMatches judgeParts dataOf judgeHybrid judgeMinimal judge contentOf same put valid validLink endVerdict move run fieldStart fieldOf bytesOf numberField decimal begins readableHeader headerOf readableAnswer acknowledgmentOf codeField answerMessage controlMessage packed unpacked inWords wordBytes bytesIn validControlId validExpected rowOf isRow carried validReceiver decideOf answerOf validSender submitOf openOf timerOf blockReadOf oneAt othersAt acceptedOf someOf runOf blank leftForward withRequest leftRequest withKept withOpen
+stores-hybrid = (refl, refl, refl, refl, refl, refl)
 
 stores-minimal : Stores Minimal
-unfolding times reversed sends reads decides answered exchanged submitted begun loses oldAnswer left leftPending leftRead case caseOf endOf fiveDigits threeDigits countField checksumOf hybridBody hybridBlock minimalBlock blockOf typeMatches headerOk checksumMatches judgeParts dataOf judgeHybrid judgeMinimal judge contentOf same put valid validLink endVerdict move run fieldStart fieldOf bytesOf numberField decimal begins readableHeader headerOf readableAnswer acknowledgmentOf codeField answerMessage controlMessage validExpected rowOf decisionOf receiveOf validSender submitOf openOf timerOf blockReadOf oneAt othersAt acceptedOf someOf runOf blank foreign leftForward withRequest leftRequest withKept
-stores-minimal = (refl, refl, refl, refl)
+unfolding times reversed sends reads decides reportsStored reportsFailure receives answered exchanged submitted begun loses landed oldAnswer left leftPending leftRead foreign openDecision leftOpen case caseOf endOf fiveDigits threeDigits countField checksumOf hybridBody hybridBlock minimalBlock blockOf typeMatches headerOk checksumMatches judgeParts dataOf judgeHybrid judgeMinimal judge contentOf same put valid validLink endVerdict move run fieldStart fieldOf bytesOf numberField decimal begins readableHeader headerOf readableAnswer acknowledgmentOf codeField answerMessage controlMessage packed unpacked inWords wordBytes bytesIn validControlId validExpected rowOf isRow carried validReceiver decideOf answerOf validSender submitOf openOf timerOf blockReadOf oneAt othersAt acceptedOf someOf runOf blank leftForward withRequest leftRequest withKept withOpen
+stores-minimal = (refl, refl, refl, refl, refl, refl)
 
 stores : (k : Kind) → Stores k
 stores Hybrid = stores-hybrid
@@ -283,9 +329,9 @@ one-is k n d e z = let w : d ∷ [] ≡ exampleLog 1 ∷ [] = z ∙ ap (transact
 
 no-foreign : (k : Kind) (y : System) → y .receiving .persisted .has ≡ foreign ∷ [] → Safe (exampleLink k) y → ⊥
 no-foreign k y has f =
-    let e = sym has ∙ f .persisted-has in
-    let n : f .persisted ≡ 1 = sym (transactions-length (exampleLink k) (f .persisted)) ∙ ap length (sym e) in
-    let z : same foreign foreign ≡ false = ap (same foreign) (one-is k (f .persisted) foreign n e) ∙ stores k .1 in
+    let e = sym has ∙ f .has in
+    let n : f .count ≡ 1 = sym (transactions-length (exampleLink k) (f .count)) ∙ ap length (sym e) in
+    let z : same foreign foreign ≡ false = ap (same foreign) (one-is k (f .count) foreign n e) ∙ stores k .1 in
     not-both (sym (same-self foreign) ∙ z)
 
 pub with-old-request : (k : Kind) → Safe (exampleLink k) (withRequest k) → ⊥
@@ -295,23 +341,27 @@ with-old-request k f = no-foreign k (withRequest k) (stores k .0) f
 pub with-kept-request : (k : Kind) → (Safe (exampleLink k) (withKept (everyBut dropsVerdicts) k) → ⊥) × (withKept every k .receiving .persisted .has ≡ [])
 with-kept-request k = (λ f. no-foreign k (withKept (everyBut dropsVerdicts) k) (stores k .2) f, stores k .3)
 
+-- and where a decision on it was open
+pub with-open-decision : (k : Kind) → (Safe (exampleLink k) (withOpen (everyBut dropsDecision) k) → ⊥) × (withOpen every k .receiving .persisted .has ≡ [])
+with-open-decision k = (λ f. no-foreign k (withOpen (everyBut dropsDecision) k) (stores k .4) f, stores k .5)
+
 -- ---- so the statement is false of it
 module _ (k : Kind) (y : System) where
   -- 1 counts as delivered, and is not stored
-  pub unstored : (m n : ℕ) → seen y ≡ m ∷ 0 ∷ 1 ∷ n ∷ [] → Safe (exampleLink k) y → ⊥
-  unstored m n e f =
+  pub unstored : (n : ℕ) → seen y ≡ 0 ∷ 1 ∷ n ∷ [] → Safe (exampleLink k) y → ⊥
+  unstored n e f =
       let a : length (y .receiving .persisted .has) ≡ 0 = cc in
       let b : y .sending .sender .persisted .delivered ≡ 1 = cc in
-      let c = sym (transactions-length (exampleLink k) (f .persisted)) ∙ ap length (sym (f .persisted-has)) ∙ a in
-      let d = f .covers-persisted .at-most in
+      let c = sym (transactions-length (exampleLink k) (f .count)) ∙ ap length (sym (f .has)) ∙ a in
+      let d = f .covers .at-most in
       omega arith
 
-  -- two are there, and none is stored as delivered
-  pub ahead : (m n : ℕ) → seen y ≡ 2 ∷ m ∷ n ∷ 0 ∷ [] → Safe (exampleLink k) y → ⊥
-  ahead m n e f =
-      let a : length (y .receiving .volatile .has) ≡ 2 = cc in
+  -- two are stored, and none is stored as delivered
+  pub ahead : (n : ℕ) → seen y ≡ 2 ∷ n ∷ 0 ∷ [] → Safe (exampleLink k) y → ⊥
+  ahead n e f =
+      let a : length (y .receiving .persisted .has) ≡ 2 = cc in
       let b : y .sending .persisted .delivered ≡ 0 = cc in
-      let c = sym (transactions-length (exampleLink k) (f .volatile)) ∙ ap length (sym (f .has)) ∙ a in
+      let c = sym (transactions-length (exampleLink k) (f .count)) ∙ ap length (sym (f .has)) ∙ a in
       let d = f .persisted-covers .at-least in
       omega arith
 

@@ -35,7 +35,7 @@ fn is_long_enough(have: usize, start: usize, id_length: usize, digits: usize) ->
 }
 
 // Whether the control ID can stand in a field of a block's data: 1 to 20 bytes that are allowed, and neither bar nor CR.
-fn is_control_id(control_id: &[u8]) -> bool
+pub fn is_control_id(control_id: &[u8]) -> bool
     ensures { λ r. ⌜ r ≡ (allAllowed (now («control_id» .entry)) && validControlId (now («control_id» .entry))) ⌝ }
 {
     if control_id.len() < 1 {

@@ -5,6 +5,7 @@ mod pieces;
 
 ghost use mathlib.Core.Path.{_≡_};
 ghost use Rattle.messages.specs.Messages.{messageType};
+pub use answer_message::is_control_id;
 pub use answer_message::write_answer;
 pub use control_message::is_type;
 pub use control_message::write_control;

@@ -1,4 +1,4 @@
 pub mod Laws
+pub mod Rows
 pub mod Replying
-pub mod CallLaws
-pub mod ReadBack
+pub mod Acts

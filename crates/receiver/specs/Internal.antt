@@ -10,7 +10,6 @@ use Rattle.lists.specs.Outcome.{Outcome, outcome}
 use Rattle.settings.specs.Settings.{valid}
 use Rattle.settings.specs.declared.Settings.{Settings}
 use Rattle.settings.specs.DataBytes.{allAllowed}
-use Rattle.fields.specs.Fields.{bytesOf}
 use Rattle.messages.specs.Messages.{validControlId, answerable}
 use Rattle.numbers.specs.Numbers.{greatestSent}
 use Rattle.numbers.specs.declared.SequenceNumber.{SequenceNumber}
@@ -18,8 +17,6 @@ use Rattle.numbers.specs.declared.SequenceNumber.the-variants.{MinusOne, Number
 use Rattle.numbers.specs.declared.NumberField.{NumberField}
 use Rattle.numbers.specs.declared.NumberField.the-variants.{Missing, NotNumber, Present}
 use Rattle.receiver.specs.Receiver.{replySpace}
-use Rattle.receiver.specs.declared.Decision.{Decision}
-use Rattle.receiver.specs.declared.Decision.the-variants.{Drops, Naks, Answers}
 
 -- a number that MSH-13 can hold, so that there is one after it
 abbrev pub numberFits : SequenceNumber → Bool
@@ -46,9 +43,3 @@ pub record Answerable (id : List ℕ) (n : SequenceNumber) : Type 0 where
   pub allowed : allAllowed id ≡ true
   pub control : validControlId id ≡ true
   pub number : answerable n ≡ true
-
--- a decision whose reply can be written
-abbrev pub Possible : Decision → List ℕ → Type 0
-Possible (Drops n) d = n ≡ n
-Possible (Naks n) d = n ≡ n
-Possible (Answers id row) d = Answerable (bytesOf id d) (row .number)

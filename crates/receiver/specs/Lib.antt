@@ -1,3 +1,2 @@
 pub mod Receiver
-pub mod ReceiverCalls
 pub mod Internal

@@ -1,69 +1,89 @@
-// What the receiver decides on a block that its reader accepted or refused.
+// The first act: what the receiver decides on an accepted block, and what is to be stored then.
 use crate::Application;
-use crate::Decision;
-use crate::Expected;
+use crate::Decided;
+use crate::Open;
+use crate::Receiver;
+use crate::Row;
+use crate::states::is_closed;
+use crate::states::is_receiver;
 use crate::table::table_row;
+use control_id::ControlId;
 use fields::field_content;
 use header::Header;
 use numbers::SequenceNumber;
 use numbers::read_number;
-use refusal::Verdict;
-use settings::Kind;
 ghost use mathlib.Core.Path.{_≡_};
 ghost use Rattle.header.specs.Header.{headerOf};
-ghost use Rattle.receiver.specs.Receiver.{refusedBy, headerDecision, isNak, decisionOf};
+ghost use Rattle.receiver.specs.Receiver.{undecided, opens, headerDecided, decideOf};
 
-// The reply to a refused block: an N block, or nothing on a minimal link.
-fn refused_by(kind: Kind, number: u64) -> Decision
-    ensures { λ r. ⌜ r ≡ refusedBy kind number ⌝ }
+const NAK_BLOCK: u64 = 78;
+
+fn leave_undecided(refusal: u64, block: u64, receiver: Receiver) -> Decided
+    ensures { λ r. ⌜ r ≡ undecided refusal block receiver ⌝ }
 {
-    match kind {
-        Kind::Hybrid => Decision::Naks(number),
-        Kind::Minimal => Decision::Drops(number),
+    Decided {
+        refusal,
+        block,
+        opened: false,
+        receiver,
     }
 }
 
-fn is_nak(kind: Kind, t: u8) -> bool
-    ensures { λ r. ⌜ r ≡ isNak kind t ⌝ }
+fn open_decision(receiver: Receiver, control_id: ControlId, row: Row) -> Decided
+    ensures { λ r. ⌜ r ≡ opens receiver «control_id» row ⌝ }
 {
-    match kind {
-        Kind::Hybrid => t == b'N',
-        Kind::Minimal => false,
+    let expected = receiver.expected;
+    Decided {
+        refusal: 0,
+        block: 0,
+        opened: true,
+        receiver: Receiver {
+            expected,
+            decision: Open::Decision(control_id, row),
+        },
     }
 }
 
-fn decide_data(kind: Kind, application: Application, expected: Expected, content: &[u8]) -> Decision
-    ensures { λ r. ⌜ r ≡ headerDecision kind application expected (now (content .entry)) (headerOf (now (content .entry))) ⌝ }
+fn decide_data(application: Application, receiver: Receiver, content: &[u8]) -> Decided
+    ensures { λ r. ⌜ r ≡ headerDecided application receiver (now (content .entry)) (headerOf (now (content .entry))) ⌝ }
 {
-    let Header::Readable(control_id, sequence) = header::read_header(content) else {
-        return refused_by(kind, refusal::HEAD);
+    let Header::Readable(id, sequence) = header::read_header(content) else {
+        return leave_undecided(0, refusal::HEAD, receiver);
     };
-    if !settings::are_allowed(field_content(content, control_id)) {
-        return refused_by(kind, refusal::HEAD);
+    let id_content = field_content(content, id);
+    if !settings::are_allowed(id_content) {
+        return leave_undecided(0, refusal::HEAD, receiver);
     }
     let number = read_number(
         field_content(content, sequence),
         SequenceNumber::GREATEST_SENT,
     );
-    Decision::Answers(control_id, table_row(application, expected, number))
+    let expected = receiver.expected;
+    open_decision(
+        receiver,
+        control_id::pack(id_content),
+        table_row(application, expected, number),
+    )
 }
 
-pub(crate) fn decide(
-    kind: Kind,
+// The decision on an accepted block, by its type and data. It is opened, and stays open until it is reported stored or failed.
+pub fn decide(
     application: Application,
-    expected: Expected,
-    verdict: Verdict,
+    receiver: Receiver,
+    block_type: u64,
     content: &[u8],
-) -> Decision
-    ensures { λ r. ⌜ r ≡ decisionOf kind application expected verdict (now (content .entry)) ⌝ }
+) -> Decided
+    ensures { λ r. ⌜ r ≡ decideOf application receiver «block_type» (now (content .entry)) ⌝ }
 {
-    match verdict {
-        Verdict::Accepted(t, _) => {
-            if is_nak(kind, t) {
-                return Decision::Drops(0);
-            }
-            decide_data(kind, application, expected, content)
-        }
-        Verdict::Refused(number, _) => refused_by(kind, number),
+    if !is_receiver(receiver) {
+        return leave_undecided(refusal::STATE, 0, receiver);
     }
+    let decision = receiver.decision;
+    if !is_closed(decision) {
+        return leave_undecided(refusal::STATE, 0, receiver);
+    }
+    if block_type == NAK_BLOCK {
+        return leave_undecided(0, 0, receiver);
+    }
+    decide_data(application, receiver, content)
 }

@@ -1,16 +1,19 @@
-// The receiver of sequence numbers: what it decides on a block, what must be persisted, and the reply block; and what its C
-// functions do, on slices and settings that are made: the words are looked at, and the answer is written into the words.
+// The receiver of sequence numbers: what it decides on a block and what is to be stored then, and the answer that it gives once
+// that is reported stored (02, §1).
+mod answering;
 mod deciding;
-mod inputs;
-mod receive_words;
-mod receiving;
+mod states;
 mod table;
 
-use fields::Field;
+pub use answering::answer;
+pub use answering::fits_reply;
+pub use answering::is_block_number;
+pub use answering::nak;
+use control_id::ControlId;
+pub use deciding::decide;
 use header::Code;
 use numbers::SequenceNumber;
-pub use receive_words::fresh_receiver_words;
-pub use receive_words::received_words;
+pub use states::is_same_expected;
 
 // The stored state: none (document 01: NONE), or the expected sequence number.
 pub enum Expected {
@@ -24,19 +27,13 @@ pub enum Application {
     Errs,
 }
 
-// What a number from C stands for.
-pub enum ApplicationMade {
-    Unknown,
-    Known(Application),
-}
-
 // A transaction that is to be persisted.
 pub enum Transaction {
     NoTransaction,
     Numbered(u64),
 }
 
-// What must be persisted, as one act, before the reply goes out.
+// What must be persisted, as one act, before the decision is reported stored.
 pub struct Persisted {
     pub transaction: Transaction,
     pub expected: Expected,
@@ -49,23 +46,34 @@ pub struct Row {
     pub persisted: Persisted,
 }
 
-// What is done with a block that has this number, 0 or 3 to 9.
-pub enum Decision {
-    // No reply.
-    Drops(u64),
-    // An N block.
-    Naks(u64),
-    // An answer to the control ID in this field.
-    Answers(Field, Row),
+// A decision that is not yet reported stored or failed: whom its answer is to, and its row.
+pub enum Open {
+    NoDecision,
+    Decision(ControlId, Row),
 }
 
-// What the act answers.
-pub struct Received {
+// What is stored, and what a crash loses.
+pub struct Receiver {
+    pub expected: Expected,
+    pub decision: Open,
+}
+
+// What a decision answers.
+pub struct Decided {
+    // The number that refuses the act: 11; otherwise 0.
+    pub refusal: u64,
+    // The number of a block that was refused: 9, or 0.
+    pub block: u64,
+    // Whether it opened a decision.
+    pub opened: bool,
+    pub receiver: Receiver,
+}
+
+// What a report, or an N reply, answers.
+pub struct Answered {
     // The number that refuses the act: 1, 2 or 11; otherwise 0.
     pub refusal: u64,
-    // The number of a block that was refused: 3 to 9, or 0.
-    pub block: u64,
-    pub persisted: Persisted,
+    pub receiver: Receiver,
     // The reply block's length; 0 where there is none.
     pub reply_length: usize,
 }

@@ -23,7 +23,7 @@ fn application_code(application: Application) -> Code
     }
 }
 
-fn expected_number(expected: Expected) -> SequenceNumber
+pub(crate) fn expected_number(expected: Expected) -> SequenceNumber
     ensures { λ r. ⌜ r ≡ expectedNumber expected ⌝ }
 {
     match expected {

@@ -48,10 +48,14 @@ use Rattle.giamuvich.proofs.gmv_control_write as gmv-control-write-contract
 use Rattle.giamuvich.proofs.gmv_control_write.Reads as gmv-control-write-reads
 use Rattle.giamuvich.proofs.gmv_receiver_fresh as gmv-receiver-fresh-contract
 use Rattle.giamuvich.proofs.gmv_receiver_fresh.Reads as gmv-receiver-fresh-reads
-use Rattle.giamuvich.proofs.gmv_hybrid_receive as gmv-hybrid-receive-contract
-use Rattle.giamuvich.proofs.gmv_hybrid_receive.Reads as gmv-hybrid-receive-reads
-use Rattle.giamuvich.proofs.gmv_minimal_receive as gmv-minimal-receive-contract
-use Rattle.giamuvich.proofs.gmv_minimal_receive.Reads as gmv-minimal-receive-reads
+use Rattle.giamuvich.proofs.gmv_receiver_decide as gmv-receiver-decide-contract
+use Rattle.giamuvich.proofs.gmv_receiver_decide.Reads as gmv-receiver-decide-reads
+use Rattle.giamuvich.proofs.gmv_hybrid_answer as gmv-hybrid-answer-contract
+use Rattle.giamuvich.proofs.gmv_hybrid_answer.Reads as gmv-hybrid-answer-reads
+use Rattle.giamuvich.proofs.gmv_minimal_answer as gmv-minimal-answer-contract
+use Rattle.giamuvich.proofs.gmv_minimal_answer.Reads as gmv-minimal-answer-reads
+use Rattle.giamuvich.proofs.gmv_hybrid_nak as gmv-hybrid-nak-contract
+use Rattle.giamuvich.proofs.gmv_hybrid_nak.Reads as gmv-hybrid-nak-reads
 use Rattle.giamuvich.proofs.gmv_sender_fresh as gmv-sender-fresh-contract
 use Rattle.giamuvich.proofs.gmv_sender_fresh.Reads as gmv-sender-fresh-reads
 use Rattle.giamuvich.proofs.gmv_sender_submit as gmv-sender-submit-contract
@@ -246,18 +250,32 @@ gmv-receiver-fresh = record {
   one = λ κs a z z′ ws ws′ h h′. once h h′ (λ y. y .number) (λ y. (y .state, tt));
 }
 
-pub gmv-hybrid-receive : Unique gmv-hybrid-receive-contract.ended (λ M. gmv-hybrid-receive-contract.clauses {M = M})
-gmv-hybrid-receive = record {
-  holds = gmv-hybrid-receive-reads.Learnt;
+pub gmv-receiver-decide : Unique gmv-receiver-decide-contract.ended (λ M. gmv-receiver-decide-contract.clauses {M = M})
+gmv-receiver-decide = record {
+  holds = gmv-receiver-decide-reads.Learnt;
   says = λ M 𝓤 H A mem run. refl;
-  one = λ κs a z z′ ws ws′ h h′. once h h′ (λ y. y .number) (λ y. (tt, (tt, (tt, (tt, (y .state, (tt, (tt, (tt, (y .buffer, (tt, (y .report, tt))))))))))));
+  one = λ κs a z z′ ws ws′ h h′. once h h′ (λ y. y .number) (λ y. (tt, (tt, (tt, (y .state, (y .report, tt))))));
 }
 
-pub gmv-minimal-receive : Unique gmv-minimal-receive-contract.ended (λ M. gmv-minimal-receive-contract.clauses {M = M})
-gmv-minimal-receive = record {
-  holds = gmv-minimal-receive-reads.Learnt;
+pub gmv-hybrid-answer : Unique gmv-hybrid-answer-contract.ended (λ M. gmv-hybrid-answer-contract.clauses {M = M})
+gmv-hybrid-answer = record {
+  holds = gmv-hybrid-answer-reads.Learnt;
   says = λ M 𝓤 H A mem run. refl;
-  one = λ κs a z z′ ws ws′ h h′. once h h′ (λ y. y .number) (λ y. (tt, (tt, (y .state, (tt, (tt, (tt, (y .buffer, (tt, (y .report, tt))))))))));
+  one = λ κs a z z′ ws ws′ h h′. once h h′ (λ y. y .number) (λ y. (tt, (tt, (tt, (tt, (y .state, (y .buffer, (tt, (y .report, tt)))))))));
+}
+
+pub gmv-minimal-answer : Unique gmv-minimal-answer-contract.ended (λ M. gmv-minimal-answer-contract.clauses {M = M})
+gmv-minimal-answer = record {
+  holds = gmv-minimal-answer-reads.Learnt;
+  says = λ M 𝓤 H A mem run. refl;
+  one = λ κs a z z′ ws ws′ h h′. once h h′ (λ y. y .number) (λ y. (tt, (tt, (y .state, (y .buffer, (tt, (y .report, tt)))))));
+}
+
+pub gmv-hybrid-nak : Unique gmv-hybrid-nak-contract.ended (λ M. gmv-hybrid-nak-contract.clauses {M = M})
+gmv-hybrid-nak = record {
+  holds = gmv-hybrid-nak-reads.Learnt;
+  says = λ M 𝓤 H A mem run. refl;
+  one = λ κs a z z′ ws ws′ h h′. once h h′ (λ y. y .number) (λ y. (tt, (tt, (tt, (tt, (tt, (y .buffer, (tt, (y .report, tt)))))))));
 }
 
 pub gmv-sender-fresh : Unique gmv-sender-fresh-contract.ended (λ M. gmv-sender-fresh-contract.clauses {M = M})

@@ -1,6 +1,7 @@
 pub mod Block
 pub mod BlockCalls
 pub mod ControlBlock
+pub mod ControlId
 pub mod FieldReader
 pub mod Fields
 pub mod Fragments
@@ -13,6 +14,7 @@ pub mod Messages
 pub mod Numbers
 pub mod Once
 pub mod Receiver
+pub mod ReceiverCalls
 pub mod Refusal
 pub mod Sender
 pub mod SenderCalls

@@ -16,7 +16,7 @@
 #define R_WRONG_KIND "%s is not the folder of a %s"
 #define R_LIMITS "the data limits differ: %lu and %lu"
 
-enum { LOOKS = 4 /* a tenth of a second apart */ };
+enum { LOOKS = 4 };
 
 /* What an end is, by the first words of its state. */
 enum kind { NO_END, SENDER, RECEIVER };
@@ -44,6 +44,15 @@ static int finds_problem(verdict *verdict, const char *folder, const char *name,
         severity = UNKNOWN;
     add_reason(verdict, severity, R_PROBLEM, folder, name, problem);
     return 1;
+}
+
+/* A driver whose disk is full writes its live file over: one that is half written is read again, a hundredth of a second
+ * later. */
+static int is_read_again(const char *problem, int looks)
+{
+    const struct timespec pause = {0, 10000000};
+
+    return problem != NULL && strcmp(problem, RECORD_DAMAGED) == 0 && looks < LOOKS && nanosleep(&pause, NULL) == 0;
 }
 
 /* The lock is asked before anything is read: what is said is not older than what is said of the driver. */
@@ -119,6 +128,17 @@ static const char *lacking_folder(const char *folder, const char *const *parts, 
     return NULL;
 }
 
+static const char *read_shown_sender(const char *folder, sender_status *status)
+{
+    const char *problem;
+    int looks = 0;
+
+    do
+        problem = read_sender_live(folder, &status->record, status->report, &status->counts, &status->running);
+    while (is_read_again(problem, ++looks));
+    return problem;
+}
+
 /* Returns 1 where nothing can be said of it but the verdict's reason. */
 static int look_at_sender(verdict *verdict, const char *folder, sender_status *status)
 {
@@ -129,9 +149,7 @@ static int look_at_sender(verdict *verdict, const char *folder, sender_status *s
     if (finds_problem(verdict, folder, "state", read_sender(folder, &status->record)))
         return 1;
     if (status->presence == DRIVER_RUNS &&
-        lacks_live(verdict, folder,
-                   read_sender_live(folder, &status->record, status->report, &status->counts, &status->running),
-                   &status->presence, &status->starting))
+        lacks_live(verdict, folder, read_shown_sender(folder, status), &status->presence, &status->starting))
         return 1;
     if (find_undelivered(verdict, folder, &status->record, &status->undelivered))
         return 1;
@@ -142,12 +160,39 @@ static int look_at_sender(verdict *verdict, const char *folder, sender_status *s
 
 /* ---- a receiver */
 
+static const char *read_shown_receiver(const char *folder, receiver_status *status)
+{
+    const char *problem;
+    int looks = 0;
+
+    do
+        problem = read_receiver_live(folder, &status->record, &status->counts, &status->running);
+    while (is_read_again(problem, ++looks));
+    return problem;
+}
+
+/* What is shown may be older than what is stored, and was written before the open decision was. */
+static void take_stored(receiver_status *status, const receiver_record *state)
+{
+    const uint64_t *shown = status->record.words;
+
+    status->in_state = shown[GMV_RECEIVER_CODE] != 0 &&
+                       state->words[GMV_RECEIVER_EXPECTED] == shown[GMV_RECEIVER_NEW_EXPECTED] &&
+                       state->stored == status->record.stored + (shown[GMV_RECEIVER_TRANSACTION] != 0);
+    if (status->record.stored < state->stored || status->in_state) {
+        status->record.words[GMV_RECEIVER_EXPECTED] = state->words[GMV_RECEIVER_EXPECTED];
+        status->record.stored = state->stored;
+        status->record.cleared = state->cleared;
+        status->record.cleared_after = state->cleared_after;
+    }
+}
+
 /* The files are looked at before the state is read: what is stored meanwhile is then no file beyond it. */
 static int look_at_receiver(verdict *verdict, const char *folder, receiver_status *status)
 {
     static const char *const parts[] = {"transactions"};
     char path[PATH_LENGTH];
-    uint64_t stored;
+    receiver_record state;
 
     memset(status, 0, sizeof *status);
     status->presence = presence_of(folder);
@@ -157,14 +202,11 @@ static int look_at_receiver(verdict *verdict, const char *folder, receiver_statu
         return 1;
     if (finds_problem(verdict, folder, "state", read_receiver(folder, &status->record)))
         return 1;
-    stored = status->record.stored;
+    state = status->record;
     if (status->presence == DRIVER_RUNS &&
-        lacks_live(verdict, folder,
-                   read_receiver_live(folder, &status->record, &status->counts, &status->running),
-                   &status->presence, &status->starting))
+        lacks_live(verdict, folder, read_shown_receiver(folder, status), &status->presence, &status->starting))
         return 1;
-    if (status->record.stored < stored)
-        status->record.stored = stored; /* what is shown may be a moment older than what is stored */
+    take_stored(status, &state);
     status->lacks = lacking_folder(folder, parts, sizeof parts / sizeof parts[0]);
     judge_receiver(verdict, status);
     return 0;

@@ -8,7 +8,7 @@ use host::field_model::{Fields, NEXT_WORDS};
 use host::master_model::{self, MasterAct, MasterActed, MASTER_WORDS};
 use host::message_model::{self, Memory, Written};
 use host::model::{self, Settings};
-use host::receiver_model::{self, Incoming, Received};
+use host::receiver_model::{self, Incoming, ReceiverAct, RECEIVER_WORDS};
 use host::sender_model::{self, Act};
 use host::station_model::{self, Lengths, Unit, STATION_WORDS};
 use host::{ends_ffi, ffi, master_ffi, station_ffi};
@@ -54,6 +54,33 @@ fn incoming(call: &Call) -> Incoming<'_> {
         number: call.number("block_number"),
         block_type: call.number("block_type"),
         data: &call.read,
+    }
+}
+
+fn receiver_act(call: &Call) -> Option<ReceiverAct<'_>> {
+    Some(match call.function.as_str() {
+        "receiver_decide" => ReceiverAct::Decide {
+            application: call.number("application"),
+            block_type: call.number("block_type"),
+            data: &call.read,
+        },
+        "hybrid_answer" | "minimal_answer" => ReceiverAct::Report {
+            settings: settings(call),
+            stored: call.number("stored"),
+        },
+        "hybrid_nak" => ReceiverAct::Nak {
+            settings: settings(call),
+            number: call.number("block_number"),
+        },
+        _ => return None,
+    })
+}
+
+/// Where a reply starts; a decision writes none.
+fn reply_start(act: &ReceiverAct, call: &Call) -> usize {
+    match act {
+        ReceiverAct::Decide { .. } => 0,
+        ReceiverAct::Report { .. } | ReceiverAct::Nak { .. } => start(call),
     }
 }
 
@@ -201,16 +228,27 @@ fn written(call: &Call) -> Answer {
     then
 }
 
-fn received(call: &Call) -> Answer {
-    let (settings, application) = (settings(call), call.number("application"));
-    let state = &call.writable.state;
-    let block = incoming(call);
-    match receiver_model::receive(&settings, application, state, &block, &memory(call)) {
-        Received::Refused(number) => answer(call, number),
-        Received::Taken(expected, report, reply) => {
+fn receiver_acted(call: &Call, act: &ReceiverAct) -> Answer {
+    let start = reply_start(act, call);
+    let memory = Memory {
+        buffer_length: call.writable.buffer.len(),
+        start,
+        report_words: call.writable.words.len(),
+    };
+    match receiver_model::act_on_words(act, &call.writable.state, &memory) {
+        receiver_model::Acted::Refused(number) => answer(call, number),
+        receiver_model::Acted::Done {
+            state,
+            report,
+            reply,
+        } => {
             let mut then = words_written(call, &report);
-            then.writable.state[0] = expected;
-            then.writable.buffer[start(call)..][..reply.len()].copy_from_slice(&reply);
+            if let Some(state) = state {
+                then.writable.state[..RECEIVER_WORDS].copy_from_slice(&state);
+            }
+            if !reply.is_empty() {
+                then.writable.buffer[start..][..reply.len()].copy_from_slice(&reply);
+            }
             then
         }
     }
@@ -296,6 +334,9 @@ fn message_modelled(call: &Call) -> Option<Answer> {
 
 /// What the model answers, and what it leaves.
 pub fn modelled(call: &Call) -> Answer {
+    if let Some(act) = receiver_act(call) {
+        return receiver_acted(call, &act);
+    }
     if let Some(act) = sender_act(call) {
         return acted(call, &act);
     }
@@ -310,7 +351,7 @@ pub fn modelled(call: &Call) -> Answer {
     }
     match of_layer(call) {
         "reader_fresh" => words_written(call, &[0; 4]),
-        "receiver_fresh" => words_written(call, &[0]),
+        "receiver_fresh" => words_written(call, &[0; RECEIVER_WORDS]),
         "station_fresh" => words_written(call, &[0; STATION_WORDS]),
         "master_fresh" => words_written(call, &[0; MASTER_WORDS]),
         "sender_fresh" => {
@@ -322,7 +363,6 @@ pub fn modelled(call: &Call) -> Answer {
         "read" => read(call),
         "check" => checked(call),
         "write" => written(call),
-        "receive" => received(call),
         "control_block" => control_block_written(call),
         other => panic!("no model of {other}"),
     }
@@ -358,8 +398,12 @@ fn fresh_number(call: &Call, words: &mut [u64]) -> Option<u64> {
     })
 }
 
-/// The library's functions for the acts of the sender and of the two stations.
+/// The library's functions for the acts of the receiver, of the sender and of the two stations.
 fn act_number(call: &Call, buffer: &mut [u8], state: &mut [u64], words: &mut [u64]) -> Option<u64> {
+    if let Some(act) = receiver_act(call) {
+        let start = reply_start(&act, call);
+        return Some(ends_ffi::receiver_act(&act, state, buffer, start, words));
+    }
     if let Some(act) = sender_act(call) {
         return Some(ends_ffi::sender_act(&act, state, words));
     }
@@ -385,19 +429,6 @@ fn library_number(call: &Call, buffer: &mut [u8], state: &mut [u64], words: &mut
         "write" => {
             let (link, block_type) = (settings(call), block_type(call));
             library::write(&link, block_type, bytes, buffer, start(call), words)
-        }
-        "receive" => {
-            let (link, application) = (settings(call), call.number("application"));
-            let block = incoming(call);
-            ends_ffi::receive(
-                &link,
-                application,
-                state,
-                &block,
-                buffer,
-                start(call),
-                words,
-            )
         }
         "control_block" => {
             let (link, number) = (settings(call), call.number("number"));

@@ -4,7 +4,7 @@
 /// The functions: a name, and its parameters in the header's order, each with its kind: n a number, b
 /// bytes that are read, o bytes that are written and given by their length, h bytes that are held and
 /// may change, s words of a state and w words that are written, both with the count that is needed.
-const FUNCTIONS: [(&str, &str); 40] = [
+const FUNCTIONS: [(&str, &str); 42] = [
     ("reader_fresh", "w4:state"),
     ("hybrid_read", "HYBRID s4:state b:part h:buffer w8:verdict"),
     (
@@ -20,9 +20,14 @@ const FUNCTIONS: [(&str, &str); 40] = [
     ("field_next", "b:message n:position w5:field"),
     ("answer_write", "b:control_id n:code n:number WRITE"),
     ("control_write", "b:type n:number WRITE"),
-    ("receiver_fresh", "w1:state"),
-    ("hybrid_receive", "HYBRID RECEIVE"),
-    ("minimal_receive", "MINIMAL RECEIVE"),
+    ("receiver_fresh", "w9:state"),
+    (
+        "receiver_decide",
+        "n:application n:block_type b:data s9:state w5:report",
+    ),
+    ("hybrid_answer", "HYBRID n:stored s9:state WRITE"),
+    ("minimal_answer", "MINIMAL n:stored s9:state WRITE"),
+    ("hybrid_nak", "HYBRID n:block_number s9:state WRITE"),
     ("sender_fresh", "n:first w7:state"),
     ("sender_submit", "n:data_limit b:message SENDER"),
     ("sender_open", "SENDER"),
@@ -56,20 +61,18 @@ const FUNCTIONS: [(&str, &str); 40] = [
     ("master_may_receive", "MASTER"),
 ];
 
-const COMMON: [(&str, &str); 7] = [
+const COMMON: [(&str, &str); 6] = [
     ("HYBRID", "n:start_block n:end_block n:data_limit"),
     ("MINIMAL", "n:data_limit"),
     ("WRITE", "o:buffer n:start w2:report"),
-    (
-        "RECEIVE",
-        "n:application s1:state n:block_number n:block_type b:data o:buffer n:start w3:report",
-    ),
     ("SENDER", "s7:state w8:report"),
     ("STATION", "s5:state w4:report"),
     ("MASTER", "s10:state w10:report"),
 ];
 
 const LARGEST: usize = 110_000;
+const TEXT_WORDS: usize = 3;
+const TEXT_BYTES: usize = 8 * TEXT_WORDS;
 pub const PAINTED_BYTE: u8 = 0x55;
 const PAINTED_WORD: u64 = 0xEEEE_EEEE_EEEE_EEEE;
 
@@ -332,11 +335,32 @@ impl<'a> Line<'a> {
         }
     }
 
+    /// A text among words: its length, and its bytes in three words, of which the first is the lowest.
+    fn text_words(&mut self) -> Read<Vec<u64>> {
+        let bytes = self.quoted()?;
+        if bytes.len() > TEXT_BYTES {
+            return self.wrong("too long a text among words");
+        }
+        let mut held = [0; TEXT_BYTES];
+        held[..bytes.len()].copy_from_slice(&bytes);
+        let word = |part: &[u8]| {
+            part.iter()
+                .rev()
+                .fold(0, |sum, &byte| sum << 8 | u64::from(byte))
+        };
+        let words = held.chunks(TEXT_BYTES / TEXT_WORDS).map(word);
+        Ok([bytes.len() as u64].into_iter().chain(words).collect())
+    }
+
     fn words(&mut self) -> Read<Vec<u64>> {
         let mut words = Vec::new();
         self.skip("(")?;
         while !self.skips(")") {
-            words.push(self.number()?);
+            if self.rest.starts_with('"') {
+                words.extend(self.text_words()?);
+            } else {
+                words.push(self.number()?);
+            }
             if !self.rest.starts_with(')') {
                 self.skip(" ")?;
             }

@@ -3,6 +3,7 @@
 
 use crate::compare_fields::FieldCounts;
 use crate::compare_master::MasterCounts;
+use crate::compare_receiver::ReceiverCounts;
 use crate::compare_station::StationCounts;
 use crate::guarded::{same, Guarded};
 use crate::library;
@@ -17,9 +18,10 @@ pub const GUARD_BYTE: u8 = 0xC3;
 /// Draws random numbers for a group and counts what was compared: calls of the functions for
 /// blocks, and messages that were read or written. Of the messages read, those with a header that
 /// the model reads are counted too, and those with an answer. Acts are calls of the functions for
-/// the receiver and the sender, those on simulated links apart, with the runs of such links; acts of
-/// stations and masters, acts on links of the two and runs of such links, acts in walks of small links
-/// with the states found, calls of the field reader and calls of the cases by hand are counted apart too.
+/// the receiver and the sender, the receiver's by kind too, and those on simulated links apart, with the
+/// runs of such links; acts of stations and masters, acts on links of the two and runs of such links,
+/// acts in walks of small links with the states found, calls of the field reader and calls of the cases
+/// by hand are counted apart too.
 pub struct Compare {
     pub random: Random,
     pub inputs: u64,
@@ -30,6 +32,7 @@ pub struct Compare {
     pub link_acts: u64,
     pub link_runs: u64,
     pub kinds: Kinds,
+    pub receiver: ReceiverCounts,
     pub station: StationCounts,
     pub master: MasterCounts,
     pub stations_acts: u64,
@@ -126,6 +129,7 @@ impl Compare {
             link_acts: 0,
             link_runs: 0,
             kinds: Kinds::default(),
+            receiver: ReceiverCounts::default(),
             station: StationCounts::new(),
             master: MasterCounts::new(),
             stations_acts: 0,

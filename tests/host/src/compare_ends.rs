@@ -1,16 +1,13 @@
-//! Acts of the receiver and the sender, each compared with the model: the answer, and every word
-//! and byte of the memory.
+//! Acts of the sender, each compared with the model: the answer, and every word and byte of the memory.
 
 use crate::compare::{same_number, Compare, Kinds, Outcome, GUARD_BYTE, GUARD_WORD, RESENDS};
 use crate::guarded::{same, Guarded};
 use crate::library;
 use host::ends_ffi;
 use host::ffi;
-use host::message_model::{
-    Memory, ANSWER_WORDS, HEADER_WORDS, LARGEST_EXPECTED, LARGEST_SENT, MINUS_ONE,
-};
+use host::message_model::{Memory, HEADER_WORDS, LARGEST_EXPECTED, LARGEST_SENT, MINUS_ONE};
 use host::model::{Layer, Settings};
-use host::receiver_model::{self, Incoming, Received, RECEIVED_WORDS};
+use host::receiver_model::Incoming;
 use host::sender_model::{self, Act, Acted, Sender, ACT_WORDS, SENDER_WORDS};
 
 /// What an act of the sender answered, and its report; without one for 1 and 2.
@@ -18,34 +15,6 @@ use host::sender_model::{self, Act, Acted, Sender, ACT_WORDS, SENDER_WORDS};
 pub struct SenderAnswer {
     pub number: u64,
     pub report: [u64; ACT_WORDS],
-}
-
-/// A receiver with the memory of its replies, which stays the same from act to act, beside what it
-/// must be.
-pub struct Receiver {
-    pub settings: Settings,
-    pub state: Vec<u64>,
-    buffer: Guarded<u8>,
-    expected_buffer: Vec<u8>,
-}
-
-/// The receiver's act on a block: how many words of the state are passed, the buffer's length and
-/// where the reply starts in it.
-#[derive(Clone, Copy)]
-pub struct ReceiveCall<'a> {
-    pub application: u64,
-    pub block: Incoming<'a>,
-    pub state_words: usize,
-    pub buffer_length: usize,
-    pub start: usize,
-    pub report_words: usize,
-}
-
-/// What the receiver's act answered, its report, and the reply's bytes; nothing if refused.
-pub struct ReceiverAnswer {
-    pub number: u64,
-    pub report: [u64; RECEIVED_WORDS],
-    pub reply: Vec<u8>,
 }
 
 /// One call of a writer of control blocks.
@@ -59,79 +28,14 @@ pub struct ControlBlockCall<'a> {
     pub report_words: usize,
 }
 
-impl Receiver {
-    /// The buffer has so many bytes more than the receiver needs.
-    pub fn new(compare: &mut Compare, settings: &Settings, state: u64, more: usize) -> Receiver {
-        let words = 1 + compare.random.below(3);
-        let mut state_words = compare.random.words(words);
-        state_words[0] = state;
-        let buffer = compare.random.bytes(needed(settings) + more);
-        Receiver {
-            settings: *settings,
-            state: state_words,
-            buffer: Guarded::new(&buffer, GUARD_BYTE),
-            expected_buffer: buffer,
-        }
-    }
-
-    pub fn buffer_length(&self) -> usize {
-        self.expected_buffer.len()
-    }
-
-    /// What the model answers; the state and the expected buffer become what they must be then.
-    fn expected(&mut self, call: &ReceiveCall) -> ReceiverAnswer {
-        let memory = Memory {
-            buffer_length: call.buffer_length,
-            start: call.start,
-            report_words: call.report_words,
-        };
-        let received = receiver_model::receive(
-            &self.settings,
-            call.application,
-            &self.state[..call.state_words],
-            &call.block,
-            &memory,
-        );
-        match received {
-            Received::Refused(number) => ReceiverAnswer {
-                number,
-                report: [0; RECEIVED_WORDS],
-                reply: Vec::new(),
-            },
-            Received::Taken(state, report, reply) => {
-                self.state[0] = state;
-                self.expected_buffer[call.start..][..reply.len()].copy_from_slice(&reply);
-                ReceiverAnswer {
-                    number: 0,
-                    report,
-                    reply,
-                }
-            }
-        }
-    }
-}
-
-/// The bytes that a receiver's reply needs, whatever it is.
-pub fn needed(settings: &Settings) -> usize {
-    settings.limit as usize + settings.overhead()
-}
-
 /// So near the ends of their range numbers count as small or large.
 const NEAR: u64 = 100;
 
 impl Kinds {
-    fn count_number(&mut self, number: u64) {
+    pub fn count_number(&mut self, number: u64) {
         let large = LARGEST_SENT - NEAR..=LARGEST_EXPECTED;
         self.small += u64::from((1..=NEAR).contains(&number));
         self.large += u64::from(large.contains(&number));
-    }
-
-    fn count_receiver(&mut self, settings: &Settings, state: &[u64]) {
-        match settings.layer {
-            Layer::Hybrid => self.hybrid += 1,
-            Layer::Minimal => self.minimal += 1,
-        }
-        self.count_number(state[0]);
     }
 
     fn count_sender(&mut self, act: &Act, state: &[u64]) {
@@ -214,69 +118,6 @@ impl Compare {
                 format!("{act}, {report_words} report words, state {before:?}: {why}")
             })?;
         Ok(answer)
-    }
-
-    /// The receiver's act on a block.
-    pub fn receive(
-        &mut self,
-        receiver: &mut Receiver,
-        call: &ReceiveCall,
-    ) -> Result<ReceiverAnswer, String> {
-        self.acts += 1;
-        self.kinds
-            .count_receiver(&receiver.settings, &receiver.state);
-        let before = receiver.state.clone();
-        let mut expected_report = self.random.words(call.report_words);
-        let mut report = Guarded::new(&expected_report, GUARD_WORD);
-        let mut words = Guarded::new(&receiver.state, GUARD_WORD);
-        let mut given = Guarded::new(call.block.data, GUARD_BYTE);
-        let block = Incoming {
-            data: given.content_mut(),
-            ..call.block
-        };
-        let settings = receiver.settings;
-        let found = ends_ffi::receive(
-            &settings,
-            call.application,
-            &mut words.content_mut()[..call.state_words],
-            &block,
-            &mut receiver.buffer.content_mut()[..call.buffer_length],
-            call.start,
-            report.content_mut(),
-        );
-        let answer = receiver.expected(call);
-        if answer.number == 0 {
-            expected_report[..RECEIVED_WORDS].copy_from_slice(&answer.report);
-        }
-        same_number(found, answer.number)
-            .and_then(|()| words.compare("state", &receiver.state))
-            .and_then(|()| report.compare("report", &expected_report))
-            .and_then(|()| receiver.buffer.compare("buffer", &receiver.expected_buffer))
-            .and_then(|()| given.compare("data", call.block.data))
-            .map_err(|why| receive_text(&settings, call, &before, &why))?;
-        Ok(answer)
-    }
-
-    /// The library's own check and readers on a reply: an N block, or an answer with this control
-    /// ID in both fields.
-    pub fn reply_reads_back(
-        &mut self,
-        settings: &Settings,
-        reply: &[u8],
-        control_id: &[u8],
-    ) -> Outcome {
-        let mut verdict = [0; 8];
-        same_number(library::check(settings, reply, &mut verdict), 0)?;
-        let data = &reply[verdict[5] as usize..][..verdict[6] as usize];
-        if verdict[4] == u64::from(b'N') {
-            return same("length of an N block", &[data.len()], &[1]);
-        }
-        let (mut header, mut answer) = ([0; HEADER_WORDS], [0; ANSWER_WORDS]);
-        same_number(ffi::header_read(data, &mut header), 0)?;
-        same_number(ffi::answer_read(data, &mut answer), 0)?;
-        let field = |offset: u64, length: u64| &data[offset as usize..][..length as usize];
-        same("MSH-10", field(header[0], header[1]), control_id)?;
-        same("MSA-2", field(answer[3], answer[4]), control_id)
     }
 
     /// One call of a writer of control blocks; what was written is then read back.
@@ -397,20 +238,6 @@ pub fn act_text(act: &Act) -> String {
         Act::Timer { resends } => format!("timer, r={resends}"),
         Act::Block { resends, block } => format!("block, r={resends}, {}", block_text(block)),
     }
-}
-
-fn receive_text(settings: &Settings, call: &ReceiveCall, state: &[u64], why: &str) -> String {
-    format!(
-        "receive, {}, application {}, {} words of state {state:?}, {} buffer bytes, start {}, {} \
-         report words: {why}; {}",
-        library::settings_text(settings),
-        call.application,
-        call.state_words,
-        call.buffer_length,
-        call.start,
-        call.report_words,
-        block_text(&call.block)
-    )
 }
 
 fn control_text(call: &ControlBlockCall, why: &str) -> String {

@@ -4,12 +4,24 @@
 /// The names of giamuvich.h for both ends, without their prefix.
 pub mod names {
     pub const RECEIVER_EXPECTED: usize = 0;
-    pub const RECEIVER_WORDS: usize = 1;
+    pub const RECEIVER_PERSISTED_WORDS: usize = 1;
+    pub const RECEIVER_CODE: usize = 1;
+    pub const RECEIVER_NUMBER: usize = 2;
+    pub const RECEIVER_TRANSACTION: usize = 3;
+    pub const RECEIVER_NEW_EXPECTED: usize = 4;
+    pub const RECEIVER_CONTROL_ID_LENGTH: usize = 5;
+    pub const RECEIVER_CONTROL_ID: usize = 6;
+    pub const RECEIVER_WORDS: usize = 9;
 
-    pub const RECEIVED_TRANSACTION: usize = 0;
-    pub const RECEIVED_REPLY_LENGTH: usize = 1;
-    pub const RECEIVED_BLOCK: usize = 2;
-    pub const RECEIVED_WORDS: usize = 3;
+    pub const DECISION_BLOCK: usize = 0;
+    pub const DECISION_OPENED: usize = 1;
+    pub const DECISION_TRANSACTION: usize = 2;
+    pub const DECISION_EXPECTED: usize = 3;
+    pub const DECISION_CHANGES: usize = 4;
+    pub const DECISION_WORDS: usize = 5;
+
+    pub const NOT_STORED: u64 = 0;
+    pub const STORED: u64 = 1;
 
     pub const RESENDS_DEFAULT: u64 = 3;
 
@@ -56,17 +68,24 @@ pub mod raw {
     extern "C" {
         pub fn gmv_receiver_fresh(state: *mut u64, state_words: usize) -> u64;
 
-        pub fn gmv_hybrid_receive(
-            start_block: u64,
-            end_block: u64,
-            data_limit: u64,
+        pub fn gmv_receiver_decide(
             application: u64,
-            state: *mut u64,
-            state_words: usize,
-            block_number: u64,
             block_type: u64,
             data: *const u8,
             data_length: usize,
+            state: *mut u64,
+            state_words: usize,
+            report: *mut u64,
+            report_words: usize,
+        ) -> u64;
+
+        pub fn gmv_hybrid_answer(
+            start_block: u64,
+            end_block: u64,
+            data_limit: u64,
+            stored: u64,
+            state: *mut u64,
+            state_words: usize,
             buffer: *mut u8,
             buffer_length: usize,
             start: usize,
@@ -74,15 +93,25 @@ pub mod raw {
             report_words: usize,
         ) -> u64;
 
-        pub fn gmv_minimal_receive(
+        pub fn gmv_minimal_answer(
             data_limit: u64,
-            application: u64,
+            stored: u64,
             state: *mut u64,
             state_words: usize,
+            buffer: *mut u8,
+            buffer_length: usize,
+            start: usize,
+            report: *mut u64,
+            report_words: usize,
+        ) -> u64;
+
+        pub fn gmv_hybrid_nak(
+            start_block: u64,
+            end_block: u64,
+            data_limit: u64,
             block_number: u64,
-            block_type: u64,
-            data: *const u8,
-            data_length: usize,
+            state: *const u64,
+            state_words: usize,
             buffer: *mut u8,
             buffer_length: usize,
             start: usize,
@@ -172,7 +201,7 @@ pub mod raw {
 }
 
 use crate::model::{Layer, Settings};
-use crate::receiver_model::Incoming;
+use crate::receiver_model::ReceiverAct;
 use crate::sender_model::Act;
 
 pub fn receiver_fresh(state: &mut [u64]) -> u64 {
@@ -185,12 +214,34 @@ pub fn sender_fresh(first: u64, state: &mut [u64]) -> u64 {
     unsafe { raw::gmv_sender_fresh(first, state.as_mut_ptr(), state.len()) }
 }
 
-/// The receiver's act, by layer.
-pub fn receive(
-    settings: &Settings,
+/// The receiver's decision on an accepted block.
+pub fn decide(
     application: u64,
+    block_type: u64,
+    data: &[u8],
     state: &mut [u64],
-    block: &Incoming,
+    report: &mut [u64],
+) -> u64 {
+    // SAFETY: each slice has memory of the length passed, and none overlaps another.
+    unsafe {
+        raw::gmv_receiver_decide(
+            application,
+            block_type,
+            data.as_ptr(),
+            data.len(),
+            state.as_mut_ptr(),
+            state.len(),
+            report.as_mut_ptr(),
+            report.len(),
+        )
+    }
+}
+
+/// The report on the open decision, by layer.
+pub fn answer(
+    settings: &Settings,
+    stored: u64,
+    state: &mut [u64],
     buffer: &mut [u8],
     start: usize,
     report: &mut [u64],
@@ -198,17 +249,13 @@ pub fn receive(
     match settings.layer {
         // SAFETY: each slice has memory of the length passed, and none overlaps another.
         Layer::Hybrid => unsafe {
-            raw::gmv_hybrid_receive(
+            raw::gmv_hybrid_answer(
                 settings.start,
                 settings.end,
                 settings.limit,
-                application,
+                stored,
                 state.as_mut_ptr(),
                 state.len(),
-                block.number,
-                block.block_type,
-                block.data.as_ptr(),
-                block.data.len(),
                 buffer.as_mut_ptr(),
                 buffer.len(),
                 start,
@@ -218,15 +265,11 @@ pub fn receive(
         },
         // SAFETY: each slice has memory of the length passed, and none overlaps another.
         Layer::Minimal => unsafe {
-            raw::gmv_minimal_receive(
+            raw::gmv_minimal_answer(
                 settings.limit,
-                application,
+                stored,
                 state.as_mut_ptr(),
                 state.len(),
-                block.number,
-                block.block_type,
-                block.data.as_ptr(),
-                block.data.len(),
                 buffer.as_mut_ptr(),
                 buffer.len(),
                 start,
@@ -234,6 +277,56 @@ pub fn receive(
                 report.len(),
             )
         },
+    }
+}
+
+/// The reply of a hybrid link to a refused block.
+pub fn nak(
+    settings: &Settings,
+    number: u64,
+    state: &[u64],
+    buffer: &mut [u8],
+    start: usize,
+    report: &mut [u64],
+) -> u64 {
+    // SAFETY: each slice has memory of the length passed, and none overlaps another.
+    unsafe {
+        raw::gmv_hybrid_nak(
+            settings.start,
+            settings.end,
+            settings.limit,
+            number,
+            state.as_ptr(),
+            state.len(),
+            buffer.as_mut_ptr(),
+            buffer.len(),
+            start,
+            report.as_mut_ptr(),
+            report.len(),
+        )
+    }
+}
+
+/// One of the receiver's acts; a decision takes no buffer.
+pub fn receiver_act(
+    act: &ReceiverAct,
+    state: &mut [u64],
+    buffer: &mut [u8],
+    start: usize,
+    report: &mut [u64],
+) -> u64 {
+    match *act {
+        ReceiverAct::Decide {
+            application,
+            block_type,
+            data,
+        } => decide(application, block_type, data, state, report),
+        ReceiverAct::Report { settings, stored } => {
+            answer(&settings, stored, state, buffer, start, report)
+        }
+        ReceiverAct::Nak { settings, number } => {
+            nak(&settings, number, state, buffer, start, report)
+        }
     }
 }
 

@@ -1,4 +1,4 @@
-//! What the tests stand on: the rules of document 01 with those of document 02, §2, §3 and §14 (`model`
+//! What the tests stand on: the rules of document 01 with those of document 02, §1 to §3 and §14 (`model`
 //! for blocks, `message_model` for header fields and messages, `field_model` for the reader over a message,
 //! `receiver_model` and `sender_model` for the two ends of a link, `station_model` and `master_model` for
 //! the X3.28 receiving and sending stations), the C interface (`ffi`, `ends_ffi`, `station_ffi`,

@@ -114,8 +114,8 @@ impl Link {
 
     pub fn text(&self) -> String {
         format!(
-            "{}, {:?}, r={}, {} in the log; sender {:?}, persisted {:?}; receiver {:?}, persisted \
-             {:?}, {} received, {} persisted",
+            "{}, {:?}, r={}, {} in the log; sender {:?}, persisted {:?}; receiver {:?}, {} expected \
+             and {} transactions stored, the open decision: {}",
             library::settings_text(&self.settings),
             self.deviation,
             self.resends,
@@ -123,9 +123,9 @@ impl Link {
             self.sending.state,
             self.sending.persisted,
             self.receiving.state,
-            self.receiving.persisted,
+            self.receiving.expected,
             self.receiving.transactions.len(),
-            self.receiving.persisted_count
+            self.receiving.is_persisted
         )
     }
 }

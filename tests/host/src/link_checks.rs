@@ -4,19 +4,22 @@ use crate::compare::Outcome;
 use crate::library;
 use crate::link::Link;
 use crate::link_counts::Kind;
+use crate::link_deviation::Deviation;
 use crate::link_ends::{control_id, named, Report};
 use host::ends_ffi::names::{
-    ACT_CODE, ACT_DELIVERED, ACT_EVENT, ACT_SEND, ACT_SENDS, ACT_SEND_NUMBER, EVENT_DELIVERED,
-    EVENT_DROPPED, EVENT_FROZE, EVENT_NONE, SENDER_DELIVERED, SENDER_FIRST, SENDER_FROZEN,
+    ACT_CODE, ACT_DELIVERED, ACT_EVENT, ACT_SEND, ACT_SENDS, ACT_SEND_NUMBER, DECISION_CHANGES,
+    DECISION_TRANSACTION, EVENT_DELIVERED, EVENT_DROPPED, EVENT_FROZE, EVENT_NONE,
+    RECEIVER_EXPECTED, RECEIVER_NEW_EXPECTED, SENDER_DELIVERED, SENDER_FIRST, SENDER_FROZEN,
     SENDER_LAST, SENDER_RESYNCHRONIZED, SENDER_SENDS, SENDER_WAITING, SEND_NOTHING,
     SEND_TRANSACTION, WAITING_CLOSED, WAITING_IDLE,
 };
 use host::message_model;
 
 impl Link {
-    /// At every moment: what the receiver has is the first of the log, byte for byte; what the sender
-    /// takes as delivered covers that or one less, each as it is held and as it is persisted; the
-    /// sender is not frozen; and on an open circuit something waits, or all is delivered.
+    /// At every moment: what the receiver has stored is the first of the log, byte for byte; what the
+    /// sender takes as delivered covers that or one less, as it is held and as it is persisted; the
+    /// sender is not frozen; and on an open circuit something waits, or all is delivered. Where the hosts
+    /// keep their duties the receiver holds what is stored, or is behind it as long as that is not reported.
     pub fn check(&self) -> Outcome {
         let (sending, receiving) = (&self.sending, &self.receiving);
         for (index, (data, _)) in receiving.transactions.iter().enumerate() {
@@ -27,15 +30,13 @@ impl Link {
                 ));
             }
         }
-        let held = receiving.transactions.len() as u64;
-        for k in [held, receiving.persisted_count as u64] {
-            for words in [&sending.state[..], &sending.persisted[..]] {
-                let covered = words[SENDER_DELIVERED]
-                    .wrapping_add(1)
-                    .wrapping_sub(self.first);
-                if covered != k && covered.wrapping_add(1) != k {
-                    return Err(format!("{k} transactions received, {covered} delivered"));
-                }
+        let k = receiving.transactions.len() as u64;
+        for words in [&sending.state[..], &sending.persisted[..]] {
+            let covered = words[SENDER_DELIVERED]
+                .wrapping_add(1)
+                .wrapping_sub(self.first);
+            if covered != k && covered.wrapping_add(1) != k {
+                return Err(format!("{k} transactions stored, {covered} delivered"));
             }
         }
         if sending.state[SENDER_FROZEN] != 0 || sending.persisted[SENDER_FROZEN] != 0 {
@@ -44,6 +45,14 @@ impl Link {
         let is_idle = sending.state[SENDER_WAITING] == WAITING_IDLE;
         if is_idle && sending.state[SENDER_DELIVERED] != sending.state[SENDER_LAST] {
             return Err(format!("nothing waits: {:?}", sending.state));
+        }
+        let holds = match receiving.is_persisted {
+            true => receiving.state[RECEIVER_NEW_EXPECTED],
+            false => receiving.state[RECEIVER_EXPECTED],
+        };
+        if self.deviation == Deviation::Faithful && holds != receiving.expected {
+            let expected = receiving.expected;
+            return Err(format!("the receiver holds {holds}, {expected} is stored"));
         }
         Ok(())
     }
@@ -227,33 +236,58 @@ impl Link {
         });
     }
 
-    /// What an act of the receiver comes upon that decides a block.
-    pub fn count_receiving(&mut self, start: usize) {
+    /// What an act of the receiver on a block comes upon.
+    pub fn count_receiving(&mut self) {
         let kinds = [
-            (Kind::Receives, true),
             (Kind::WhileOthersWait, !self.receiving.arrived.is_empty()),
             (Kind::OfferedAgain, self.receiving.was_refused),
-            (Kind::ReplyAtOffset, start > 0),
         ];
         self.count_all(&kinds);
     }
 
-    /// What storing that fails comes upon.
-    pub fn count_restore(&mut self, kind: Kind) {
-        let is_unstored = [!self.sending.is_persisted(), !self.receiving.is_persisted()];
-        let is_owing = !self.receiving.pending.is_empty();
-        let kinds = match kind {
-            Kind::SenderRestores => [
-                (kind, true),
-                (Kind::SenderRestoreUnstored, is_unstored[0]),
-                (Kind::SenderRestoreWithCircuit, self.sending.has_circuit()),
-            ],
-            _ => [
-                (kind, true),
-                (Kind::ReceiverRestoreUnstored, is_unstored[1]),
-                (Kind::ReceiverRestorePending, is_owing),
-            ],
-        };
+    /// A report of failure.
+    pub fn count_failure(&mut self) {
+        let report = &self.receiving.decided.report;
+        let kinds = [
+            (Kind::Failures, true),
+            (Kind::FailedTransaction, report[DECISION_TRANSACTION] != 0),
+            (Kind::FailedNothing, report[DECISION_CHANGES] == 0),
+        ];
+        self.count_all(&kinds);
+    }
+
+    /// What a restart of the receiver on the same circuit comes upon.
+    pub fn count_receiver_restore(&mut self) {
+        let end = &self.receiving;
+        let kinds = [
+            (Kind::ReceiverRestores, true),
+            (
+                Kind::RestoreBeforeStoring,
+                end.is_open() && !end.is_persisted,
+            ),
+            (Kind::RestoreBeforeReport, end.is_persisted),
+            (Kind::RestorePending, !end.pending.is_empty()),
+        ];
+        self.count_all(&kinds);
+    }
+
+    /// What storing at the sender comes upon that fails.
+    pub fn count_restore(&mut self) {
+        let kinds = [
+            (Kind::SenderRestores, true),
+            (Kind::SenderRestoreUnstored, !self.sending.is_persisted()),
+            (Kind::SenderRestoreWithCircuit, self.sending.has_circuit()),
+        ];
+        self.count_all(&kinds);
+    }
+
+    /// What a new circuit comes upon.
+    pub fn count_circuit(&mut self) {
+        let end = &self.receiving;
+        let kinds = [
+            (Kind::CircuitWhileOpen, end.is_open() && !end.is_persisted),
+            (Kind::CircuitBeforeReport, end.is_persisted),
+        ];
         self.count_all(&kinds);
     }
 
@@ -266,16 +300,21 @@ impl Link {
 
     /// What a crash comes upon.
     pub fn count_crash(&mut self, kind: Kind) {
-        let is_stored = [self.sending.is_persisted(), self.receiving.is_persisted()];
+        let is_sender = kind == Kind::SenderCrash;
+        let end = &self.receiving;
+        let is_open = !is_sender && end.is_open();
         let has_bytes = !self.forward.is_empty() || !self.back.is_empty();
         let is_first = self.sending.persisted[SENDER_RESYNCHRONIZED] == 0;
-        let (unstored, is_unstored) = match kind {
-            Kind::SenderCrash => (Kind::SenderCrashUnstored, !is_stored[0]),
-            _ => (Kind::ReceiverCrashUnstored, !is_stored[1]),
-        };
+        let is_unstored = is_sender && !self.sending.is_persisted();
         let kinds = [
             (kind, true),
-            (unstored, is_unstored),
+            (Kind::SenderCrashUnstored, is_unstored),
+            (Kind::CrashBeforeStoring, is_open && !end.is_persisted),
+            (Kind::CrashBeforeReport, is_open && end.is_persisted),
+            (
+                Kind::CrashBeforeSending,
+                !is_sender && !end.pending.is_empty(),
+            ),
             (Kind::CrashWithBytes, has_bytes),
             (Kind::CrashInFirstExchange, is_first),
         ];

@@ -23,16 +23,20 @@ pub enum Duty {
     WritesInOrder,
     OffersInOrder,
     SenderPersistsFirst,
-    ReceiverPersistsFirst,
     PersistsAsOne,
-    DecidesFromVolatile,
+    ReportsPersisted,
+    ReportsFailed,
+    SettlesWrites,
     DropsNamed,
-    DropsUnpersisted,
+    DropsReports,
+    DropsDecision,
     Survives,
 }
 
-/// Each duty with its name.
-pub const DUTIES: [(Duty, &str); 14] = [
+/// Each duty with its name. That an answer goes out before what it answers is stored was the neglect of
+/// a duty once. It cannot be built any more: a decision is lent no buffer and gives no answer, and the
+/// library gives one only by a report of success. What is left of it is that such a report is false.
+pub const DUTIES: [(Duty, &str); 16] = [
     (Duty::Exchanges, "exchanges"),
     (Duty::EmptiesLines, "empties_lines"),
     (Duty::DropsReplies, "drops_replies"),
@@ -41,11 +45,13 @@ pub const DUTIES: [(Duty, &str); 14] = [
     (Duty::WritesInOrder, "writes_in_order"),
     (Duty::OffersInOrder, "offers_in_order"),
     (Duty::SenderPersistsFirst, "sender_persists_first"),
-    (Duty::ReceiverPersistsFirst, "receiver_persists_first"),
     (Duty::PersistsAsOne, "persists_as_one"),
-    (Duty::DecidesFromVolatile, "decides_from_volatile"),
+    (Duty::ReportsPersisted, "reports_persisted"),
+    (Duty::ReportsFailed, "reports_failed"),
+    (Duty::SettlesWrites, "settles_writes"),
     (Duty::DropsNamed, "drops_named"),
-    (Duty::DropsUnpersisted, "drops_unpersisted"),
+    (Duty::DropsReports, "drops_reports"),
+    (Duty::DropsDecision, "drops_decision"),
     (Duty::Survives, "survives"),
 ];
 
@@ -92,6 +98,8 @@ pub enum Deviation {
     /// A restart goes on from what it finds, which a power cut can still undo.
     ReceiverFindsUndurable,
     SenderFindsUndurable,
+    /// The state's word is stored in place of the decision's number.
+    OldNumberStored,
     /// The line brings each request again behind the next, or requests as it may bring answers: in any
     /// order, and repeatedly.
     RequestsTwice,
@@ -148,21 +156,45 @@ impl Link {
         }
     }
 
-    /// What a restarted receiver finds.
+    /// What a restarted receiver finds: what the open decision says, which was written and is not yet
+    /// durable; or, after a power cut, what was durable.
     pub fn receiver_finds(&mut self) {
-        if self.deviation == Deviation::ReceiverFindsUndurable {
-            let end = &mut self.receiving;
-            let held = (end.state, end.transactions.len());
-            let persisted = (end.persisted, end.persisted_count);
-            (end.persisted, end.persisted_count) = found(held, persisted, end.durable);
+        let end = &mut self.receiving;
+        if self.deviation != Deviation::ReceiverFindsUndurable {
+            return;
+        }
+        if end.durable != end.stored() {
+            end.revert(end.durable);
+        } else if end.is_open() && !end.is_persisted {
+            end.store(end.decided.clone());
         }
     }
 
-    /// What was persisted at the receiver does not survive: something older is there again.
+    /// What is open was not stored when it was reported failed, or when the host started again: a write of
+    /// it may still land.
+    pub fn leaves_write(&mut self) {
+        if !self.keeps(Duty::SettlesWrites) {
+            self.receiving
+                .unsettled
+                .push(self.receiving.decided.clone());
+        }
+    }
+
+    /// A write lands that was given up.
+    pub fn lands_late(&mut self, choice: usize) -> Outcome {
+        let end = &mut self.receiving;
+        if !end.unsettled.is_empty() {
+            let late = end.unsettled.remove(choice % end.unsettled.len());
+            end.store(late);
+        }
+        self.check()
+    }
+
+    /// What was stored at the receiver does not survive: something older is there again.
     pub fn reverts(&mut self, choice: usize) -> Outcome {
         let end = &mut self.receiving;
         if !end.older.is_empty() {
-            (end.persisted, end.persisted_count) = end.older[choice % end.older.len()];
+            end.revert(end.older[choice % end.older.len()]);
         }
         self.check()
     }

@@ -2,11 +2,13 @@
 
 use crate::line::{Arrived, Reader};
 use crate::link_counts::Kind;
+use crate::link_receiving::Part;
 use host::ends_ffi::names::{
-    ACT_EVENT, ACT_SEND, ACT_SEND_NUMBER, ACT_WORDS, EVENT_ABANDONED, SENDER_DELIVERED,
-    SENDER_PERSISTED_WORDS, SENDER_WAITING, SENDER_WORDS, SEND_NOTHING, SEND_QUERY,
-    SEND_RESYNCHRONIZE, SEND_TRANSACTION, WAITING_CLOSED, WAITING_QUERY, WAITING_RESYNCHRONIZE,
-    WAITING_TRANSACTION,
+    ACT_EVENT, ACT_SEND, ACT_SEND_NUMBER, ACT_WORDS, DECISION_EXPECTED, DECISION_TRANSACTION,
+    DECISION_WORDS, EVENT_ABANDONED, RECEIVER_CODE, RECEIVER_EXPECTED, RECEIVER_WORDS,
+    SENDER_DELIVERED, SENDER_PERSISTED_WORDS, SENDER_WAITING, SENDER_WORDS, SEND_NOTHING,
+    SEND_QUERY, SEND_RESYNCHRONIZE, SEND_TRANSACTION, WAITING_CLOSED, WAITING_QUERY,
+    WAITING_RESYNCHRONIZE, WAITING_TRANSACTION,
 };
 use host::model::Settings;
 use std::collections::VecDeque;
@@ -83,35 +85,62 @@ impl SendingEnd {
     }
 }
 
-/// What is persisted of a receiver: its word, and how many transactions.
-pub type Stored = ([u64; 1], usize);
+/// What is stored at a receiver: the expected number, and how many transactions.
+pub type Stored = (u64, usize);
 
-/// The receiving end: its word and the transactions with their verdicts, as they are held, as they
-/// are persisted and as a power cut leaves them, with what was persisted before; the replies not yet
-/// sent; its reader, the blocks that were read and not yet acted on, and whether the oldest of them
-/// was refused.
+/// What was decided on: the block's data, the application's verdict, and the decision's report.
+#[derive(Clone)]
+pub struct Decided {
+    pub message: Vec<u8>,
+    pub application: u64,
+    pub report: [u64; DECISION_WORDS],
+}
+
+/// The receiving end: its words, with the decision that is open or none; what is stored, the expected
+/// number and the transactions with their verdicts, what of it a power cut leaves and what was stored
+/// before; what was decided on, whether that is stored, which half of it where the host stores it in two
+/// acts, and the writes that can still land where it does not see to that; the replies not yet sent; its
+/// reader, the blocks that were read and not yet acted on, and whether the oldest of them was refused
+/// while a decision was open.
 pub struct ReceivingEnd {
-    pub state: [u64; 1],
+    pub state: [u64; RECEIVER_WORDS],
+    pub expected: u64,
     pub transactions: Vec<(Vec<u8>, u64)>,
-    pub persisted: [u64; 1],
-    pub persisted_count: usize,
     pub durable: Stored,
     pub older: Vec<Stored>,
+    pub decided: Decided,
+    pub is_persisted: bool,
+    pub half: Option<Part>,
+    pub unsettled: Vec<Decided>,
     pub pending: VecDeque<Vec<u8>>,
     pub reader: Reader,
     pub arrived: VecDeque<Arrived>,
     pub was_refused: bool,
 }
 
+/// The words of a receiver that expects a number, with no decision open.
+fn closed(expected: u64) -> [u64; RECEIVER_WORDS] {
+    let mut words = [0; RECEIVER_WORDS];
+    words[RECEIVER_EXPECTED] = expected;
+    words
+}
+
 impl ReceivingEnd {
     pub fn new(expected: u64, settings: &Settings) -> ReceivingEnd {
         ReceivingEnd {
-            state: [expected],
+            state: closed(expected),
+            expected,
             transactions: Vec::new(),
-            persisted: [expected],
-            persisted_count: 0,
-            durable: ([expected], 0),
+            durable: (expected, 0),
             older: Vec::new(),
+            decided: Decided {
+                message: Vec::new(),
+                application: 0,
+                report: [0; DECISION_WORDS],
+            },
+            is_persisted: false,
+            half: None,
+            unsettled: Vec::new(),
             pending: VecDeque::new(),
             reader: Reader::new(settings),
             arrived: VecDeque::new(),
@@ -119,20 +148,39 @@ impl ReceivingEnd {
         }
     }
 
-    pub fn is_persisted(&self) -> bool {
-        self.state == self.persisted && self.transactions.len() == self.persisted_count
+    pub fn is_open(&self) -> bool {
+        self.state[RECEIVER_CODE] != 0
     }
 
-    /// The receiver is what is persisted of it.
+    pub fn stored(&self) -> Stored {
+        (self.expected, self.transactions.len())
+    }
+
+    /// Something else is found in storage: an older number, with fewer transactions.
+    pub fn revert(&mut self, (expected, count): Stored) {
+        self.expected = expected;
+        self.transactions.truncate(count);
+    }
+
+    /// The receiver is what is stored of it.
     pub fn restore(&mut self) {
-        self.state = self.persisted;
-        self.transactions.truncate(self.persisted_count);
+        self.state = closed(self.expected);
+        self.half = None;
     }
 
     /// What was read and not acted on is dropped.
     pub fn drop_verdicts(&mut self) {
         self.arrived.clear();
         self.was_refused = false;
+    }
+
+    /// What a decision says is stored beside what is there.
+    pub fn store(&mut self, decided: Decided) {
+        self.expected = decided.report[DECISION_EXPECTED];
+        if decided.report[DECISION_TRANSACTION] != 0 {
+            self.transactions
+                .push((decided.message, decided.application));
+        }
     }
 }
 

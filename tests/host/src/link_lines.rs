@@ -2,11 +2,15 @@
 //! both ends.
 
 use crate::compare::Outcome;
+use crate::guarded::same;
 use crate::library;
 use crate::line::{damaged, disordered, replace, without_block, Arrived, Effect, Order};
 use crate::link::Link;
 use crate::link_counts::Kind;
 use crate::link_deviation::{Deviation, Duty};
+use crate::link_ends::Decided;
+use host::ends_ffi;
+use host::ends_ffi::names::DECISION_WORDS;
 use host::ffi;
 use host::ffi::names::{CODE_AA, MINUS_ONE};
 use host::prng::Random;
@@ -20,6 +24,11 @@ fn answer(id: &str, number: u64) -> Result<Vec<u8>, String> {
         0 => Ok(message),
         _ => Err(format!("the answer to {id} was refused by {found}")),
     }
+}
+
+/// A request of an earlier run, for a number or -1.
+pub fn old_request(number: &str) -> Vec<u8> {
+    format!("MSH|^~\\&|||||||ADT|{number}|P|2.3.1|{number}\rOLD|").into_bytes()
 }
 
 /// A data block that a reader has accepted.
@@ -161,14 +170,26 @@ impl Link {
 
     /// What an earlier run left to the receiver: its first transaction, on the line or read.
     pub fn leave_old_request(&mut self, is_read: bool) -> Outcome {
-        let first = self.first;
-        let request = format!("MSH|^~\\&|||||||ADT|{first}|P|2.3.1|{first}\rOLD|").into_bytes();
+        let request = old_request(&self.first.to_string());
         if is_read {
             self.receiving.arrived.push_back(accepted(request));
         } else {
             self.forward = self.block(&request)?;
         }
         Ok(())
+    }
+
+    /// The decision on this message that an earlier run left open.
+    pub fn leave_old_decision(&mut self, message: Vec<u8>) -> Outcome {
+        let end = &mut self.receiving;
+        let (mut report, kind) = ([0; DECISION_WORDS], u64::from(b'D'));
+        let number = ends_ffi::decide(CODE_AA, kind, &message, &mut end.state, &mut report);
+        end.decided = Decided {
+            message,
+            application: CODE_AA,
+            report,
+        };
+        same("decision", &[number], &[0])
     }
 
     /// An earlier run's answer, as a block.

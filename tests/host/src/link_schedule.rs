@@ -20,8 +20,11 @@ enum Trouble {
     ReceiverCrash,
     SenderRestore,
     ReceiverRestore,
+    Failure,
     RefusedAct,
     ShortBuffer,
+    WhileOpen,
+    LateReport,
     Submission,
     SenderForget,
     SenderDiscard,
@@ -33,16 +36,17 @@ enum Trouble {
 }
 
 /// How often there is trouble, once in so many acts; how slow the sender is to read and to act on what
-/// it has read, and how slow the receiver; how many bytes a part has at most; and whether the sender is
-/// told of answers in the order in which they were sent.
+/// it has read, and how slow the receiver, to store what it decided and to report it; how many bytes a
+/// part has at most; and whether the sender is told of answers in the order in which they were sent.
 pub struct Weather {
-    troubles: [(Trouble, usize); 16],
-    slow: [usize; 4],
+    troubles: [(Trouble, usize); TROUBLES],
+    slow: [usize; 6],
     part: usize,
     is_in_order: bool,
 }
 
 const NEVER: usize = usize::MAX;
+const TROUBLES: usize = 19;
 
 /// Data limits that a message may be submitted under, beside the link's own; half of them are refused.
 const OTHER_LIMITS: [u64; 8] = [128, 129, 4096, 99_994, 0, 127, 99_995, u64::MAX];
@@ -62,8 +66,11 @@ impl Weather {
             once_in(Trouble::ReceiverCrash, &[NEVER, 100, 40, 20]),
             once_in(Trouble::SenderRestore, &[NEVER, NEVER, 150, 60]),
             once_in(Trouble::ReceiverRestore, &[NEVER, NEVER, 60, 20]),
+            once_in(Trouble::Failure, &[NEVER, 40, 15, 6]),
             once_in(Trouble::RefusedAct, &[NEVER, 100, 40]),
             once_in(Trouble::ShortBuffer, &[NEVER, 40, 10]),
+            once_in(Trouble::WhileOpen, &[NEVER, 40, 10]),
+            once_in(Trouble::LateReport, &[NEVER, 100, 40]),
             once_in(Trouble::Submission, &[NEVER, 60, 20]),
             once_in(Trouble::SenderForget, &[NEVER, NEVER, 80, 30]),
             once_in(Trouble::SenderDiscard, &[NEVER, NEVER, 80, 30]),
@@ -72,7 +79,7 @@ impl Weather {
             once_in(Trouble::Ended, &[NEVER, 300, 80]),
             (Trouble::Neglect, neglect),
         ];
-        let slow = [0; 4].map(|_| random.pick(&[1, 1, 3, 10, 30]));
+        let slow = [0; 6].map(|_| random.pick(&[1, 1, 3, 10, 30]));
         Weather {
             troubles,
             slow,
@@ -134,8 +141,20 @@ impl Link {
             Trouble::ReceiverCrash => self.receiver_crashes(),
             Trouble::SenderRestore => self.sender_restores(),
             Trouble::ReceiverRestore => self.receiver_restores(),
+            Trouble::Failure => {
+                let buffer = self.any_buffer(random);
+                self.receiver_reports(false, buffer)
+            }
             Trouble::RefusedAct => self.refused_act(random.below(3)),
-            Trouble::ShortBuffer => self.refused_block(random),
+            Trouble::ShortBuffer => {
+                let buffer = self.short_buffer(random);
+                self.receiver_reports(random.one_in(2), buffer)
+            }
+            Trouble::WhileOpen => self.takes_while_open(random),
+            Trouble::LateReport => {
+                let buffer = self.any_buffer(random);
+                self.reports_late(random.one_in(2), buffer)
+            }
             Trouble::Submission => {
                 let (message, other) = (self.submission(random), random.pick(&OTHER_LIMITS));
                 self.submit_bytes(random.pick(&[self.settings.limit, other]), &message)
@@ -157,7 +176,14 @@ impl Link {
             return self.brings_late(random.below(NEVER));
         }
         if !self.keeps(Duty::PersistsAsOne) {
-            return self.receiver_persists(random.pick(&[Part::Number, Part::Transactions]));
+            return self.receiver_persists(random.pick(&[Part::Number, Part::Transaction]));
+        }
+        if !self.keeps(Duty::SettlesWrites) {
+            return self.lands_late(random.below(NEVER));
+        }
+        if !self.keeps(Duty::ReportsPersisted) || !self.keeps(Duty::ReportsFailed) {
+            let buffer = self.any_buffer(random);
+            return self.receiver_reports(!self.keeps(Duty::ReportsPersisted), buffer);
         }
         Ok(())
     }
@@ -192,16 +218,22 @@ impl Link {
         message
     }
 
-    /// A buffer that is too short by a byte or more, from whatever offset; then the block may be
-    /// dropped, or it is offered again.
-    fn refused_block(&mut self, random: &mut Random) -> Outcome {
+    /// A buffer that is too short by a byte or more, from whatever offset.
+    fn short_buffer(&self, random: &mut Random) -> ReplyBuffer {
         let need = self.reply_need();
         let start = random.pick(&[0, 0, 1, MOST_OFFSET, need, NEVER]);
         let most = start.saturating_add(need - 1).min(self.buffer.len());
         let length = random.pick(&[most, most, most / 2, 0]);
-        let index = any_of(random, self.receiving.arrived.len());
-        let application = random.pick(&[1, 2]);
-        self.receiver_acts(index, application, ReplyBuffer { length, start })?;
+        ReplyBuffer { length, start }
+    }
+
+    /// A block is offered while a decision is open; then it may be dropped, or it is offered again.
+    fn takes_while_open(&mut self, random: &mut Random) -> Outcome {
+        if !self.receiving.is_open() {
+            return Ok(());
+        }
+        let (buffer, count) = (self.any_buffer(random), self.receiving.arrived.len());
+        self.receiver_takes(any_of(random, count), random.pick(&[1, 2]), buffer)?;
         if random.one_in(3) {
             return self.receiver_discards(0);
         }
@@ -218,7 +250,8 @@ impl Link {
     }
 
     /// Which of the useful acts can do something now.
-    fn possible(&self) -> [bool; 10] {
+    fn possible(&self) -> [bool; 11] {
+        let is_open = self.receiving.is_open();
         [
             self.can_submit(),
             !self.sending.has_circuit(),
@@ -227,9 +260,10 @@ impl Link {
             !self.back.is_empty(),
             !self.sending.arrived.is_empty(),
             !self.forward.is_empty(),
-            !self.receiving.arrived.is_empty(),
-            !self.receiving.is_persisted(),
-            self.can_reply(),
+            !self.receiving.arrived.is_empty() && !is_open,
+            is_open && !self.receiving.is_persisted,
+            is_open && self.receiving.is_persisted,
+            !self.receiving.pending.is_empty(),
         ]
     }
 
@@ -238,7 +272,7 @@ impl Link {
     fn useful(&mut self, random: &mut Random, weather: &Weather) -> Outcome {
         let possible = self.possible();
         let mut can = possible;
-        for (act, slow) in (4..8).zip(weather.slow) {
+        for (act, slow) in (4..10).zip(weather.slow) {
             can[act] &= random.one_in(slow);
         }
         let has_circuit = self.sending.has_circuit();
@@ -262,15 +296,29 @@ impl Link {
             6 => self.receiver_reads(weather.next_part(random)),
             7 => {
                 let (buffer, count) = (self.any_buffer(random), self.receiving.arrived.len());
-                self.receiver_acts(any_of(random, count), random.pick(&[1, 2]), buffer)
+                self.receiver_takes(any_of(random, count), random.pick(&[1, 2]), buffer)
             }
-            8 => self.receiver_persists(Part::Both),
+            8 => self.receiver_persists(self.rest_to_store()),
+            9 => {
+                let buffer = self.any_buffer(random);
+                self.receiver_reports(true, buffer)
+            }
             _ => self.replies(),
         }
     }
 
+    /// All that the open decision says, or the half that is not stored yet.
+    fn rest_to_store(&self) -> Part {
+        match self.receiving.half {
+            None | Some(Part::Both) => Part::Both,
+            Some(Part::Number) => Part::Transaction,
+            Some(Part::Transaction) => Part::Number,
+        }
+    }
+
     fn is_quiet(&self) -> bool {
-        self.forward.is_empty()
+        !self.receiving.is_open()
+            && self.forward.is_empty()
             && self.back.is_empty()
             && self.sending.named.is_empty()
             && self.sending.arrived.is_empty()
@@ -278,14 +326,15 @@ impl Link {
             && self.receiving.pending.is_empty()
     }
 
-    /// What is named is written, read, decided, stored and answered.
+    /// What is named is written, read, decided, stored, reported and answered.
     pub fn request(&mut self, random: &mut Random) -> Outcome {
         self.sender_persists()?;
         self.sender_writes(0)?;
         self.receiver_reads(NEVER)?;
         let buffer = self.any_buffer(random);
-        self.receiver_acts(0, random.pick(&[1, 2]), buffer)?;
-        self.receiver_persists(Part::Both)?;
+        self.receiver_takes(0, random.pick(&[1, 2]), buffer)?;
+        self.receiver_persists(self.rest_to_store())?;
+        self.receiver_reports(true, buffer)?;
         self.replies()
     }
 
@@ -329,7 +378,7 @@ impl Link {
     }
 
     fn all_received(&self) -> Outcome {
-        let count = self.receiving.persisted_count;
+        let count = self.receiving.transactions.len();
         if count == self.log.len() {
             self.check()
         } else {

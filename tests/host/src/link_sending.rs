@@ -52,7 +52,7 @@ impl Link {
     }
 
     /// What a new circuit finds: empty lines, no block half read, no answer to send and no verdict
-    /// that was not acted on.
+    /// that was not acted on. A decision that is open stays open.
     fn new_circuit(&mut self) -> Outcome {
         if self.keeps(Duty::EmptiesLines) {
             self.forward.clear();
@@ -75,6 +75,7 @@ impl Link {
     }
 
     pub fn open(&mut self) -> Outcome {
+        self.count_circuit();
         self.new_circuit()?;
         self.applied(&Act::Open, Kind::Open, false).map(|_| ())
     }
@@ -263,7 +264,7 @@ impl Link {
 
     /// Storing failed. The lines, and what was read, are as they were.
     pub fn sender_restores(&mut self) -> Outcome {
-        self.count_restore(Kind::SenderRestores);
+        self.count_restore();
         self.restore_sender();
         self.check()
     }

@@ -9,6 +9,7 @@ mod compare_ends;
 mod compare_fields;
 mod compare_master;
 mod compare_messages;
+mod compare_receiver;
 mod compare_station;
 mod faults;
 mod groups;
@@ -40,14 +41,15 @@ mod stations_units;
 
 use compare::Compare;
 use compare_master::{LEAST_OF_MASTERS, MASTER_KINDS};
+use compare_receiver::{LEAST_OF_RECEIVERS, RECEIVER_KINDS};
 use compare_station::{LEAST_OF_STATIONS, STATION_KINDS};
 use std::process::ExitCode;
 use std::time::Instant;
 
 const SEED: u64 = 20_261_115;
 
-const COUNTS_BEFORE_STATIONS: usize = 27;
-const COUNTS: usize = COUNTS_BEFORE_STATIONS + STATION_KINDS + MASTER_KINDS;
+const COUNTS_BEFORE_KINDS: usize = 27;
+const COUNTS: usize = COUNTS_BEFORE_KINDS + RECEIVER_KINDS + STATION_KINDS + MASTER_KINDS;
 
 /// How many inputs a whole run compares at least: calls of the functions for blocks; messages read
 /// or written; of the messages read, those whose header can be read, and those that are answers;
@@ -55,7 +57,7 @@ const COUNTS: usize = COUNTS_BEFORE_STATIONS + STATION_KINDS + MASTER_KINDS;
 /// such links; of the acts compared, those of each kind; calls of the field reader, with what they gave,
 /// and headers and answers found by its steps; calls of the cases by hand; and acts on links of the two
 /// X3.28 stations, runs of such links, and walks of them.
-const LEAST: [(&str, u64); COUNTS_BEFORE_STATIONS] = [
+const LEAST: [(&str, u64); COUNTS_BEFORE_KINDS] = [
     ("inputs", 1_000_000),
     ("messages", 2_000_000),
     ("readable headers", 500_000),
@@ -85,17 +87,17 @@ const LEAST: [(&str, u64); COUNTS_BEFORE_STATIONS] = [
     ("states in walks of links of stations", 6_000_000),
 ];
 
-/// The least counts, those of acts of stations and of masters behind the others.
+/// The least counts, those of acts of receivers, of stations and of masters behind the others.
 fn least_counts() -> impl Iterator<Item = (&'static str, u64)> {
     let stations = LEAST_OF_STATIONS.into_iter().chain(LEAST_OF_MASTERS);
-    LEAST.into_iter().chain(stations)
+    LEAST.into_iter().chain(LEAST_OF_RECEIVERS).chain(stations)
 }
 
 /// What a group compared, in the order of `least_counts`.
 fn counts(compare: &Compare) -> [u64; COUNTS] {
     let (kinds, fields) = (&compare.kinds, &compare.fields);
     let [none, one, three, most] = kinds.resends;
-    let before_stations = [
+    let before_kinds = [
         compare.inputs,
         compare.messages,
         compare.headers,
@@ -124,8 +126,9 @@ fn counts(compare: &Compare) -> [u64; COUNTS] {
         compare.walk_acts,
         compare.walk_states,
     ];
+    let receivers = compare.receiver.all();
     let (stations, masters) = (compare.station.all(), compare.master.all());
-    let all = [&before_stations[..], &stations, &masters].concat();
+    let all = [&before_kinds[..], &receivers, &stations, &masters].concat();
     all.try_into().expect("a count for each of `least_counts`")
 }
 
@@ -154,6 +157,7 @@ fn tally(compare: &Compare) -> String {
         (compare.inputs, "inputs"),
         (compare.messages, "messages"),
         (compare.acts, "acts"),
+        (compare.receiver.acts(), "of receivers"),
         (compare.link_acts, "acts on links"),
         (compare.station.acts, "acts of stations"),
         (compare.master.acts, "acts of masters"),

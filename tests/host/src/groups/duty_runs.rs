@@ -9,15 +9,14 @@ use host::ends_ffi::names::SENDER_DELIVERED;
 use host::ffi::names::{CODE_AA, MINUS_ONE};
 use host::model::Settings;
 
-/// How many transactions the receiver holds and has persisted, and the last number that the sender
-/// holds and has persisted as delivered: `ends` in crates/link_duties/proofs/Counterexamples.antt.
-type Seen = [u64; 4];
+/// How many transactions the receiver has stored, and the last number that the sender holds and has
+/// persisted as delivered: `ends` in crates/link_duties/proofs/Counterexamples.antt.
+type Seen = [u64; 3];
 
 fn seen(link: &Link) -> Seen {
     let (sending, receiving) = (&link.sending, &link.receiving);
     [
         receiving.transactions.len() as u64,
-        receiving.persisted_count as u64,
         sending.state[SENDER_DELIVERED],
         sending.persisted[SENDER_DELIVERED],
     ]
@@ -61,9 +60,25 @@ impl Link {
         Ok(())
     }
 
-    fn decides(&mut self, index: usize) -> Outcome {
+    fn whole_buffer(&self) -> ReplyBuffer {
         let length = self.reply_need();
-        self.receiver_acts(index, CODE_AA, ReplyBuffer { length, start: 0 })
+        ReplyBuffer { length, start: 0 }
+    }
+
+    fn decides(&mut self, index: usize) -> Outcome {
+        let buffer = self.whole_buffer();
+        self.receiver_takes(index, CODE_AA, buffer)
+    }
+
+    fn reports(&mut self, is_success: bool) -> Outcome {
+        let buffer = self.whole_buffer();
+        self.receiver_reports(is_success, buffer)
+    }
+
+    /// A block is decided on, and what the decision says is stored.
+    fn stores(&mut self, index: usize) -> Outcome {
+        self.decides(index)?;
+        self.receiver_persists(Part::Both)
     }
 
     fn sends_and_decides(&mut self) -> Outcome {
@@ -72,11 +87,21 @@ impl Link {
         self.decides(0)
     }
 
-    fn exchanges(&mut self) -> Outcome {
+    fn sends_and_stores(&mut self) -> Outcome {
         self.sends_and_decides()?;
-        self.receiver_persists(Part::Both)?;
+        self.receiver_persists(Part::Both)
+    }
+
+    /// The report of success, and the answer is sent, read and taken.
+    fn answers(&mut self) -> Outcome {
+        self.reports(true)?;
         self.replies()?;
         self.takes_answer()
+    }
+
+    fn exchanges(&mut self) -> Outcome {
+        self.sends_and_stores()?;
+        self.answers()
     }
 
     /// A circuit on which the exchange for -1 was made and the first transaction is named.
@@ -139,72 +164,98 @@ fn run_of_lines(link: &mut Link, duty: Duty) -> Outcome {
     }
 }
 
-/// The order of requests.
+/// The order of requests: a second -1 comes behind 1, and 1 is stored again.
 fn run_of_order(link: &mut Link, duty: Duty) -> Outcome {
     link.opens(2)?;
+    let mut first = 0;
     if duty == Duty::WritesInOrder {
         link.exchanges()?;
         link.sender_persists()?;
         link.sender_writes(1)?;
         link.sender_writes(0)?;
-        link.reads()?;
-        link.decides(0)?;
     } else {
+        // the second is refused while the first is open, and held
         link.sends()?;
-        link.exchanges()?;
+        link.sends_and_decides()?;
+        link.decides(0)?;
+        link.receiver_persists(Part::Both)?;
+        link.answers()?;
         link.sends()?;
-        link.reads()?;
-        link.decides(1)?;
+        first = 1;
     }
-    link.decides(0)?;
+    link.reads()?;
+    link.stores(first)?;
+    link.reports(true)?;
+    link.stores(0)?;
+    link.reports(true)?;
     link.timer()?;
-    link.sends_and_decides()
+    link.sends_and_stores()
 }
 
-/// What is persisted, what is decided from it, and what is dropped where it is not.
-fn run_of_storing(link: &mut Link, duty: Duty) -> Outcome {
+/// What the sender persists, and what is dropped where it did not.
+fn run_of_sender(link: &mut Link, duty: Duty) -> Outcome {
     link.begins()?;
+    link.exchanges()?;
+    if duty == Duty::DropsNamed {
+        link.sender_crashes()?;
+    }
+    link.sender_writes(0)?;
+    link.reads()?;
+    link.stores(0)
+}
+
+/// What the receiver's host stores and what it reports, of 1.
+fn run_of_reports(link: &mut Link, duty: Duty) -> Outcome {
+    link.begins()?;
+    if duty == Duty::Survives {
+        link.exchanges()?;
+        return if link.keeps(duty) {
+            Ok(())
+        } else {
+            link.reverts(0)
+        };
+    }
+    link.sends_and_decides()?;
     match duty {
-        Duty::SenderPersistsFirst | Duty::DropsNamed => {
-            link.exchanges()?;
-            if duty == Duty::DropsNamed {
-                link.sender_crashes()?;
-            }
-            link.sender_writes(0)?;
-            link.reads()?;
-            link.decides(0)
+        Duty::ReportsPersisted => return link.answers(),
+        Duty::ReportsFailed => {
+            link.receiver_persists(Part::Both)?;
+            link.reports(false)?;
         }
-        Duty::ReceiverPersistsFirst | Duty::DropsUnpersisted => {
-            link.sends_and_decides()?;
-            if duty == Duty::DropsUnpersisted {
-                link.receiver_restores()?;
-            }
-            link.replies()?;
-            link.takes_answer()
-        }
-        Duty::PersistsAsOne => {
-            link.sends_and_decides()?;
-            if !link.keeps(duty) {
-                link.receiver_persists(Part::Transactions)?;
-            }
-            link.receiver_crashes()?;
-            link.timer()?;
-            link.sends_and_decides()
-        }
-        Duty::DecidesFromVolatile => {
-            link.timer()?;
-            link.sends()?;
-            link.sends_and_decides()?;
-            link.decides(0)
+        Duty::SettlesWrites => {
+            link.reports(false)?;
+            link.lands_late(0)?;
         }
         _ => {
-            link.exchanges()?;
-            if link.keeps(duty) {
-                return Ok(());
+            if !link.keeps(duty) {
+                link.receiver_persists(Part::Transaction)?;
             }
-            link.reverts(0)
+            link.receiver_crashes()?;
         }
     }
+    link.timer()?;
+    link.sends_and_stores()
+}
+
+/// The report of -1, which came twice, when 1 is open.
+fn run_of_report_kept(link: &mut Link) -> Outcome {
+    link.opens(2)?;
+    link.exchanges()?;
+    link.sends_and_stores()?;
+    link.receiver_crashes()?;
+    link.sends_and_decides()?;
+    link.answers()
+}
+
+/// A decision on the earlier run's 1, left open.
+fn run_of_decision_kept(link: &mut Link) -> Outcome {
+    if !link.keeps(Duty::DropsDecision) {
+        link.leave_old_decision(message(1))?;
+    }
+    link.receiver_persists(Part::Both)?;
+    link.reports(true)?;
+    link.begins()?;
+    link.sends_and_stores()
 }
 
 fn is_of_lines(duty: Duty) -> bool {
@@ -218,28 +269,35 @@ fn is_of_lines(duty: Duty) -> bool {
     )
 }
 
-/// A check that finds the fault ends the run. Of the lines the sender then stores what it holds.
+/// In the end 1 counts as delivered, and nobody has it.
+fn ends_delivered(duty: Duty) -> bool {
+    is_of_lines(duty) || matches!(duty, Duty::ReportsPersisted | Duty::DropsReports)
+}
+
+/// A check that finds the fault ends the run. Where 1 counts as delivered the sender then stores that.
 fn run_of(link: &mut Link, duty: Duty) -> Outcome {
-    match duty {
-        _ if is_of_lines(duty) => {
-            let found = run_of_lines(link, duty);
-            let stored = link.sender_persists();
-            found.and(stored)
-        }
+    let found = match duty {
+        _ if is_of_lines(duty) => run_of_lines(link, duty),
         Duty::WritesInOrder | Duty::OffersInOrder => run_of_order(link, duty),
-        _ => run_of_storing(link, duty),
+        Duty::SenderPersistsFirst | Duty::DropsNamed => run_of_sender(link, duty),
+        Duty::DropsReports => run_of_report_kept(link),
+        Duty::DropsDecision => run_of_decision_kept(link),
+        _ => run_of_reports(link, duty),
+    };
+    if !ends_delivered(duty) {
+        return found;
     }
+    let stored = link.sender_persists();
+    found.and(stored)
 }
 
 /// Where the run ends without the duty.
 fn end_of(duty: Duty) -> Seen {
     match duty {
-        _ if is_of_lines(duty) => [0, 0, 1, 1],
-        Duty::DropsUnpersisted => [0, 0, 1, 0],
-        Duty::WritesInOrder | Duty::OffersInOrder | Duty::DecidesFromVolatile => [2, 0, 0, 0],
-        Duty::SenderPersistsFirst => [2, 1, 1, 0],
-        Duty::PersistsAsOne | Duty::DropsNamed => [2, 1, 0, 0],
-        _ => [1, 0, 1, 0],
+        _ if ends_delivered(duty) => [0, 1, 1],
+        Duty::SenderPersistsFirst => [2, 1, 0],
+        Duty::Survives => [0, 1, 0],
+        _ => [2, 0, 0],
     }
 }
 

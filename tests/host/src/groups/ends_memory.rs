@@ -9,9 +9,9 @@ use crate::make;
 use crate::make_ends::{self, Plan};
 use host::ends_ffi;
 use host::message_model::{Memory, LARGEST_SENT, MINUS_ONE};
-use host::model::Settings;
+use host::model::{Layer, Settings};
 use host::prng::Random;
-use host::receiver_model::{self, Incoming, Received, RECEIVED_WORDS};
+use host::receiver_model::{self, Incoming, ReceiverAct, RECEIVER_WORDS};
 use host::sender_model::{self, Act, Acted, Sender, ACT_WORDS, SENDER_WORDS};
 
 /// One set of pages for each kind of memory.
@@ -37,7 +37,7 @@ pub fn ends_guard_pages(compare: &mut Compare) -> Outcome {
             words = [1, 0, 0, 0, 0, 0, 0];
         }
         guarded_act(compare, &mut guarded, &mut words, at_end)?;
-        guarded_receive(compare, &mut guarded, at_end)?;
+        guarded_receiver(compare, &mut guarded, at_end)?;
         if round % 8 == 0 {
             guarded_control(compare, &mut guarded, at_end)?;
         }
@@ -104,18 +104,18 @@ fn guarded_act(
     Ok(())
 }
 
-/// A receiver's act near what a state expects: its settings and state, the block, the buffer's length
-/// and where the reply starts in it.
+/// A receiver's act: the state before it, the block's data, the buffer's length and where the reply
+/// starts in it.
 struct Receiving {
+    kind: usize,
     settings: Settings,
-    expected: u64,
-    number: u64,
-    block_type: u64,
+    words: [u64; RECEIVER_WORDS],
     message: Vec<u8>,
     length: usize,
     start: usize,
 }
 
+/// A decision near what a state expects, a report on one that is open or on none, or an N reply.
 fn any_receiving(random: &mut Random) -> Receiving {
     let settings = if random.one_in(3) {
         Settings::minimal(128)
@@ -130,67 +130,88 @@ fn any_receiving(random: &mut Random) -> Receiving {
     }
     let start = random.below(5);
     let less = usize::from(random.one_in(10));
+    let rejected = [expected, 3, expected, 0, expected, 8, SEVENS, 0, 0];
+    let open = random.pick(&[[5, 2, 5, 5, 6, 20, SEVENS, SEVENS, SEVENS], rejected]);
+    let closed = [expected, 0, 1, 2, 3, 4, 5, 6, 7];
     Receiving {
+        kind: random.below(4),
         settings,
-        expected,
-        number: random.pick(&[0, 0, 0, 0, 3, 6]),
-        block_type: random.pick(&[68, 68, 68, 78]),
+        words: random.pick(&[open, open, closed]),
         message,
         length: start + 128 + settings.overhead() - less,
         start,
     }
 }
 
+const SEVENS: u64 = 0x3737_3737_3737_3737;
+
 impl Receiving {
-    fn block<'a>(&self, data: &'a [u8]) -> Incoming<'a> {
-        Incoming {
-            number: self.number,
-            block_type: self.block_type,
-            data,
+    fn act<'a>(&self, data: &'a [u8]) -> ReceiverAct<'a> {
+        let settings = self.settings;
+        match self.kind {
+            0 if settings.layer == Layer::Hybrid => ReceiverAct::Nak {
+                settings,
+                number: 3,
+            },
+            0 | 1 => ReceiverAct::Decide {
+                application: 2,
+                block_type: if self.start == 0 { 78 } else { 68 },
+                data,
+            },
+            kind => ReceiverAct::Report {
+                settings,
+                stored: kind as u64 - 2,
+            },
         }
     }
 
     /// The number, the state then, the report and the buffer, which held 77 and EE before.
-    fn model(&self) -> (u64, u64, [u64; RECEIVED_WORDS], Vec<u8>) {
+    fn model(&self) -> (u64, [u64; RECEIVER_WORDS], Vec<u64>, Vec<u8>) {
+        let act = self.act(&self.message);
         let memory = Memory {
             buffer_length: self.length,
             start: self.start,
-            report_words: RECEIVED_WORDS,
+            report_words: act.report_words(),
         };
         let mut bytes = vec![0xEE; self.length];
-        let (state, block) = ([self.expected], self.block(&self.message));
-        match receiver_model::receive(&self.settings, 2, &state, &block, &memory) {
-            Received::Refused(number) => (number, self.expected, [77; RECEIVED_WORDS], bytes),
-            Received::Taken(then, reported, reply) => {
+        match receiver_model::act_on_words(&act, &self.words, &memory) {
+            receiver_model::Acted::Refused(number) => {
+                (number, self.words, vec![77; act.report_words()], bytes)
+            }
+            receiver_model::Acted::Done {
+                state,
+                report,
+                reply,
+            } => {
                 bytes[self.start..][..reply.len()].copy_from_slice(&reply);
-                (0, then, reported, bytes)
+                (0, state.unwrap_or(self.words), report, bytes)
             }
         }
     }
 }
 
-fn guarded_receive(compare: &mut Compare, guarded: &mut GuardPages, at_end: bool) -> Outcome {
+fn guarded_receiver(compare: &mut Compare, guarded: &mut GuardPages, at_end: bool) -> Outcome {
     compare.acts += 1;
-    let act = any_receiving(&mut compare.random);
-    let data = copied(&act.message, &mut guarded.data, at_end);
-    let state = guarded.state.words(1, at_end);
-    state[0] = act.expected;
-    let report = guarded.report.words(RECEIVED_WORDS, at_end);
+    let receiving = any_receiving(&mut compare.random);
+    let data = copied(&receiving.message, &mut guarded.data, at_end);
+    let state = guarded.state.words(RECEIVER_WORDS, at_end);
+    state.copy_from_slice(&receiving.words);
+    let act = receiving.act(data);
+    let report = guarded.report.words(act.report_words(), at_end);
     report.fill(77);
-    let buffer = guarded.buffer.bytes(act.length, at_end);
+    let buffer = guarded.buffer.bytes(receiving.length, at_end);
     buffer.fill(0xEE);
-    let (settings, block) = (act.settings, act.block(data));
-    let found = ends_ffi::receive(&settings, 2, state, &block, buffer, act.start, report);
-    let (number, then, reported, bytes) = act.model();
+    let found = ends_ffi::receiver_act(&act, state, buffer, receiving.start, report);
+    let (number, then, reported, bytes) = receiving.model();
     same("number", &[found], &[number])
-        .and_then(|()| same("state", state, &[then]))
+        .and_then(|()| same("state", state, &then))
         .and_then(|()| same("report", report, &reported))
         .and_then(|()| same("buffer", buffer, &bytes))
         .map_err(|why| {
-            let settings = library::settings_text(&settings);
-            let text = library::text(&act.message);
-            let expected = act.expected;
-            format!("receive, {settings}, state {expected}: {why}; data {text}")
+            let settings = library::settings_text(&receiving.settings);
+            let text = library::text(&receiving.message);
+            let words = receiving.words;
+            format!("{settings}, state {words:?}: {why}; {act:?}, data {text}")
         })
 }
 

@@ -5,6 +5,7 @@ use crate::compare::{Compare, Outcome};
 use crate::link::{Beginning, Link};
 use crate::link_counts::{Counts, Kind};
 use crate::link_deviation::{same_duties, Deviation, Duty, DUTIES};
+use crate::link_lines::old_request;
 use crate::link_schedule::Weather;
 use crate::make;
 use crate::make_ends;
@@ -129,6 +130,11 @@ fn leave_old_blocks(link: &mut Link, random: &mut Random) -> Outcome {
     match link.deviation {
         Deviation::Without(Duty::Exchanges) => return Ok(()),
         Deviation::OldRequest => return link.leave_old_request(false),
+        Deviation::Without(Duty::DropsDecision) => {
+            let first = link.first.to_string();
+            let old = old_request(random.pick(&["-1", &first]));
+            return link.leave_old_decision(old);
+        }
         Deviation::ReceiverKeepsVerdicts => {
             link.leave_old_request(true)?;
             return link.open();
@@ -179,7 +185,7 @@ pub fn links(compare: &mut Compare) -> Outcome {
 const RUNS_TO_FIND: usize = 100_000;
 
 /// What is done otherwise beside the duties of the hosts, each by itself.
-const MORE: [(Deviation, &str); 16] = [
+const MORE: [(Deviation, &str); 17] = [
     (
         Deviation::WithoutBoth(Duty::Exchanges, Duty::EmptiesLines),
         "exchanges and empties_lines off",
@@ -200,6 +206,10 @@ const MORE: [(Deviation, &str); 16] = [
     (
         Deviation::SenderFindsUndurable,
         "a restarted sender goes on from what is not durable",
+    ),
+    (
+        Deviation::OldNumberStored,
+        "the state's word stored in place of the decision's number",
     ),
     (Deviation::RequestsTwice, "requests that come again later"),
     (

@@ -16,6 +16,7 @@ mod message_memory;
 mod message_writers;
 mod old_answers;
 mod receiver;
+mod receiver_words;
 mod refusals;
 mod sender;
 mod sender_interruptions;
@@ -120,6 +121,7 @@ const ALL: &[(&str, Group)] = &[
     ("field_guard_pages", fields_memory::field_guard_pages),
     ("receiver_fresh", receiver::receiver_fresh),
     ("receiver_table", receiver::receiver_table),
+    ("receiver_reports", receiver::receiver_reports),
     ("receiver_histories", receiver::receiver_histories),
     ("receiver_large_limits", receiver::receiver_large_limits),
     (
@@ -130,10 +132,14 @@ const ALL: &[(&str, Group)] = &[
         "receiver_corrupt_histories",
         receiver::receiver_corrupt_histories,
     ),
-    ("receiver_refusals", receiver::receiver_refusals),
-    ("receiver_words", receiver::receiver_words),
+    ("receiver_refusals", receiver_words::receiver_refusals),
+    ("receiver_words", receiver_words::receiver_words),
+    (
+        "receiver_corrupt_words",
+        receiver_words::receiver_corrupt_words,
+    ),
     ("refused_numbers", receiver::refused_numbers),
-    ("other_block_types", receiver::other_block_types),
+    ("other_block_types", receiver_words::other_block_types),
     ("data_of_no_block", receiver::data_of_no_block),
     ("sender_histories", sender::sender_histories),
     ("sender_progress", sender::sender_progress),

@@ -1,25 +1,24 @@
-//! The receiver: histories of blocks, its whole table, the memory it needs, and input that no
-//! reader gives. Each act is compared with the model in everything.
+//! The receiver: histories of its acts, its whole table, reports of every kind, N replies, and data that
+//! no reader gives. Each act is compared with the model in everything.
 
-use crate::compare::{same_number, Compare, Outcome, GUARD_WORD};
-use crate::compare_ends::{needed, ReceiveCall, Receiver};
-use crate::guarded::Guarded;
+use crate::compare::{Compare, Outcome};
+use crate::compare_receiver::{expects, needed, Receiver, ReceiverAnswer, ReceiverCall};
+use crate::guarded::same;
 use crate::make;
 use crate::make_ends;
 use crate::make_messages;
-use host::ends_ffi;
 use host::ends_ffi::names::{
-    RECEIVED_BLOCK, RECEIVED_REPLY_LENGTH, RECEIVED_TRANSACTION, RECEIVED_WORDS,
+    DECISION_CHANGES, DECISION_EXPECTED, DECISION_OPENED, DECISION_TRANSACTION, NOT_STORED, STORED,
 };
 use host::message_model::{self, LARGEST_EXPECTED, LARGEST_SENT};
 use host::model::{Layer, Settings};
 use host::prng::Random;
-use host::receiver_model::Incoming;
+use host::receiver_model::{self, ReceiverAct, RECEIVER_WORDS};
 
-const DATA: u64 = b'D' as u64;
-const NAK: u64 = b'N' as u64;
+pub(super) const DATA: u64 = b'D' as u64;
+pub(super) const NAK: u64 = b'N' as u64;
 
-/// A state of each kind: none, small, and the two largest.
+/// An expected number of each kind: none, small, and the two largest.
 const STATES: [u64; 8] = [
     0,
     1,
@@ -31,41 +30,46 @@ const STATES: [u64; 8] = [
     LARGEST_EXPECTED,
 ];
 
-/// What the histories of a group came to.
+/// What the histories of a group came to, by what each act answered.
 #[derive(Default)]
 struct Seen {
-    taken: u64,
-    answered: u64,
+    transactions: u64,
+    unchanging: u64,
+    answers: u64,
+    failures: u64,
     naks: u64,
-    dropped: u64,
-    unreadable: u64,
     refused: [u64; 12],
 }
 
 impl Seen {
-    fn count(&mut self, number: u64, report: &[u64; RECEIVED_WORDS]) {
-        self.refused[number as usize] += 1;
-        if number != 0 {
+    fn count(&mut self, act: &ReceiverAct, answer: &ReceiverAnswer) {
+        self.refused[answer.number as usize] += 1;
+        if answer.number != 0 {
             return;
         }
-        self.taken += u64::from(report[RECEIVED_TRANSACTION] != 0);
-        self.unreadable += u64::from(report[RECEIVED_BLOCK] == 9);
-        match report[RECEIVED_REPLY_LENGTH] {
-            0 => self.dropped += 1,
-            16 => self.naks += 1,
-            _ => self.answered += 1,
+        let report = &answer.report;
+        match act {
+            ReceiverAct::Decide { .. } => {
+                self.transactions += u64::from(report[DECISION_TRANSACTION] != 0);
+                let opened = report[DECISION_OPENED] == 1;
+                self.unchanging += u64::from(opened && report[DECISION_CHANGES] == 0);
+            }
+            ReceiverAct::Report { stored: 0, .. } => self.failures += 1,
+            ReceiverAct::Report { .. } => self.answers += 1,
+            ReceiverAct::Nak { .. } => self.naks += 1,
         }
     }
 
     fn enough(&self, least: u64) -> Outcome {
         let counts = [
-            ("transactions", self.taken),
-            ("answers", self.answered),
-            ("N blocks", self.naks),
-            ("dropped", self.dropped),
-            ("without a readable header", self.unreadable),
+            ("transactions", self.transactions),
+            ("decisions that change nothing", self.unchanging),
+            ("answers", self.answers),
+            ("failures", self.failures),
+            ("N replies", self.naks),
             ("refused by 1", self.refused[1]),
             ("refused by 2", self.refused[2]),
+            ("refused by 11", self.refused[11]),
         ];
         for (what, count) in counts {
             if count < least {
@@ -107,21 +111,62 @@ fn data(random: &mut Random, expected: u64, limit: u64) -> Vec<u8> {
     message
 }
 
-/// A block's number and type, and its data.
-fn block(random: &mut Random, expected: u64, limit: u64) -> (u64, u64, Vec<u8>) {
-    match random.below(10) {
-        0 => {
-            let number = random.between(3, 8) as u64;
-            let block_type = random.pick(&[0, 0, DATA, NAK]);
-            (number, block_type, data(random, expected, limit))
-        }
-        1 if random.one_in(2) => (0, NAK, data(random, expected, limit)),
-        1 => (0, NAK, vec![random.pick(b"CXBG")]),
-        _ => (0, DATA, data(random, expected, limit)),
+/// A decision: most often on a data block.
+fn decision<'a>(random: &mut Random, data: &'a [u8]) -> ReceiverAct<'a> {
+    ReceiverAct::Decide {
+        application: random.pick(&[1, 1, 2]),
+        block_type: random.pick(&[DATA, DATA, DATA, DATA, DATA, DATA, DATA, NAK]),
+        data,
     }
 }
 
-/// Where the reply goes: most often into a buffer that is exactly long enough from there on.
+/// What may come in this state: where a decision is open most often its report, stored or failed, and
+/// else a decision; a report with none open, a decision and an N reply while one is.
+fn any_act<'a>(random: &mut Random, receiver: &Receiver, data: &'a [u8]) -> ReceiverAct<'a> {
+    let is_hybrid = receiver.settings.layer == Layer::Hybrid;
+    let stored = random.pick(&[STORED, STORED, NOT_STORED]);
+    let report = receiver.report(stored);
+    let nak = receiver.nak(random.between(3, 9) as u64);
+    match random.below(10) {
+        0 | 1 => decision(random, data),
+        2 => report,
+        3 if is_hybrid => nak,
+        _ if receiver.is_open() => report,
+        _ => decision(random, data),
+    }
+}
+
+/// The same with one thing outside its range.
+fn spoiled<'a>(random: &mut Random, act: ReceiverAct<'a>) -> ReceiverAct<'a> {
+    let code = random.pick(&[0, 3, 4, 256, u64::MAX]);
+    let other = random.pick(&[2, 3, 10, 11, 12, 257, 259, u64::MAX]);
+    match act {
+        ReceiverAct::Decide {
+            application, data, ..
+        } if random.one_in(2) => ReceiverAct::Decide {
+            application,
+            block_type: random.pick(&[0, 1, 256 + DATA, 256 + NAK, u64::MAX]),
+            data,
+        },
+        ReceiverAct::Decide {
+            block_type, data, ..
+        } => ReceiverAct::Decide {
+            application: code,
+            block_type,
+            data,
+        },
+        ReceiverAct::Report { settings, .. } => ReceiverAct::Report {
+            settings,
+            stored: other,
+        },
+        ReceiverAct::Nak { settings, .. } => ReceiverAct::Nak {
+            settings,
+            number: random.pick(&[0, 1, 2, 10, 11, 256 + 3, u64::MAX]),
+        },
+    }
+}
+
+/// Where a reply goes: most often into a buffer that is exactly long enough from there on.
 fn memory(random: &mut Random, receiver: &Receiver) -> (usize, usize) {
     let need = needed(&receiver.settings);
     let most = receiver.buffer_length();
@@ -139,55 +184,48 @@ fn memory(random: &mut Random, receiver: &Receiver) -> (usize, usize) {
     }
 }
 
-/// A call on some data, seldom one that is refused by 1 or for its words by 2.
+/// A call, seldom one that is refused by 1 or for its words by 2.
 fn any_call<'a>(
     random: &mut Random,
     receiver: &Receiver,
-    (mut number, block_type, data): (u64, u64, &'a [u8]),
-) -> ReceiveCall<'a> {
+    act: ReceiverAct<'a>,
+) -> ReceiverCall<'a> {
     let (buffer_length, start) = memory(random, receiver);
-    let mut application = random.pick(&[1, 1, 2]);
-    let mut state_words = random.between(1, receiver.state.len());
-    let mut report_words = RECEIVED_WORDS + random.below(3);
-    match random.below(120) {
-        0 => application = random.pick(&[0, 3, 4, 256, u64::MAX]),
-        1 => number = random.pick(&[1, 2, 9, 10, 11, 12, 259, u64::MAX]),
-        2 => state_words = 0,
-        3 => report_words = random.below(RECEIVED_WORDS),
-        _ => {}
-    }
-    ReceiveCall {
-        application,
-        block: Incoming {
-            number,
-            block_type,
-            data,
-        },
-        state_words,
+    let mut call = ReceiverCall {
+        act,
+        state_words: random.between(RECEIVER_WORDS, receiver.state.len()),
         buffer_length,
         start,
-        report_words,
+        report_words: act.report_words() + random.below(3),
+    };
+    match random.below(80) {
+        0 => call.act = spoiled(random, act),
+        1 => call.state_words = random.below(RECEIVER_WORDS),
+        2 => call.report_words = random.below(act.report_words()),
+        _ => {}
     }
+    call
 }
 
-/// One act that a history makes; the reply, if any, is sometimes read back.
+/// One act that a history makes; an answer is sometimes read back.
 fn act(compare: &mut Compare, receiver: &mut Receiver, seen: &mut Seen) -> Outcome {
     let expected = receiver.state[0] % (LARGEST_EXPECTED + 1);
     let limit = receiver.settings.limit;
-    let (number, block_type, data) = block(&mut compare.random, expected, limit);
-    let call = any_call(&mut compare.random, receiver, (number, block_type, &data));
-    let answer = compare.receive(receiver, &call)?;
-    seen.count(answer.number, &answer.report);
+    let data = data(&mut compare.random, expected, limit);
+    let open = receiver.decoded().and_then(|state| state.open);
+    let act = any_act(&mut compare.random, receiver, &data);
+    let call = any_call(&mut compare.random, receiver, act);
+    let answer = compare.receiver_act(receiver, &call)?;
+    seen.count(&call.act, &answer);
     if !answer.reply.is_empty() && compare.random.one_in(8) {
-        let header = message_model::header(&data);
-        let id = header.map_or(&b""[..], |header| header.control_id.bytes);
-        compare.reply_reads_back(&receiver.settings, &answer.reply, id)?;
+        let id = open.map_or(Vec::new(), |open| open.control_id);
+        compare.reply_reads_back(&receiver.settings, &answer.reply, &id)?;
     }
     Ok(())
 }
 
-/// The state that a history begins in.
-fn any_state(random: &mut Random) -> u64 {
+/// The expected number that a history begins with.
+fn any_expected(random: &mut Random) -> u64 {
     let any = random.draw() % (LARGEST_EXPECTED + 1);
     match random.below(12) {
         index @ 0..=7 => STATES[index],
@@ -196,8 +234,19 @@ fn any_state(random: &mut Random) -> u64 {
     }
 }
 
-/// What happens to the state before an act of a history, other than by acts.
-type Change = fn(&mut Random, &mut u64);
+/// What happens to the words before an act of a history, other than by acts.
+type Change = fn(&mut Random, &mut [u64]);
+
+/// A crash: what is persisted stays, and the open decision is lost.
+fn crash(state: &mut [u64]) {
+    state[1..RECEIVER_WORDS].fill(0);
+}
+
+fn crashes(random: &mut Random, state: &mut [u64]) {
+    if random.one_in(40) {
+        crash(state);
+    }
+}
 
 fn histories(
     compare: &mut Compare,
@@ -210,11 +259,11 @@ fn histories(
     for _ in 0..runs {
         let limit = compare.random.pick(limits);
         let settings = settings(&mut compare.random, limit);
-        let state = any_state(&mut compare.random);
+        let expected = any_expected(&mut compare.random);
         let more = compare.random.pick(&[0, 1, 7, 40]);
-        let mut receiver = Receiver::new(compare, &settings, state, more);
+        let mut receiver = Receiver::new(compare, &settings, expected, more);
         for _ in 0..compare.random.between(1, most) {
-            change(&mut compare.random, &mut receiver.state[0]);
+            change(&mut compare.random, &mut receiver.state);
             act(compare, &mut receiver, &mut seen)?;
         }
     }
@@ -222,41 +271,52 @@ fn histories(
     Ok(seen)
 }
 
-/// Histories with small data limits.
+/// Histories with small data limits, and crashes.
 pub fn receiver_histories(compare: &mut Compare) -> Outcome {
-    histories(compare, &[128, 128, 128, 129, 200], 6_000, 120, |_, _| ())?;
+    histories(compare, &[128, 128, 128, 129, 200], 8_000, 140, crashes)?;
     Ok(())
 }
 
 /// The same with large data limits, up to the largest.
 pub fn receiver_large_limits(compare: &mut Compare) -> Outcome {
-    histories(compare, &[4096], 300, 120, |_, _| ())?;
-    histories(compare, &[99_994], 100, 60, |_, _| ())?;
+    histories(compare, &[4096], 300, 120, crashes)?;
+    histories(compare, &[99_994], 100, 60, crashes)?;
     Ok(())
 }
 
-/// The same on the largest numbers: where a history leaves them it is brought back.
+/// The same on the largest numbers: where a history leaves them with no decision open it is brought back.
 pub fn receiver_largest_numbers(compare: &mut Compare) -> Outcome {
-    histories(compare, &[128, 129], 1_200, 80, |random, state| {
-        if *state < LARGEST_SENT - 40 {
-            *state = LARGEST_EXPECTED - random.below(20) as u64;
+    histories(compare, &[128, 129], 2_000, 120, |random, state| {
+        if state[0] < LARGEST_SENT - 40 && state[1] == 0 {
+            state[0] = LARGEST_EXPECTED - random.below(20) as u64;
         }
     })?;
     Ok(())
 }
 
-/// Histories in which the word is corrupted at any time; acts go on from whatever it holds then.
+/// Something else in one word of a state: a bit changed, or any number, or one near another word.
+fn corrupted(random: &mut Random, state: &mut [u64]) {
+    let index = random.below(RECEIVER_WORDS);
+    let other = state[random.below(5)];
+    let any = random.draw() >> random.below(64);
+    let bit = 1 << random.below(64);
+    let near = other.wrapping_add(random.below(3) as u64).wrapping_sub(1);
+    let odd = random.pick(&[LARGEST_EXPECTED + 1, u64::MAX, 0, 1, 2, 3, 4, 20, 21]);
+    state[index] = random.pick(&[any, state[index] ^ bit, near, near, odd]);
+}
+
+/// Histories in which words are corrupted at any time; acts go on from whatever they hold then.
 pub fn receiver_corrupt_histories(compare: &mut Compare) -> Outcome {
-    let seen = histories(compare, &[128, 129], 1_200, 80, |random, state| {
-        if *state > LARGEST_EXPECTED && random.one_in(3) {
-            *state = any_state(random);
-        } else if random.one_in(8) {
-            let any = random.draw() >> random.below(64);
-            let bit = 1 << random.below(64);
-            *state = random.pick(&[any, *state ^ bit, LARGEST_EXPECTED + 1, u64::MAX]);
+    let seen = histories(compare, &[128, 129], 3_000, 140, |random, state| {
+        let is_state = receiver_model::Receiver::decode(&state[..RECEIVER_WORDS]).is_some();
+        if !is_state && random.one_in(3) {
+            state[0] = any_expected(random);
+            crash(state);
+        } else if random.one_in(6) {
+            corrupted(random, state);
         }
     })?;
-    if seen.refused[11] < 5_000 {
+    if seen.refused[11] < 20_000 {
         return Err(format!("refused by 11: only {}", seen.refused[11]));
     }
     Ok(())
@@ -264,22 +324,9 @@ pub fn receiver_corrupt_histories(compare: &mut Compare) -> Outcome {
 
 /// A fresh state, from any words and any number of them.
 pub fn receiver_fresh(compare: &mut Compare) -> Outcome {
-    for round in 0..500 {
-        compare.acts += 1;
-        let words = round % 5;
-        let mut expected = compare.random.words(words);
-        let mut state = Guarded::new(&expected, GUARD_WORD);
-        let found = ends_ffi::receiver_fresh(state.content_mut());
-        let number = match expected.first_mut() {
-            Some(word) => {
-                *word = 0;
-                0
-            }
-            None => 2,
-        };
-        same_number(found, number)
-            .and_then(|()| state.compare("state", &expected))
-            .map_err(|why| format!("gmv_receiver_fresh, {words} words: {why}"))?;
+    for round in 0..1_300 {
+        let mut state = compare.random.words(round % 13);
+        compare.receiver_fresh(&mut state)?;
     }
     Ok(())
 }
@@ -318,20 +365,57 @@ fn sequences() -> Vec<Option<Vec<u8>>> {
     list
 }
 
-/// Every state by everything that may stand in MSH-13, with both verdicts, on both layers, and with
-/// control IDs of every length.
+/// The decision on an accepted data block, with all memory as needed.
+pub(super) fn decide(
+    compare: &mut Compare,
+    receiver: &mut Receiver,
+    application: u64,
+    data: &[u8],
+) -> Result<ReceiverAnswer, String> {
+    let block_type = DATA;
+    let act = ReceiverAct::Decide {
+        application,
+        block_type,
+        data,
+    };
+    compare.receiver_acts(receiver, act)
+}
+
+/// The report on the decision that is open, with all memory as needed.
+pub(super) fn report(
+    compare: &mut Compare,
+    receiver: &mut Receiver,
+    stored: u64,
+) -> Result<ReceiverAnswer, String> {
+    let act = receiver.report(stored);
+    compare.receiver_acts(receiver, act)
+}
+
+/// A receiver on either kind of link, with the least data limit.
+pub(super) fn two_receivers(compare: &mut Compare) -> [Receiver; 2] {
+    let kinds = [Settings::hybrid(0x0B, 0x1C, 128), Settings::minimal(128)];
+    kinds.map(|settings| Receiver::new(compare, &settings, 0, 3))
+}
+
+/// Every expected number by everything that may stand in MSH-13, with both verdicts, on both layers, and
+/// with control IDs of every length: the decision and a report of success are the row of the table.
 pub fn receiver_table(compare: &mut Compare) -> Outcome {
     let list = sequences();
-    for settings in [Settings::hybrid(0x0B, 0x1C, 128), Settings::minimal(128)] {
-        let mut receiver = Receiver::new(compare, &settings, 0, 3);
-        for state in STATES {
+    for mut receiver in two_receivers(compare) {
+        for expected in STATES {
             for sequence in &list {
                 for length in 1..=20 {
                     let mut id = make_messages::control_id(&mut compare.random);
                     id.resize(length, b'7');
                     let data = make_ends::request(&mut compare.random, &id, sequence.as_deref());
-                    receiver.state[0] = state;
-                    data_act(compare, &mut receiver, 1 + length as u64 % 2, &data)?;
+                    receiver.set_words(expects(expected));
+                    let application = 1 + length as u64 % 2;
+                    let said = decide(compare, &mut receiver, application, &data)?;
+                    same("decision opened", &[said.report[DECISION_OPENED]], &[1])?;
+                    let answer = report(compare, &mut receiver, STORED)?;
+                    compare.reply_reads_back(&receiver.settings, &answer.reply, &id)?;
+                    let then = said.report[DECISION_EXPECTED];
+                    same("state", &receiver.state[..RECEIVER_WORDS], &expects(then))?;
                 }
             }
         }
@@ -339,194 +423,97 @@ pub fn receiver_table(compare: &mut Compare) -> Outcome {
     Ok(())
 }
 
-/// An act on an accepted data block, with all memory as needed.
-fn data_act(
-    compare: &mut Compare,
-    receiver: &mut Receiver,
-    application: u64,
-    data: &[u8],
-) -> Outcome {
-    let call = whole_call(receiver, application, data);
-    compare.receive(receiver, &call)?;
+/// What must not happen while a decision is open, and what happens once it is reported, for each row of
+/// the table: a second decision, also on data that cannot be read and on an N block, and an N reply are
+/// refused; a report with a short buffer leaves it open; of failure it gives nothing and leaves the
+/// state of before; a second report is refused, and so is one that comes after a crash.
+pub fn receiver_reports(compare: &mut Compare) -> Outcome {
+    for mut receiver in two_receivers(compare) {
+        for expected in STATES {
+            for sequence in sequences() {
+                let id = make_messages::control_id(&mut compare.random);
+                let data = make_ends::request(&mut compare.random, &id, sequence.as_deref());
+                receiver.set_words(expects(expected));
+                decide(compare, &mut receiver, 1, &data)?;
+                while_open(compare, &mut receiver, &data)?;
+                short_reports(compare, &mut receiver)?;
+                let failed = report(compare, &mut receiver, NOT_STORED)?;
+                same("bytes to send", &[failed.reply.len()], &[0])?;
+                let before = expects(expected);
+                same("state", &receiver.state[..RECEIVER_WORDS], &before)?;
+                none_open(compare, &mut receiver)?;
+                decide(compare, &mut receiver, 2, &data)?;
+                crash(&mut receiver.state);
+                none_open(compare, &mut receiver)?;
+                decide(compare, &mut receiver, 2, &data)?;
+                report(compare, &mut receiver, STORED)?;
+                none_open(compare, &mut receiver)?;
+            }
+        }
+    }
     Ok(())
 }
 
-fn whole_call<'a>(receiver: &Receiver, application: u64, data: &'a [u8]) -> ReceiveCall<'a> {
-    ReceiveCall {
-        application,
-        block: Incoming {
-            number: 0,
-            block_type: DATA,
+/// Whether the answer of an act has this number.
+fn numbered(answer: &ReceiverAnswer, number: u64) -> Outcome {
+    same("number", &[answer.number], &[number])
+}
+
+/// Refused while a decision is open; it stays open.
+fn while_open(compare: &mut Compare, receiver: &mut Receiver, data: &[u8]) -> Outcome {
+    let before = receiver.state.clone();
+    for data in [data, b"hello", b""] {
+        numbered(&decide(compare, receiver, 1, data)?, 11)?;
+        let nak_block = ReceiverAct::Decide {
+            application: 2,
+            block_type: NAK,
             data,
-        },
-        state_words: 1,
-        buffer_length: receiver.buffer_length(),
-        start: receiver.buffer_length() - needed(&receiver.settings),
-        report_words: RECEIVED_WORDS,
-    }
-}
-
-/// Refusals in the order 1, 2, 11: every combination of a wrong setting, limit, verdict or number,
-/// of words and bytes too few, and of a state that is none.
-pub fn receiver_refusals(compare: &mut Compare) -> Outcome {
-    let all_settings = [
-        Settings::hybrid(0x0B, 0x1C, 128),
-        Settings::hybrid(0x0B, 0x0B, 128),
-        Settings::hybrid(0x0D, 0x1C, 128),
-        Settings::hybrid(0x0B, 0x41, 128),
-        Settings::hybrid(0x10B, 0x1C, 128),
-        Settings::hybrid(0x0B, 0x1C, 127),
-        Settings::hybrid(0x0B, 0x1C, 99_995),
-        Settings::hybrid(0x0B, 0x1C, 0),
-        Settings::minimal(128),
-        Settings::minimal(127),
-        Settings::minimal(99_995),
-        Settings::minimal(0),
-        Settings::minimal(u64::MAX),
-    ];
-    for settings in all_settings {
-        let good = Settings {
-            limit: 128,
-            ..settings
         };
-        let mut receiver = Receiver::new(compare, &good, 0, 4);
-        receiver.settings = settings;
-        receiver.state.resize(2, 9);
-        for state in [0, LARGEST_EXPECTED, LARGEST_EXPECTED + 1, u64::MAX] {
-            receiver.state[0] = state;
-            wrong_numbers(compare, &mut receiver, &good)?;
+        numbered(&compare.receiver_acts(receiver, nak_block)?, 11)?;
+    }
+    if receiver.settings.layer == Layer::Hybrid {
+        for number in 3..=9 {
+            let nak = receiver.nak(number);
+            numbered(&compare.receiver_acts(receiver, nak)?, 11)?;
         }
     }
-    Ok(())
+    same("state", &receiver.state, &before)
 }
 
-/// Every application's verdict by every number of a block, right and wrong ones, in this state.
-fn wrong_numbers(compare: &mut Compare, receiver: &mut Receiver, good: &Settings) -> Outcome {
-    let mut data = make_ends::request(&mut compare.random, b"5", Some(b"5"));
-    data.truncate(100);
-    let state = receiver.state[0];
-    for application in [0, 1, 2, 3, 257, u64::MAX] {
-        for number in [0, 1, 2, 3, 8, 9, 11, 256, u64::MAX] {
-            receiver.state[0] = state;
-            let call = ReceiveCall {
-                block: Incoming {
-                    number,
-                    block_type: DATA,
-                    data: &data,
-                },
-                ..whole_call_of(good, application)
+/// A buffer, or words, one too short: 2, whatever is reported, and the decision stays open.
+fn short_reports(compare: &mut Compare, receiver: &mut Receiver) -> Outcome {
+    for stored in [NOT_STORED, STORED] {
+        let whole = receiver.whole_call(receiver.report(stored));
+        for (state, buffer, report) in [(1, 0, 0), (0, 1, 0), (0, 0, 1), (9, 0, 2), (0, 9, 0)] {
+            let call = ReceiverCall {
+                state_words: whole.state_words - state,
+                buffer_length: whole.buffer_length - buffer,
+                report_words: whole.report_words - report,
+                ..whole
             };
-            short_memory(compare, receiver, &call)?;
+            numbered(&compare.receiver_act(receiver, &call)?, 2)?;
         }
     }
     Ok(())
 }
 
-/// A call with all memory as good settings need it.
-fn whole_call_of(settings: &Settings, application: u64) -> ReceiveCall<'static> {
-    ReceiveCall {
-        application,
-        block: Incoming {
-            number: 0,
-            block_type: DATA,
-            data: &[],
-        },
-        state_words: 1,
-        buffer_length: needed(settings) + 4,
-        start: 4,
-        report_words: RECEIVED_WORDS,
-    }
-}
-
-/// The call as it is, and with each memory too short: words of the state, words of the report, the
-/// buffer's length and the start.
-fn short_memory(compare: &mut Compare, receiver: &mut Receiver, call: &ReceiveCall) -> Outcome {
-    let (length, start) = (call.buffer_length, call.start);
-    let state = receiver.state[0];
-    for (state_words, report_words, buffer_length, start) in [
-        (1, 3, length, start),
-        (0, 3, length, start),
-        (1, 2, length, start),
-        (1, 0, length, start),
-        (1, 3, length - 1, start),
-        (1, 3, length, start + 1),
-        (1, 3, length, usize::MAX),
-        (1, 3, 0, 0),
-        (0, 0, 0, start),
-    ] {
-        receiver.state[0] = state;
-        let call = ReceiveCall {
-            state_words,
-            report_words,
-            buffer_length,
-            start,
-            ..*call
-        };
-        compare.receive(receiver, &call)?;
+/// With none open a report is refused, of success and of failure.
+fn none_open(compare: &mut Compare, receiver: &mut Receiver) -> Outcome {
+    for stored in [STORED, NOT_STORED] {
+        numbered(&report(compare, receiver, stored)?, 11)?;
     }
     Ok(())
 }
 
-/// Words that are a state, and words that are none (11).
-pub fn receiver_words(compare: &mut Compare) -> Outcome {
-    for limit in [128, 129] {
-        for settings in [
-            Settings::hybrid(0x0B, 0x1C, limit),
-            Settings::minimal(limit),
-        ] {
-            let mut receiver = Receiver::new(compare, &settings, 0, 3);
-            for _ in 0..12_000 {
-                let near = LARGEST_EXPECTED - 4 + compare.random.below(9) as u64;
-                let shift = compare.random.below(64);
-                let any = compare.random.draw() >> shift;
-                let state = compare.random.pick(&[near, any, any, 1 << shift, u64::MAX]);
-                let data = data(&mut compare.random, state % (LARGEST_SENT + 1), limit);
-                receiver.state[0] = state;
-                let application = compare.random.pick(&[1, 2]);
-                data_act(compare, &mut receiver, application, &data)?;
-            }
-        }
-    }
-    Ok(())
-}
-
-/// Types that no reader gives: every byte, and larger numbers. What is not N counts as data; on a
-/// minimal link the type is not looked at.
-pub fn other_block_types(compare: &mut Compare) -> Outcome {
-    let larger = [256 + DATA, 256 + NAK, NAK << 8, 1 << 32 | NAK, u64::MAX];
-    for settings in [Settings::hybrid(0x0B, 0x1C, 128), Settings::minimal(128)] {
-        let mut receiver = Receiver::new(compare, &settings, 0, 3);
-        for block_type in (0..=255).chain(larger) {
-            for data in [&b"MSH|||||||||A|||5\r"[..], b"C", b"MSH|||||||||A|||-1\r"] {
-                for number in [0, 7] {
-                    let mut call = whole_call(&receiver, 1, data);
-                    call.block.block_type = block_type;
-                    call.block.number = number;
-                    compare.receive(&mut receiver, &call)?;
-                }
-            }
-        }
-    }
-    let answers: [&[u8]; 3] = [b"MSH|||||||||A\rMSA|AA|5||5\r", b"C", b""];
-    for block_type in (0..=255).chain(larger) {
-        for data in answers {
-            let mut state = vec![5, 4, 5, 1, 0, 4, 1];
-            let act = make_ends::with_type(3, block_type, data);
-            compare.sender_act(&act, &mut state)?;
-        }
-    }
-    Ok(())
-}
-
-/// Data that no reader gives: longer than the limit, or with bytes that no block may hold, in the
+/// Data that no reader gives: longer than any limit, or with bytes that no block may hold, in the
 /// control ID and elsewhere.
 pub fn data_of_no_block(compare: &mut Compare) -> Outcome {
-    for round in 0..6_000 {
+    for round in 0..12_000 {
         let limit = compare.random.pick(&[128, 129]);
         let settings = settings(&mut compare.random, limit);
-        let state = compare.random.pick(&STATES);
-        let mut receiver = Receiver::new(compare, &settings, state, 3);
-        let sequence = make_ends::near(&mut compare.random, state);
+        let expected = compare.random.pick(&STATES);
+        let mut receiver = Receiver::new(compare, &settings, expected, 3);
+        let sequence = make_ends::near(&mut compare.random, expected);
         let id = if round % 2 == 0 {
             let length = compare.random.between(1, 20);
             make_messages::field(&mut compare.random, length)
@@ -537,34 +524,34 @@ pub fn data_of_no_block(compare: &mut Compare) -> Outcome {
         let more = compare.random.pick(&[0, 1, 40, 400]);
         data.extend(compare.random.bytes(more));
         let application = compare.random.pick(&[1, 2]);
-        data_act(compare, &mut receiver, application, &data)?;
+        let said = decide(compare, &mut receiver, application, &data)?;
+        let answer = report(compare, &mut receiver, STORED)?;
+        if said.report[DECISION_OPENED] == 1 {
+            let header = message_model::header(&data);
+            let id = header.map_or(&b""[..], |header| header.control_id.bytes);
+            compare.reply_reads_back(&receiver.settings, &answer.reply, id)?;
+        }
     }
     Ok(())
 }
 
-/// On a hybrid link each refused number has its reason; on a minimal one nothing is answered.
+/// Each number of a refused block has its reason, whatever is expected; no other number has one.
 pub fn refused_numbers(compare: &mut Compare) -> Outcome {
+    let reasons = [b'G', b'B', b'G', b'C', b'X', b'G', b'G'];
     for _ in 0..2_000 {
-        let settings = settings(&mut compare.random, 128);
-        let state = compare.random.pick(&STATES);
-        let mut receiver = Receiver::new(compare, &settings, state, 3);
-        let data = data(&mut compare.random, state, 128);
-        for number in 3..=8 {
-            for block_type in [0, DATA, NAK] {
-                let mut call = whole_call(&receiver, 1, &data);
-                call.block.number = number;
-                call.block.block_type = block_type;
-                let answer = compare.receive(&mut receiver, &call)?;
-                let reply = match settings.layer {
-                    Layer::Hybrid => 16,
-                    Layer::Minimal => 0,
-                };
-                let expected = [0, reply, number];
-                if answer.report != expected || receiver.state[0] != state {
-                    return Err(format!("block number {number}: report {:?}", answer.report));
-                }
-            }
+        let settings = make::hybrid_settings(&mut compare.random, 128);
+        let expected = compare.random.pick(&STATES);
+        let mut receiver = Receiver::new(compare, &settings, expected, 3);
+        for number in 0..=12 {
+            let nak = receiver.nak(number);
+            let answer = compare.receiver_acts(&mut receiver, nak)?;
+            let reason = number
+                .checked_sub(3)
+                .and_then(|at| reasons.get(at as usize));
+            same("reason", &[answer.reply.get(5)], &[reason])?;
         }
+        let state = &receiver.state[..RECEIVER_WORDS];
+        same("state", state, &expects(expected))?;
     }
     Ok(())
 }

@@ -1,0 +1,2 @@
+pub mod ReceiverCalls
+pub mod Internal
