@@ -673,7 +673,7 @@ static void look_at(guarded *memory)
     VALGRIND_MAKE_MEM_DEFINED(memory->at, memory->size);
 }
 
-static memory lend(const row *r, uint8_t paint)
+static memory allocate(const row *r, uint8_t paint)
 {
     const function *f = &functions[r->function];
     const size_t words = f->state - (r->lack == STATE);
@@ -685,7 +685,7 @@ static memory lend(const row *r, uint8_t paint)
     return m;
 }
 
-static void take_back(memory *m)
+static void release(memory *m)
 {
     give_back(&m->state);
     give_back(&m->buffer);
@@ -731,15 +731,15 @@ static int rest_is_right(const row *r, const memory *a, const memory *b)
 
 static void test_row(const row *r, uint8_t paint)
 {
-    memory a = lend(r, paint), b = lend(r, (uint8_t)~paint);
+    memory a = allocate(r, paint), b = allocate(r, (uint8_t)~paint);
     int right = answers(r, &a) & answers(r, &b);
 
     right = right && report_is_right(r, &a, &b) && rest_is_right(r, &a, &b);
     if (!right)
         printf("gmv_%s, %d: not as it should be\n", functions[r->function].name, (int)r->number);
     CHECK(right);
-    take_back(&a);
-    take_back(&b);
+    release(&a);
+    release(&b);
 }
 
 static int has_rows[FUNCTIONS];

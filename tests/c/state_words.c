@@ -10,30 +10,30 @@ enum { WORD = sizeof(uint64_t), LIMIT = 128, LONGEST_BLOCK = LIMIT + 15 };
 /* An act on words with memory of exactly their size. */
 typedef struct {
     guarded state, report, buffer;
-} lent;
+} memory;
 
-static lent lend(size_t state_words, size_t report_words, size_t buffer_length)
+static memory allocate(size_t state_words, size_t report_words, size_t buffer_length)
 {
-    lent m = {guard(state_words * WORD, 0xEE), guard(report_words * WORD, 0xEE),
-              guard(buffer_length, 0x55)};
+    memory m = {guard(state_words * WORD, 0xEE), guard(report_words * WORD, 0xEE),
+                guard(buffer_length, 0x55)};
 
     return m;
 }
 
-static void take_back(lent *m)
+static void release(memory *m)
 {
     give_back(&m->state);
     give_back(&m->report);
     give_back(&m->buffer);
 }
 
-static void set_words(lent *m, const uint64_t *words)
+static void set_words(memory *m, const uint64_t *words)
 {
     memcpy(m->state.at, words, m->state.size);
     keep(&m->state);
 }
 
-static int all_unchanged(const lent *m)
+static int all_unchanged(const memory *m)
 {
     return unchanged(&m->state) && unchanged(&m->report) && unchanged(&m->buffer);
 }
@@ -47,7 +47,7 @@ enum { DECIDE, N_BLOCK, STORED_HYBRID, STORED_MINIMAL, FAILED_HYBRID, FAILED_MIN
 
 #define BUFFER(m) (m)->buffer.at, (m)->buffer.size, 0
 
-static uint64_t act_on_receiver(int act, lent *m)
+static uint64_t act_on_receiver(int act, memory *m)
 {
     static const uint8_t data[] = "MSH|||||||||17|||2\r";
     const uint64_t sb = GMV_START_BLOCK_DEFAULT, eb = GMV_END_BLOCK_DEFAULT;
@@ -116,7 +116,7 @@ static uint64_t receiver_answers(int act, const uint64_t *w, int id)
 }
 
 /* What an act that was done leaves: a decision on "17" from the first three, and no decision after a report. */
-static int leaves_receiver(int act, const lent *m, const uint64_t *before)
+static int leaves_receiver(int act, const memory *m, const uint64_t *before)
 {
     const uint64_t *w = words_of(&m->state);
     const uint64_t none[GMV_RECEIVER_WORDS - 1] = {0};
@@ -130,7 +130,7 @@ static int leaves_receiver(int act, const lent *m, const uint64_t *before)
     return w[0] == (act <= STORED_MINIMAL ? before[GMV_RECEIVER_NEW_EXPECTED] : before[0]);
 }
 
-static int receiver_acts_rightly(const uint64_t *w, int id, lent *m)
+static int receiver_acts_rightly(const uint64_t *w, int id, memory *m)
 {
     int right = 1;
 
@@ -147,7 +147,7 @@ static int receiver_acts_rightly(const uint64_t *w, int id, lent *m)
 }
 
 /* The words 1 to 4 in every combination of small ones and those near the number expected. */
-static int decisions(uint64_t *w, int id, lent *m, int *open)
+static int decisions(uint64_t *w, int id, memory *m, int *open)
 {
     const uint64_t e = w[0] == 0 ? 7 : w[0], numbers[] = {0, 1, 2, 3, e, e + 1};
     const size_t count = sizeof numbers / sizeof numbers[0];
@@ -167,7 +167,7 @@ static int decisions(uint64_t *w, int id, lent *m, int *open)
 static void words_of_receivers(void)
 {
     const uint64_t expected[] = {0, 10, GMV_LARGEST_NUMBER, GMV_LARGEST_NUMBER + 1, GMV_LARGEST_NUMBER + 2};
-    lent m = lend(GMV_RECEIVER_WORDS, GMV_DECISION_WORDS, LONGEST_BLOCK);
+    memory m = allocate(GMV_RECEIVER_WORDS, GMV_DECISION_WORDS, LONGEST_BLOCK);
     uint64_t w[GMV_RECEIVER_WORDS];
     int open = 0, right = 1;
 
@@ -181,14 +181,14 @@ static void words_of_receivers(void)
     /* none expected: AA -1, AR -1, and 1, 2 and 7 with AA and AE; 10 and the largest that is sent: AA -1, AA,
      * AR, and the number itself with AA and AE; one more: AA -1, AA and AR */
     CHECK(open == 8 + 5 + 5 + 3);
-    take_back(&m);
+    release(&m);
 }
 
 /* ---- the station */
 
 enum { BLOCK, BAD, ENQUIRY, END, BARE_ENQ, INTERRUPT, STATION_ACTS };
 
-static uint64_t act_on_station(int act, lent *m)
+static uint64_t act_on_station(int act, memory *m)
 {
     static const uint8_t text[] = {'A', 'B'};
 
@@ -236,7 +236,7 @@ static int station_takes(int act, const uint64_t *w)
     return is_station(w) && (act != INTERRUPT || may_ask);
 }
 
-static int station_acts_rightly(const uint64_t *w, lent *m)
+static int station_acts_rightly(const uint64_t *w, memory *m)
 {
     int right = 1;
 
@@ -255,7 +255,7 @@ static int station_acts_rightly(const uint64_t *w, lent *m)
 static void words_of_stations(void)
 {
     const uint64_t held[] = {0, 1, 9};
-    lent m = lend(GMV_STATION_WORDS, GMV_STATION_REPORT_WORDS, 4);
+    memory m = allocate(GMV_STATION_WORDS, GMV_STATION_REPORT_WORDS, 4);
     uint64_t w[GMV_STATION_WORDS];
     int states = 0, right = 1;
 
@@ -270,7 +270,7 @@ static void words_of_stations(void)
                     }
     CHECK(right);
     CHECK(states == 1 + 2 + 8 * 3 * 6); /* closed; no reply yet; numbers, lengths held, other pairs */
-    take_back(&m);
+    release(&m);
 }
 
 /* ---- the master */
@@ -278,7 +278,7 @@ static void words_of_stations(void)
 enum { START, REPLY, TIMER, CLOSE, ENQUIRE, MAY_RECEIVE, MASTER_ACTS };
 
 /* Each reply in turn: all of them come to every kind of state. */
-static uint64_t act_on_master(int act, lent *m)
+static uint64_t act_on_master(int act, memory *m)
 {
     static uint64_t reply;
 
@@ -352,7 +352,7 @@ static int master_takes(int act, const uint64_t *w)
     return act != MAY_RECEIVE || w[GMV_MASTER_INTERRUPTED] == 1;
 }
 
-static int master_acts_rightly(const uint64_t *w, lent *m)
+static int master_acts_rightly(const uint64_t *w, memory *m)
 {
     int right = 1;
 
@@ -368,7 +368,7 @@ static int master_acts_rightly(const uint64_t *w, lent *m)
 }
 
 /* The last four words in every combination behind these six. */
-static int last_words(uint64_t *w, lent *m, int *states)
+static int last_words(uint64_t *w, memory *m, int *states)
 {
     int right = 1;
 
@@ -396,7 +396,7 @@ static void first_words(uint64_t *w, int index)
 
 static void words_of_masters(void)
 {
-    lent m = lend(GMV_MASTER_WORDS, GMV_MASTER_REPORT_WORDS, 4);
+    memory m = allocate(GMV_MASTER_WORDS, GMV_MASTER_REPORT_WORDS, 4);
     uint64_t w[GMV_MASTER_WORDS];
     int states = 0, right = 1;
 
@@ -409,7 +409,7 @@ static void words_of_masters(void)
     /* closed; idle, with a pair less where the count is 1; waiting, by resends and word 8: the offsets 0, 0
      * and 1 with count 0 and 1, and by word 9 each pair with word 7 twice */
     CHECK(states == 2 + (6 + 5) + 2 * 2 * ((9 + 8) + (9 + 8) + (8 + 8)));
-    take_back(&m);
+    release(&m);
 }
 
 void test_state_words(void)

@@ -274,7 +274,7 @@ static int byte_allowed(uint64_t value)
 
 static void start_and_end_bytes(void)
 {
-    static const char lent[] = "buffer_length=143 start=0";
+    static const char buffer[] = "buffer_length=143 start=0";
 
     for (uint64_t value = 0; value <= 300; value++)
         for (int end = 0; end < 2; end++) {
@@ -288,14 +288,14 @@ static void start_and_end_bytes(void)
             receiver_call(nak, link, "nak");
             reply_of(reply, link, "17", "AA", "17");
             if (!byte_allowed(value) || link.start_block == link.end_block) {
-                CASE("%s stored={0 1} state=(" OPEN_17 ") %s -> 1 same", answer, lent);
-                CASE("%s block_number=9 state=(17 " NO_DECISION ") %s -> 1 same", nak, lent);
+                CASE("%s stored={0 1} state=(" OPEN_17 ") %s -> 1 same", answer, buffer);
+                CASE("%s block_number=9 state=(17 " NO_DECISION ") %s -> 1 same", nak, buffer);
                 continue;
             }
             CASE("%s stored=1 state=(" OPEN_17 ") %s -> 0 state=(18 " NO_DECISION ") buffer=0:%s "
-                 "report=(59 0)", answer, lent, reply);
+                 "report=(59 0)", answer, buffer, reply);
             CASE("%s block_number=9 state=(17 " NO_DECISION ") %s -> 0 state=same "
-                 "buffer=0:\"\\x%02xN23\\rG00006%03u\\x%02x\\r\" report=(16 0)", nak, lent,
+                 "buffer=0:\"\\x%02xN23\\rG00006%03u\\x%02x\\r\" report=(16 0)", nak, buffer,
                  (unsigned)link.start_block, sum, (unsigned)link.end_block);
         }
 }
