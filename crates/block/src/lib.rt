@@ -1,4 +1,7 @@
 // HL7 lower layer blocks: their checksum and fields, the verdict on the bytes of one block, and the buffer that holds them.
+
+#![tactic(auto)]
+
 mod buffer;
 mod digits;
 mod judge;

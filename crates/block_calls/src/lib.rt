@@ -1,5 +1,8 @@
 // What the C functions for blocks do, on slices and settings that are made: the words are looked at, the library is called,
 // and its answer is written into the words.
+
+#![tactic(auto)]
+
 mod check;
 mod fresh;
 mod read;
@@ -13,7 +16,7 @@ use stream::Reader;
 pub use write::write_words;
 
 // What a reader's words encode.
-#[derive(Drop)]
+#[derive(Clone, Copy)]
 pub enum Decoded {
     Unknown,
     Known(Reader),

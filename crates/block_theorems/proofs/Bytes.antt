@@ -6,7 +6,7 @@ use Prim.Native.Nat.{ℕ, ◌+◌, ◌/◌, ◌%◌}
 use native.Mathlib.Omega.{arith}
 use lib.ListN.{length}
 use lib.Dec.{eqb}
-use borrow.Author.Tests.{eqb-true, le-leb, ne_eqb, eqb-false, not_true}
+use borrow.Author.Tests.{eqb-true, le-leb, ne_eqb, eqb-false, not-true}
 use Rattle.lists.proofs.Tests.{and_left, and_right}
 use Rattle.lists.proofs.All.{all_append}
 use Rattle.lists.specs.Bytes.{has_any}
@@ -76,9 +76,9 @@ valid_apart g = go g.kind
         let v : (not (allowed sb) && not (allowed eb)) ≡ true = and_left (not (allowed sb) && not (allowed eb)) (not (eqb sb eb)) u in
         let w : not (eqb sb eb) ≡ true = and_right (not (allowed sb) && not (allowed eb)) (not (eqb sb eb)) u in
         record {
-          start = not_true (allowed sb) (and_left (not (allowed sb)) (not (allowed eb)) v);
-          end = not_true (allowed eb) (and_right (not (allowed sb)) (not (allowed eb)) v);
-          differ = ne_eqb eb sb (λ (e : eb ≡ sb). eqb-false sb eb (not_true (eqb sb eb) w) (sym e));
+          start = not-true (allowed sb) (and_left (not (allowed sb)) (not (allowed eb)) v);
+          end = not-true (allowed eb) (and_right (not (allowed sb)) (not (allowed eb)) v);
+          differ = ne_eqb eb sb (λ (e : eb ≡ sb). eqb-false sb eb (not-true (eqb sb eb) w) (sym e));
         }
     go Minimal h =
         let sb = g.start_block in

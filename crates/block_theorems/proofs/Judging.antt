@@ -1,7 +1,7 @@
 -- The judge over a body that is put together of its fields.
 use mathlib.Core.Path.{◌≡◌, refl, sym, ap, ◌∙◌}
 use mathlib.Core.List.{List, ◌∷◌, ◌++◌, append_assoc}
-use mathlib.Core.Bool.{Bool, true, cond, or_true}
+use mathlib.Core.Bool.{Bool, true, cond, or-true}
 use Prim.Native.Nat.{ℕ, ◌+◌, ◌-◌}
 use native.Mathlib.Omega.{arith}
 use lib.ListN.{length, take, drop, length-append}
@@ -65,7 +65,7 @@ module _ (sb t : ℕ) (d c x : List ℕ) (lc : length c ≡ 5) (lx : length x �
 -- "xxx neither 999 nor the right sum in three digits"
 pub sum_computed : (sb t : ℕ) (d : List ℕ) → checksum_matches sb t d (three_digits (checksum_of sb t d)) ≡ true
 unfolding checksum_matches
-sum_computed sb t d = rw (same_self (three_digits (checksum_of sb t d))) (or_true (same (three_digits (checksum_of sb t d)) (bytes "999")))
+sum_computed sb t d = rw (same_self (three_digits (checksum_of sb t d))) (or-true (same (three_digits (checksum_of sb t d)) (bytes "999")))
 
 -- "999 means "not computed" and passes"
 pub sum_passes : (sb t : ℕ) (d : List ℕ) → checksum_matches sb t d (bytes "999") ≡ true

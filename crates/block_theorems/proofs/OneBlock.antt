@@ -31,6 +31,7 @@ module _ (g : Settings) where
   -- a byte of a block brings a verdict or leaves the reader in the block
   stirs : (k x : ℕ) (m : Mode) → Busy m → (1 ≤ length (move g k m x).says) ⊎ Busy (move g k m x).mode
   unfolding move
+  stirs k x between b = elim b [ ]
   stirs k x (inside s body) in_block =
       cond_ind (λ (o : Moved). (1 ≤ length o.says) ⊎ Busy o.mode) (eqb x g.start_block) _ _
       (λ q. inl (omega arith))
@@ -41,6 +42,7 @@ module _ (g : Settings) where
   -- SB in a block brings a verdict
   interrupts : (k : ℕ) (m : Mode) → Busy m → 1 ≤ length (move g k m g.start_block).says
   unfolding move
+  interrupts k between b = elim b [ ]
   interrupts k (inside s body) in_block = rw (eq-eqb g.start_block g.start_block refl) (omega arith)
   interrupts k (ended s body) at_end = omega arith
 

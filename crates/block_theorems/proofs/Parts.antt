@@ -15,7 +15,7 @@ use Rattle.stream.specs.Scan.{fresh, read_of}
 use Rattle.stream.specs.declared.Phase.{Phase}
 use Rattle.stream.specs.declared.Reader.{Reader}
 use Rattle.stream.specs.declared.Answer.{Answer}
-use Rattle.stream.specs.declared.Answer.TheVariants.{Pending, Found}
+use Rattle.stream.specs.declared.Answer.TheVariants.{Refused, Pending, Found}
 use Rattle.stream.proofs.Run.{run-append, after-append}
 use Rattle.block_theorems.specs.Session.{Served, served, spoken, go_on, and_then, serve, session, joined}
 use Rattle.block_theorems.proofs.Simulation.{Holds, fits, over, Related, is_between, is_inside, is-ended, Stands, Ends, at_end, at_verdict, Reaches, stands_at, read_reaches}
@@ -76,6 +76,7 @@ next_call_lem : (g : Settings) (k n : ℕ) (m : Mode) (b xs : List ℕ) (a : Ans
 next_call_lem g k n m b xs a r c later h ih = go a h.ends h.says
   where
     go : (z : Answer) → Ends n (length xs) z → spoken g z c ≡ run g k m (take n xs) → Serves g k m b xs (and_then (spoken g z c) (go_on z later (served [] r c)))
+    go (Refused _) e w = elim e [ ]
     go Pending (at_end e) w =
         let q : take n xs ≡ xs = take_all n xs (omega arith) in
         record { says = w ∙ ap (run g k m) q; buffer = h.buffer ∙ ap (held g k m b) q; stands = stands_at (ap (λ (i : ℕ). k + i) e) (rw q at h.stands) }

@@ -24,7 +24,7 @@ use Rattle.stream.specs.declared.Phase.{Phase}
 use Rattle.stream.specs.declared.Phase.TheVariants.{Between, Inside, Ended}
 use Rattle.stream.specs.declared.Reader.{Reader}
 use Rattle.stream.specs.declared.Answer.{Answer}
-use Rattle.stream.specs.declared.Answer.TheVariants.{Pending, Found}
+use Rattle.stream.specs.declared.Answer.TheVariants.{Refused as RefusedCall, Pending, Found}
 use Rattle.stream.proofs.Steps.{fold_found}
 use Rattle.stream.proofs.Returns.{read_scan}
 use Rattle.block_theorems.specs.Session.{spoken}
@@ -233,6 +233,7 @@ goes_on_lem g k x m b xs ih t f = go t.answer t.reader t.buffer f.live f
   where
     go : (a : Answer) (q : Reader) (c : List ℕ) → Live a → Follows g k (move g k m x) (hold g m b x) (record { answer = a; reader = q; buffer = c })
         → Folded g k m b (x ∷ xs) (fold g (record { answer = a; reader = q; buffer = c }) xs)
+    go (RefusedCall _) q c l f = elim l [ ]
     go Pending q c pending f = let h = ih q c f.stands in record { count = suc h.count; reaches = reads_more g k x h.count m _ q _ b xs c _ f h.reaches }
     go (Found s v) q c found f = rw (fold_found g s v q c xs) (record { count = 1; reaches = reads_verdict g k x s m v q b xs c f })
 

@@ -1,5 +1,8 @@
 // Lists the blocks of a capture on standard input: for each verdict SB's offset, the number (0 if accepted) and the data
 // length (0 if refused). Hybrid bytes, default settings, at most 4,096 data bytes. With --version it says its version instead.
+
+#![tactic(auto)]
+
 use libc::{STDIN_FILENO, STDOUT_FILENO};
 use refusal::Verdict;
 use settings::{Made, Settings};
@@ -7,7 +10,7 @@ use stream::{Answer, Reader};
 
 const DATA_LIMIT: u64 = 4096;
 
-#[derive(Drop)]
+#[derive(Clone, Copy)]
 struct Turn {
     reader: Reader,
     more: bool,

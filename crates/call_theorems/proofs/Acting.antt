@@ -31,7 +31,7 @@ use Rattle.call_theorems.proofs.Verdicts.{made_again, sends_the_same}
 use Rattle.call_theorems.proofs.Shows.{Behind, behind_length, report_length, Does, done, refused}
 
 -- a refused act leaves the sender and names nothing
-step-refused : {r n k : ℕ} {s t : Sender} {c : NumberedMessage} {e : Event} → Step r s n t c k e → leb 1 n ≡ true → (t ≡ s) × (c ≡ Nothing)
+step-refused : {r n : ℕ} {s t : Sender} {k : ℕ} {c : NumberedMessage} {e : Event} → Step r s n t c k e → leb 1 n ≡ true → (t ≡ s) × (c ≡ Nothing)
 step-refused (refuses l) h = (refl, refl)
 step-refused (keeps w g j u) h = not_both (sym h)
 step-refused (starts g j f) h = not_both (sym h)

@@ -278,6 +278,7 @@ module _ (k : Passed) (ag : Agrees k) (rd : Ready k.link) (x : Drivers) (y : Sys
 
       go : (ws : List Shown) (vs : List Judged) → one_at n y.sending.arrived ≡ vs → Each (SameVerdict g) ws vs → Goes l (senderActs n ∷ []) (verdict_taken k x ws (others_at n x.sender.arrived)) y
       go [] vs e each_none = by_act l x y (senderActs n) (subst (Shows l x) (sym (by [] e)) h)
+      go (w ∷ ws) [] e i = elim i [ ]
       go (w ∷ ws) (v ∷ vs) e (each_more p ps) =
           let s = y.sending.sender in
           let st = x.sender.memory.state in

@@ -16,7 +16,7 @@ use Rattle.stream.specs.Stream.{Judged, Mode, judged, after}
 use Rattle.stream.specs.Scan.{fold, read_of}
 use Rattle.stream.specs.declared.Reader.{Reader}
 use Rattle.stream.specs.declared.Answer.{Answer}
-use Rattle.stream.specs.declared.Answer.TheVariants.{Pending, Found}
+use Rattle.stream.specs.declared.Answer.TheVariants.{Refused, Pending, Found}
 use Rattle.block_theorems.specs.Session.{Served, served, spoken, go_on, and_then, serve, session, joined}
 use Rattle.block_theorems.proofs.Simulation.{Stands, Ends, at_end, at_verdict, read_reaches}
 use Rattle.block_theorems.proofs.Parts.{serve_is}
@@ -142,6 +142,7 @@ module _ (g : Settings) (n : ℕ) (xs : List ℕ) (c : Called) (r q : Reader) (b
   after_call : (a : Answer) → Ends i (length xs) a
       → ((d : Called) → Leaves c q b i d → 1 ≤ i → Matches g d (serve g n q b (drop i xs)) (part_calls (Valid g) n d (drop i xs)))
       → Matches g c (and_then (spoken g a b) (go_on a (serve g n q b (drop i xs)) (served [] q b))) (following (answered a))
+  after_call (Refused _) e ih = elim e [ ]
   after_call Pending (at_end e) ih =
       let l = pending_leaves g c h.verdict_words_lem q b i in
       subst (Matches g c (served [] q b)) (sym (goes (answered Pending) false l (le-ltb i (length xs) (omega arith))))

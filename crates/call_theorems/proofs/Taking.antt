@@ -20,7 +20,7 @@ use Rattle.stream.specs.Scan.{read_of, refused}
 use Rattle.stream.specs.declared.Reader.{Reader as ReaderState}
 use Rattle.stream.specs.declared.Reading.{Reading}
 use Rattle.stream.specs.declared.Answer.{Answer}
-use Rattle.stream.specs.declared.Answer.TheVariants.{Pending, Found}
+use Rattle.stream.specs.declared.Answer.TheVariants.{Refused, Pending, Found}
 use Rattle.block_theorems.specs.Session.{spoken}
 use Rattle.block_theorems.proofs.Simulation.{Stands, Ends, Reaches, read_reaches}
 use Rattle.block_calls.specs.ReaderWords.{reader_words, decoded}
@@ -143,6 +143,7 @@ module _ (g : Settings) (v : valid g ≡ true) (m : ReaderMemory) (x : Line) (h 
         }
 
     answered : (a : Answer) → reading.answer.answer ≡ a → Ends used (length part) a → Took g x (read_answered g m.state m.verdict reading.answer.reader reading.buffer used a)
+    answered (Refused _) e i = elim i [ ]
     answered Pending e i =
         let k = h.stands.encodes.verdict_words_lem in
         took_of (read_answered g m.state m.verdict reading.answer.reader reading.buffer used Pending) [] (pending_leaves g memory k reading.answer.reader reading.buffer used)

@@ -99,7 +99,7 @@ step_gives g (RefusedCall n) r b x h = h
 fold_gives : (g : Settings) (t : Scan) (xs : List ℕ) → Scanned t → Scanned (fold g t xs)
 unfolding fold
 fold_gives g t [] h = h
-fold_gives g t (x ∷ xs) h = fold_gives g _ xs (step_gives g t.answer t.reader t.buffer x h)
+fold_gives g t (x ∷ xs) h = fold_gives g (step g t.answer t.reader t.buffer x) xs (step_gives g t.answer t.reader t.buffer x h)
 
 abbrev pub Read : Outcome Reading → Type 0
 Read o = answer_gives o.answer.answer ≡ true

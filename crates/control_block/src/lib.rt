@@ -1,4 +1,7 @@
 // The sender's control message as a block. There are four, which differ in the bytes of the settings, the letters and the checksum alone.
+
+#![tactic(auto)]
+
 mod blocks;
 
 ghost use Rattle.std.specs.Prelude.{◌≡◌, cond, ◌+◌, ◌≤◌, leb, length};

@@ -1,4 +1,7 @@
 // A control ID's bytes in words, as a state that is kept in words has them.
+
+#![tactic(auto)]
+
 ghost use Rattle.std.specs.Prelude.{◌≡◌, ◌+◌, ◌%◌, ◌≤◌, length};
 ghost use Rattle.lists.specs.Bytes.{overwritten, put};
 ghost use Rattle.control_id.specs.ControlId.{packed, unpacked, in_words, word_bytes};
@@ -6,7 +9,7 @@ ghost use Rattle.control_id.specs.ControlId.{packed, unpacked, in_words, word_by
 use lists::{copy_bytes, part_of};
 
 // How many bytes there are, and the bytes: eight to a word, the first one lowest.
-#[derive(Drop)]
+#[derive(Clone, Copy)]
 pub struct ControlId {
     pub length: u64,
     pub first: u64,

@@ -1,13 +1,16 @@
 // A reader over a message: it holds the message's bytes and its position and gives the next field each time. The borrow
 // checker covers no function over a struct that holds a slice, so those here are few and thin, and are proved by hand. The
 // work is done by field_at, which takes the slice and the position.
+
+#![tactic(auto)]
+
 ghost use Rattle.std.specs.Prelude.{◌≡◌};
 ghost use Rattle.field_reader.specs.FieldReader.{next_of, after_of, advanced};
 
 use fields::{BAR, Field, find_field};
 
 // What ended a field.
-#[derive(Drop)]
+#[derive(Clone, Copy)]
 pub enum Delimiter {
     Separator,
     SegmentEnd,
@@ -15,13 +18,13 @@ pub enum Delimiter {
 }
 
 // The next field, what ended it, and the position after that; or the message's end was reached.
-#[derive(Drop)]
+#[derive(Clone, Copy)]
 pub enum NextField {
     NoField,
     Found(Field, Delimiter, usize),
 }
 
-#[derive(Drop)]
+#[derive(Clone, Copy)]
 pub struct FieldReader<'a> {
     pub message: &'a [u8],
     pub position: usize,

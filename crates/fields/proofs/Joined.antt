@@ -1,7 +1,7 @@
 -- What is joined reads back: field k of a segment is the k-th of the fields that it was made of, and empty where there is none.
 use mathlib.Core.Path.{◌≡◌, refl, sym, ap, ◌∙◌}
 use mathlib.Core.List.{List, [], ◌∷◌, ◌++◌, append_assoc}
-use mathlib.Core.Bool.{true, false, ◌||◌, or_true}
+use mathlib.Core.Bool.{true, false, ◌||◌, or-true}
 use Prim.Native.Nat.{ℕ, zero, suc, ◌+◌}
 use native.Mathlib.Omega.{arith}
 use native.Mathlib.Nat.{zero-add}
@@ -55,11 +55,11 @@ module _ (bar : ℕ) where
       let z : field_start bar (suc k) (0x0D ∷ r) ≡ 0 = rw (ne_eqb 0x0D bar (λ (e : ◌≡◌ {A = ℕ} 0x0D bar). o (sym e))) in
       let e : field_start bar (suc k) (f ++ 0x0D ∷ r) ≡ length f = let p = past k f (0x0D ∷ r) h in omega (arith, p, z) in
       let d : drop (length f) (f ++ 0x0D ∷ r) ≡ 0x0D ∷ r = drop-append_seam f (0x0D ∷ r) in
-      field_is (suc k) (f ++ 0x0D ∷ r) ∙ rw (e, d, or_true (eqb 0x0D bar))
+      field_is (suc k) (f ++ 0x0D ∷ r) ∙ rw (e, d, or-true (eqb 0x0D bar))
 
   pub reads_back : (bar ≡ 0x0D → ⊥) → (k : ℕ) (f : List ℕ) (fs : List (List ℕ)) (r : List ℕ) → Each bar (f ∷ fs)
       → field bar k (joined_fields bar f fs ++ 0x0D ∷ r) ≡ get_or (f ∷ fs) k []
-  reads_back o zero f [] r (more h none) = first f 0x0D r h (or_true (eqb 0x0D bar))
+  reads_back o zero f [] r (more h none) = first f 0x0D r h (or-true (eqb 0x0D bar))
   reads_back o zero f (g ∷ gs) r (more h t) =
       ap (λ (z : List ℕ). field bar 0 z) (append_assoc f (bar ∷ joined_fields bar g gs) (0x0D ∷ r))
       ∙ first f bar (joined_fields bar g gs ++ 0x0D ∷ r) h (rw (eq-eqb bar bar refl))

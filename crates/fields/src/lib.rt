@@ -1,4 +1,7 @@
 // Fields of a message's segments, as parts of the message.
+
+#![tactic(auto)]
+
 ghost use Rattle.std.specs.Prelude.{◌≡◌, ◌+◌, drop};
 ghost use Rattle.lists.specs.Bytes.{part_address};
 ghost use Rattle.fields.specs.Fields.{field_length, field_start, field_of, bytes_of};
@@ -7,7 +10,7 @@ ghost use Rattle.fields.specs.Fields.{field_length, field_start, field_of, bytes
 pub const BAR: u8 = b'|';
 
 // Where a field stands in the message.
-#[derive(Drop)]
+#[derive(Clone, Copy)]
 pub struct Field {
     pub start: usize,
     pub length: usize,

@@ -1,10 +1,13 @@
 // A message divided into fragments of a size and a rest: 02, §3. Only lengths are looked at, and nothing is divided: the fragment
 // at an offset is found by one subtraction.
+
+#![tactic(auto)]
+
 ghost use Rattle.std.specs.Prelude.{◌≡◌};
 ghost use Rattle.fragments.specs.Fragments.{extent_at};
 
 // How long a fragment is, and whether it is the message's last.
-#[derive(Drop)]
+#[derive(Clone, Copy)]
 pub struct Extent {
     pub length: u64,
     pub last: bool,

@@ -1,4 +1,7 @@
 // What the receiver and the sender read of a message: MSH-10, MSH-13, and of an answer MSA-1, MSA-2 and MSA-4.
+
+#![tactic(auto)]
+
 ghost use Rattle.std.specs.Prelude.{◌≡◌, [], ◌∷◌, ◌≤◌, length};
 ghost use Rattle.fields.specs.Fields.{bar};
 ghost use Rattle.header.specs.Header.{begins, header_of, acknowledgment_of, code_field};
@@ -7,21 +10,21 @@ ghost use Rattle.header.specs.Internal.{scanned_of, acknowledgment_at};
 use fields::{BAR, Field, field_end, find_field};
 
 // A message's header: refused by 9, or where MSH-10 and MSH-13 stand.
-#[derive(Drop)]
+#[derive(Clone, Copy)]
 pub enum Header {
     Unreadable,
     Readable(Field, Field),
 }
 
 // An answer: refused by 9, or where MSA-1, MSA-2 and MSA-4 stand.
-#[derive(Drop)]
+#[derive(Clone, Copy)]
 pub enum Acknowledgment {
     Unreadable,
     Readable(Field, Field, Field),
 }
 
 // Acknowledgment codes.
-#[derive(Drop)]
+#[derive(Clone, Copy)]
 pub enum Code {
     AA,
     AE,
@@ -29,14 +32,14 @@ pub enum Code {
 }
 
 // What MSA-1 holds.
-#[derive(Drop)]
+#[derive(Clone, Copy)]
 pub enum CodeField {
     Other,
     Known(Code),
 }
 
 // A header that was scanned: MSH-10, MSH-13 and the offset of the segment's CR.
-#[derive(Drop)]
+#[derive(Clone, Copy)]
 enum Scanned {
     Unreadable,
     Readable(Field, Field, usize),

@@ -28,6 +28,7 @@ sub-tail (keep s) = skip s
 sub_some : (xs ys : List Arrival) → Sub xs ys → some_of xs ys ≡ true
 unfolding some_of
 sub_some [] ys s = refl
+sub_some (x ∷ xs) [] s = elim s [ ]
 sub_some (x ∷ xs) (_ ∷ ys) (keep s) = ap (λ (b : Bool). cond b (some_of xs ys) (some_of (x ∷ xs) ys)) (arrival_self x) ∙ sub_some xs ys s
 sub_some (x ∷ xs) (y ∷ ys) (skip s) = go (same_arrival x y) (sub_some xs ys (sub-tail s)) (sub_some (x ∷ xs) ys s)
   where
@@ -37,6 +38,7 @@ sub_some (x ∷ xs) (y ∷ ys) (skip s) = go (same_arrival x y) (sub_some xs ys 
 
 in_one : (x : Arrival) (ys : List Arrival) → In x ys → one_of x ys ≡ true
 unfolding one_of
+in_one x [] i = elim i [ ]
 in_one x (_ ∷ ys) here = ap (λ (b : Bool). cond b true (one_of x ys)) (arrival_self x)
 in_one x (y ∷ ys) (there i) = go (same_arrival x y) (in_one x ys i)
   where

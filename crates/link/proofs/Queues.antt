@@ -215,21 +215,21 @@ module _ (f : ℕ) where
   good_sub p a (skip s) g = good_sub p a s (good_skip a g)
   good_sub p a (keep s) (good_minus e g) = good_minus e (good_sub p a s g)
   good_sub p a (keep s) (good_zero e g) = good_zero e (good_sub p a s g)
-  good_sub p a (keep s) (good_number l m n g) = good_number l m n (good_sub p (omega arith) s g)
+  good_sub p a (keep s) (good_number {n = j} l m n g) = good_number l m n (good_sub {h = j + 1} p (omega arith) s g)
 
   -- what stands before others
   pub good_front : {h : ℕ} (xs p : List SequenceNumber) → Good f h (xs ++ p) → Good f h xs
   good_front [] p g = good_none
   good_front (v ∷ xs) p (good_minus e g) = good_minus e (good_front xs p g)
   good_front (v ∷ xs) p (good_zero e g) = good_zero e (good_front xs p g)
-  good_front (v ∷ xs) p (good_number l m n g) = good_number l m n (good_front xs p g)
+  good_front (v ∷ xs) p (good_number {n = j} l m n g) = good_number l m n (good_front {h = j + 1} xs p g)
 
   -- what stands behind others, for a receiver that has no more
   pub good_behind : {h : ℕ} (xs p : List SequenceNumber) (k : ℕ) → f ≤ k → k ≤ h → Good f h (xs ++ p) → Good f k p
   good_behind [] p k a b g = good_lower k a b g
   good_behind (v ∷ xs) p k a b (good_minus e g) = good_behind xs p k a b g
   good_behind (v ∷ xs) p k a b (good_zero e g) = good_behind xs p k a b g
-  good_behind (v ∷ xs) p k a b (good_number l m n g) = good_behind xs p k a (omega arith) g
+  good_behind (v ∷ xs) p k a b (good_number {n = j} l m n g) = good_behind {h = j + 1} xs p k a (omega arith) g
 
   pub good_minus_ones : {h : ℕ} {p : List SequenceNumber} → h ≡ f → All IsMinusOne p → Good f h p
   good_minus_ones e none = good_none
@@ -242,10 +242,13 @@ module _ (f : ℕ) where
   good_end_zero (good_number l m n g) = good_number l m n (good_end_zero g)
 
   pub good_end : {h : ℕ} {p : List SequenceNumber} (k : ℕ) → 1 ≤ k → f ≤ k → h ≤ k + 1 → All (NotOver k) p → Good f h p → Good f h (p ++ Number k ∷ [])
-  good_end k a b c none good_none = good_number a b c good_none
-  good_end k a b c (more o os) (good_minus e g) = good_minus e (good_end k a b c os g)
-  good_end k a b c (more o os) (good_zero e g) = good_zero e (good_end k a b c os g)
-  good_end k a b c (more o os) (good_number l m n g) = good_number l m n (good_end k a b (omega arith) os g)
+  good_end k a b c o g = go c o g
+    where
+      go : {h : ℕ} {p : List SequenceNumber} → h ≤ k + 1 → All (NotOver k) p → Good f h p → Good f h (p ++ Number k ∷ [])
+      go c none good_none = good_number a b c good_none
+      go c (more o os) (good_minus e g) = good_minus e (go c os g)
+      go c (more o os) (good_zero e g) = good_zero e (go c os g)
+      go c (more o os) (good_number {n = j} l m n g) = good_number l m n (go {h = j + 1} (omega arith) os g)
 
 -- ---- replies: an answer to the message with a number, or an N block for the number of a refusal
 pub data Answer : Type 0 where

@@ -45,7 +45,7 @@ use Rattle.link.proofs.Safety.{run_stands}
 pub abandoned_closes : (s : Sender) → valid_sender s ≡ true → (a : Act) → is_abandoned (act_of a s).event ≡ true → is_open (act_of a s).sender.waiting ≡ false
 abandoned_closes s v a = go (steps s v a)
   where
-    go : {r n k : ℕ} {s t : Sender} {c : NumberedMessage} {x : Event} → Step r s n t c k x → is_abandoned x ≡ true → is_open t.waiting ≡ false
+    go : {r n : ℕ} {s t : Sender} {k : ℕ} {c : NumberedMessage} {x : Event} → Step r s n t c k x → is_abandoned x ≡ true → is_open t.waiting ≡ false
     go (refuses q) u = not_both (sym u)
     go (keeps q g j y) u = not_both (sym u ∙ g)
     go (starts g j f) u = not_both (sym u ∙ g)
@@ -157,7 +157,7 @@ module _ (l : Link) (rd : Ready l) (remains : Remains) (only : OnlyAnswers remai
       → ((act_of a (at ds).sending.sender).send ≡ Numbered m) ⊎ (waits_of (at ds).sending.sender ≡ Numbered m)
   sends_at_once ds a m w = go (steps (at ds).sending.sender (run-valid ds) a) w
     where
-      go : {r n k : ℕ} {s t : Sender} {c : NumberedMessage} {x : Event} → Step r s n t c k x → waits_of t ≡ Numbered m → (c ≡ Numbered m) ⊎ (waits_of s ≡ Numbered m)
+      go : {r n : ℕ} {s t : Sender} {k : ℕ} {c : NumberedMessage} {x : Event} → Step r s n t c k x → waits_of t ≡ Numbered m → (c ≡ Numbered m) ⊎ (waits_of s ≡ Numbered m)
       go (refuses q) z = inr z
       go {s = s} (keeps {p = p} {w = u} q g j y) z = inr (ap (λ (i : Waiting). waiting_message s.persisted i) q ∙ sym y ∙ z)
       go (starts g j f) z = inl z
@@ -170,7 +170,7 @@ module _ (l : Link) (rd : Ready l) (remains : Remains) (only : OnlyAnswers remai
       → waits_of (act_of a (at ds).sending.sender).sender ≡ Numbered m
   named_waits ds a m w = go (steps (at ds).sending.sender (run-valid ds) a) w
     where
-      go : {r n k : ℕ} {s t : Sender} {c : NumberedMessage} {x : Event} → Step r s n t c k x → c ≡ Numbered m → waits_of t ≡ Numbered m
+      go : {r n : ℕ} {s t : Sender} {k : ℕ} {c : NumberedMessage} {x : Event} → Step r s n t c k x → c ≡ Numbered m → waits_of t ≡ Numbered m
       go (refuses q) z = not_both cc
       go (keeps q g j y) z = not_both cc
       go (starts g j f) z = z

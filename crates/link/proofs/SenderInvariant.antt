@@ -20,7 +20,7 @@ use Rattle.link.proofs.Facts.{not_both}
 use Rattle.link.proofs.SenderValid.{numbers_of_lem, Right, right_from, right_valid}
 use Rattle.link.proofs.SenderSteps.{Step, refuses, keeps, starts, resends, abandons, shuts, steps}
 
-pub step_right : {r n k : ℕ} {s t : Sender} {m : NumberedMessage} {e : Event} → Right s.persisted s.waiting s.sends → Step r s n t m k e
+pub step_right : {r n : ℕ} {s t : Sender} {k : ℕ} {m : NumberedMessage} {e : Event} → Right s.persisted s.waiting s.sends → Step r s n t m k e
     → Right t.persisted t.waiting t.sends
 step_right i (refuses l) = i
 step_right i (keeps w g j u) = j

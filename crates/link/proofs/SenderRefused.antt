@@ -16,7 +16,7 @@ use Rattle.link.specs.SenderActs.{Act, opened, ended, reset, timer, block, submi
 use Rattle.link.proofs.Facts.{not_both}
 use Rattle.link.proofs.SenderSteps.{Step, refuses, keeps, starts, resends, abandons, shuts, steps}
 
-step_same : {r n k : ℕ} {s t : Sender} {m : NumberedMessage} {e : Event} → Step r s n t m k e → 1 ≤ n → t ≡ s
+step_same : {r n : ℕ} {s t : Sender} {k : ℕ} {m : NumberedMessage} {e : Event} → Step r s n t m k e → 1 ≤ n → t ≡ s
 step_same (refuses h) l = refl
 step_same (keeps w g j u) l = absurd (omega arith)
 step_same (starts g j f) l = absurd (omega arith)

@@ -7,7 +7,7 @@ use Prim.Native.Char.{code}
 use native.Mathlib.Omega.{arith}
 use lib.ListN.{length}
 use lib.Dec.{leb, ltb, eqb}
-use borrow.Author.Tests.{ltb-true, ltb-false, eqb-true, leb-true, ne_eqb, not_true}
+use borrow.Author.Tests.{ltb-true, ltb-false, eqb-true, leb-true, ne_eqb, not-true}
 use Rattle.lists.specs.Bytes.{same}
 use Rattle.lists.proofs.Tests.{and_left, and_right, cond_ind}
 use Rattle.settings.specs.Settings.{valid_link_limit}
@@ -168,7 +168,7 @@ module _ (s : Sender) (v : valid_sender s ≡ true) where
       let unfrozen = not s.persisted.frozen in
       valid_test (StepOf r s) _ _
       (cond_ind (StepOf r s) (none && unfrozen) _ _
-      (λ e. steps_opened r (shut s.waiting (not_true (is_open s.waiting) (and_left none unfrozen e))) (not_true s.persisted.frozen (and_right none unfrozen e)))
+      (λ e. steps_opened r (shut s.waiting (not-true (is_open s.waiting) (and_left none unfrozen e))) (not-true s.persisted.frozen (and_right none unfrozen e)))
       (λ e. refusal r 11 0 (omega arith)))
 
   steps_ended : (r : ℕ) → StepOf r s (ended_of s)

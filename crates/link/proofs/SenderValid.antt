@@ -4,7 +4,7 @@ use mathlib.Core.Bool.{Bool, true, false, not, ◌&&◌, ◌||◌}
 use Prim.Native.Nat.{ℕ, ◌+◌, ◌-◌, ◌≤◌, ◌<◌}
 use native.Mathlib.Omega.{arith}
 use lib.Dec.{leb, ltb, eqb}
-use borrow.Author.Tests.{le-leb, leb-true, lt-ltb, ltb-true, eq-eqb, eqb-true, not_true}
+use borrow.Author.Tests.{le-leb, leb-true, lt-ltb, ltb-true, eq-eqb, eqb-true, not-true}
 use Rattle.lists.proofs.Tests.{and_left, and_right}
 use Rattle.numbers.specs.Numbers.{greatest_sent}
 use Rattle.sender.specs.Sender.{valid_first, valid_persisted, valid_sends, valid_waiting, valid_sender, is_open, when_open}
@@ -91,13 +91,13 @@ sent_from n h =
 
 circuit_from : (p : Persisted) → (not p.frozen && p.resynchronized) ≡ true → OnCircuit p true
 circuit_from p h =
-    record { unfrozen = not_true p.frozen (and_left (not p.frozen) p.resynchronized h); synchronized = and_right (not p.frozen) p.resynchronized h }
+    record { unfrozen = not-true p.frozen (and_left (not p.frozen) p.resynchronized h); synchronized = and_right (not p.frozen) p.resynchronized h }
 
 new_circuit_from : (p : Persisted) → (not p.frozen && not p.resynchronized) ≡ true → OnCircuit p false
 new_circuit_from p h =
     let unfrozen = not p.frozen in
     let new = not p.resynchronized in
-    record { unfrozen = not_true p.frozen (and_left unfrozen new h); synchronized = not_true p.resynchronized (and_right unfrozen new h) }
+    record { unfrozen = not-true p.frozen (and_left unfrozen new h); synchronized = not-true p.resynchronized (and_right unfrozen new h) }
 
 waits_from : (p : Persisted) (w : Waiting) (n : ℕ) → valid_waiting p w n ≡ true → WaitsRight p w n
 waits_from p Closed n h = eqb-true n 0 h

@@ -170,10 +170,10 @@ module _ (f : ℕ) (b : Books) where
     answered Closed c = quiet (rid c)
     answered Idle c = quiet (rid c)
     answered Resynchronizing c = or-dropped Resynchronizing MinusOne c (λ y. first_answered p d m (rid c) (given MinusOne y c))
-    answered Querying c = or-dropped Querying (Number 0) c (λ y. zero (given (Number 0) y c) (named y c.waits.names) (named y c.waits.names_stored))
+    answered Querying c = or-dropped Querying (Number 0) c (λ y. zero (given (Number 0) y c) (named b.volatile.expected y c.waits.names) (named b.stored.expected y c.waits.names_stored))
       where
-        named : {e : Expected} {l : List Answer} → v ≡ Number 0 → All (NamesExpected e) (replies v d m ∷ l) → m ≡ expected_number e
-        named {e} y a = subst (λ (z : SequenceNumber). NamesExpected e (replies z d m)) y (all_head a) refl
+        named : (e : Expected) {l : List Answer} → v ≡ Number 0 → All (NamesExpected e) (replies v d m ∷ l) → m ≡ expected_number e
+        named e y a = subst (λ (z : SequenceNumber). NamesExpected e (replies z d m)) y (all_head a) refl
 
         zero : ToNumber b.stored.next 0 d m → m ≡ expected_number b.volatile.expected → m ≡ expected_number b.stored.expected
             → After (answer_of (sender_at p Querying n) (Known d) (Present m))

@@ -1,4 +1,7 @@
 // Copying bytes, handing on a part of them and finding where a stretch ends, with the laws about lists that the proofs of the other crates cite (proofs/).
+
+#![tactic(auto)]
+
 mod find;
 
 ghost use Rattle.std.specs.Prelude.{◌≡◌, min, take, drop};

@@ -4,7 +4,7 @@ use mathlib.Core.List.{List, [], ◌∷◌}
 use mathlib.Core.Bool.{Bool, true, false, cond, not, ◌&&◌, ◌||◌, true≢false}
 use Prim.Native.Nat.{ℕ, ◌+◌}
 use lib.Dec.{leb, eqb}
-use borrow.Author.Tests.{eqb-true, eq-eqb, not_true}
+use borrow.Author.Tests.{eqb-true, eq-eqb, not-true}
 use Rattle.lists.specs.Bytes.{greatest_word}
 use Rattle.lists.proofs.Tests.{cond_ind, and_right, or_true}
 use Rattle.station.specs.Station.{precedes}
@@ -222,7 +222,7 @@ enq_sent SendEnq b c f = refl
 was_out : (may : Bool) (m : Master) (t : Transmission) (p : Outstanding) (P : Type 0) → follows may m t (Waiting p) ≡ true → is_nothing t ≡ true
     → ((o : Outstanding) → m ≡ Waiting o → P) → P
 was_out may (Closed c) t p P f n k = absurd (true≢false (sym f))
-was_out may (Idle c) t p P f n k = absurd (true≢false (sym n ∙ not_true (is_nothing t) f))
+was_out may (Idle c) t p P f n k = absurd (true≢false (sym n ∙ not-true (is_nothing t) f))
 was_out may (Waiting o) t p P f n k = k o refl
 
 pub enquired_told : (xs : List MasterAct) (o : Outstanding) → (master_after xs).master ≡ Waiting o
@@ -259,12 +259,12 @@ module _ (xs : List MasterAct) (t : Transmission) (p : Outstanding) where
       → ((o : Outstanding) → m ≡ Waiting o → v.may_receive ≡ leave_given o.count xs) → v.may_receive ≡ leave_given p.count xs
   may_before (Closed c) v h f n k = absurd (true≢false (sym f))
   may_before (Idle c) v h f n k =
-      not_true v.may_receive (and_right (not v.enquired) _ (and_right (heard v.last v.interrupted c 0) _ h)) ∙ sym (n refl)
+      not-true v.may_receive (and_right (not v.enquired) _ (and_right (heard v.last v.interrupted c 0) _ h)) ∙ sym (n refl)
   may_before (Waiting o) v h f n k = go (eqb o.count p.count) refl f
     where
       go : (b : Bool) → eqb o.count p.count ≡ b → (b || not v.may_receive) ≡ true → v.may_receive ≡ leave_given p.count xs
       go true e g = k o refl ∙ ap (λ (c : ℕ). leave_given c xs) (eqb-true o.count p.count e)
-      go false e g = not_true v.may_receive g ∙ sym (n e)
+      go false e g = not-true v.may_receive g ∙ sym (n e)
 
 pub leave_told : (xs : List MasterAct) (o : Outstanding) → (master_after xs).master ≡ Waiting o
     → (master_after xs).reversal.may_receive ≡ leave_given o.count xs

@@ -3,7 +3,7 @@ use mathlib.Core.Path.{◌≡◌, refl, sym, ap, ◌∙◌}
 use mathlib.Core.Bool.{Bool, true, false, cond, not, ◌&&◌, and-false, true≢false}
 use Prim.Native.Nat.{ℕ, ◌+◌}
 use lib.Dec.{leb, eqb}
-use borrow.Author.Tests.{eq-eqb, not_true}
+use borrow.Author.Tests.{eq-eqb, not-true}
 use Rattle.lists.specs.Bytes.{greatest_word}
 use Rattle.lists.proofs.Tests.{cond_ind, and_left, and_right}
 use Rattle.station.specs.Station.{precedes}
@@ -166,14 +166,14 @@ none_yet NakKind e = absurd (true≢false (sym e))
 none_yet RintKind e = absurd (true≢false (sym e))
 
 by_parts : (k j : ReplyKind) (came i enq may : Bool) → k ≡ j → came ≡ i → not enq ≡ true → not may ≡ true → reversal j i false false ≡ reversal k came enq may
-by_parts k j came i enq may e f g h = rw (e, f, not_true enq g, not_true may h)
+by_parts k j came i enq may e f g h = rw (e, f, not-true enq g, not-true may h)
 
 kept_same : (m : Master) (v : Reversal) → reversal_fits m v ≡ true → kept m Nothing v ≡ v
 kept_same (Closed count) v h =
     let first = and_left (is_none_yet v.last && not v.interrupted) _ h in
     let rest = and_right (is_none_yet v.last && not v.interrupted) _ h in
     by_parts v.last NoneYet v.interrupted false v.enquired v.may_receive
-    (none_yet v.last (and_left (is_none_yet v.last) _ first)) (not_true v.interrupted (and_right (is_none_yet v.last) _ first))
+    (none_yet v.last (and_left (is_none_yet v.last) _ first)) (not-true v.interrupted (and_right (is_none_yet v.last) _ first))
     (and_left (not v.enquired) _ rest) (and_right (not v.enquired) _ rest)
 kept_same (Idle count) v h =
     let rest = and_right (heard v.last v.interrupted count 0) _ h in
@@ -285,7 +285,7 @@ module _ (v : Reversal) where
 
 -- closed, no RINT came
 pub closed_uninterrupted : (count : ℕ) (v : Reversal) → reversal_fits (Closed count) v ≡ true → v.interrupted ≡ false
-closed_uninterrupted count v h = not_true v.interrupted (and_right (is_none_yet v.last) _ (and_left (is_none_yet v.last && not v.interrupted) _ h))
+closed_uninterrupted count v h = not-true v.interrupted (and_right (is_none_yet v.last) _ (and_left (is_none_yet v.last && not v.interrupted) _ h))
 
 -- leave that is given twice is given once
 pub leave_twice : (s : MasterState) → valid_master s.master ≡ true → reversal_fits s.master s.reversal ≡ true

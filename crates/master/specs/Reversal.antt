@@ -5,7 +5,6 @@ use Rattle.refusal.specs.Refusal.{STATE}
 use Rattle.station.specs.declared.ReplyKind.{ReplyKind}
 use Rattle.station.specs.declared.ReplyKind.TheVariants.{NoneYet, Ack as AckKind, Nak as NakKind, Rint as RintKind}
 use Rattle.master.specs.Master.{valid_outstanding, master_acted, unchanged, refused_master, opened_master, start_of, master_reply_of, timer_aOf, close_of}
-use Rattle.master.specs.declared.Outstanding.{Outstanding}
 use Rattle.master.specs.declared.Master.{Master}
 use Rattle.master.specs.declared.Master.TheVariants.{Closed, Idle, Waiting}
 use Rattle.master.specs.declared.Response.{Response}

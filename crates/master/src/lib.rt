@@ -1,7 +1,10 @@
 // The X3.28 sending station, the master (000, C.3; 02, §3 and §14): what it is, and what it answers. The line driver keeps the message,
 // frames the blocks and reports the replies.
 // A block is out: it was sent, and its ACK is awaited.
-#[derive(Drop)]
+
+#![tactic(auto)]
+
+#[derive(Clone, Copy)]
 pub struct Outstanding {
     pub message_length: u64,
     pub block_size: u64,
@@ -12,7 +15,7 @@ pub struct Outstanding {
     pub count: u64,
 }
 
-#[derive(Drop)]
+#[derive(Clone, Copy)]
 pub enum Master {
     // The blocks that were acknowledged in the opening that ended.
     Closed(u64),
@@ -22,7 +25,7 @@ pub enum Master {
 }
 
 // How an open master stands with RINT and its enquiry. Closed: no reply, and no to all.
-#[derive(Drop)]
+#[derive(Clone, Copy)]
 pub struct Reversal {
     // The last undamaged reply, its number aside.
     pub last: station::ReplyKind,
@@ -34,21 +37,21 @@ pub struct Reversal {
     pub may_receive: bool,
 }
 
-#[derive(Drop)]
+#[derive(Clone, Copy)]
 pub struct MasterState {
     pub master: Master,
     pub reversal: Reversal,
 }
 
 // What a master's words encode.
-#[derive(Drop)]
+#[derive(Clone, Copy)]
 pub enum DecodedMaster {
     Unknown,
     Known(MasterState),
 }
 
 // A reply as it arrived.
-#[derive(Drop)]
+#[derive(Clone, Copy)]
 pub enum Response {
     Ack(u64),
     Nak,
@@ -58,14 +61,14 @@ pub enum Response {
 }
 
 // What a number from C stands for.
-#[derive(Drop)]
+#[derive(Clone, Copy)]
 pub enum DecodedResponse {
     Unknown,
     Known(Response),
 }
 
 // A block to send: its text is a part of the message.
-#[derive(Drop)]
+#[derive(Clone, Copy)]
 pub struct BlockPart {
     pub number: u64,
     pub ending: station::Ending,
@@ -74,7 +77,7 @@ pub struct BlockPart {
 }
 
 // What to send now.
-#[derive(Drop)]
+#[derive(Clone, Copy)]
 pub enum Transmission {
     Nothing,
     SendBlock(BlockPart),
@@ -83,7 +86,7 @@ pub enum Transmission {
 }
 
 // What an ACK brought.
-#[derive(Drop)]
+#[derive(Clone, Copy)]
 pub enum Progress {
     NoProgress,
     Acknowledged,
@@ -92,7 +95,7 @@ pub enum Progress {
 }
 
 // How the opening ended.
-#[derive(Drop)]
+#[derive(Clone, Copy)]
 pub enum End {
     NotEnded,
     Failed,
@@ -103,7 +106,7 @@ pub enum End {
 }
 
 // What an act answers.
-#[derive(Drop)]
+#[derive(Clone, Copy)]
 pub struct MasterActed {
     // 0, or 1 or 11.
     pub refusal: u64,
@@ -114,7 +117,7 @@ pub struct MasterActed {
 }
 
 // The same, with how it stands with RINT then.
-#[derive(Drop)]
+#[derive(Clone, Copy)]
 pub struct MasterAnswer {
     pub acted: MasterActed,
     pub reversal: Reversal,

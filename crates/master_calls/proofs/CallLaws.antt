@@ -6,7 +6,7 @@ use Prim.Native.Nat.{ℕ, ◌+◌, ◌-◌, ◌≤◌}
 use native.Mathlib.Omega.{arith}
 use lib.ListN.{length, drop, get_or, length-append, length-drop}
 use lib.Seq.{length-take-le}
-use borrow.Author.Tests.{not_true, not-false}
+use borrow.Author.Tests.{not-true, not-false}
 use borrow.Rule.Slice.PartMut.{mid_of, put_mid}
 use Rattle.lists.specs.Bytes.{put, over}
 use Rattle.lists.specs.Outcome.{Called, called}
@@ -46,7 +46,7 @@ module _ (st p : List ℕ) {enough : Bool} (e : enough ≡ enough_master_words (
 
   module _ (f : MasterState → MasterAnswer) where
     pub few_words : not enough ≡ true → called 2 st [] p ≡ master_call f st p
-    few_words h = unmet (enough_master_words (length st) (length p)) _ _ (sym e ∙ not_true enough h)
+    few_words h = unmet (enough_master_words (length st) (length p)) _ _ (sym e ∙ not-true enough h)
 
     module _ (h : not enough ≡ false) where
       decoded_as : (d : DecodedMaster) → master_in st ≡ d → master_act_on d f st p ≡ master_call f st p

@@ -1,5 +1,8 @@
 // What the C functions for messages, fields and control blocks do, on slices: the words are looked at, the library is called,
 // and its answer is written into the words.
+
+#![tactic(auto)]
+
 mod control;
 mod field;
 mod read;
@@ -13,13 +16,13 @@ pub use read::{read_answer_words, read_header_words};
 pub use write::{write_answer_words, write_control_words};
 
 // What a number from C stands for.
-#[derive(Drop)]
+#[derive(Clone, Copy)]
 pub enum CodeMade {
     Unknown,
     Known(Code),
 }
 
-#[derive(Drop)]
+#[derive(Clone, Copy)]
 pub enum ControlMade {
     Unknown,
     Known(Control),

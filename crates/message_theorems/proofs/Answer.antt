@@ -6,7 +6,7 @@ use Prim.Native.Nat.{ℕ, ◌≤◌}
 use native.Mathlib.Omega.{arith}
 use lib.ListN.{length, get_or}
 use lib.Dec.{leb}
-use borrow.Author.Tests.{leb-true, not_true}
+use borrow.Author.Tests.{leb-true, not-true}
 use Rattle.lists.specs.Bytes.{bytes, has_any, same}
 use Rattle.lists.proofs.Tests.{and_left, and_right}
 use Rattle.settings.specs.DataBytes.{all_allowed}
@@ -41,7 +41,7 @@ control_id_lem id h =
     record {
       some = leb-true 1 (length id) (and_left (leb 1 (length id)) (leb (length id) 20) l);
       few = leb-true (length id) 20 (and_right (leb 1 (length id)) (leb (length id) 20) l);
-      free = not_true (has_any bar 0x0D id) (and_right (leb 1 (length id) && leb (length id) 20) (not (has_any bar 0x0D id)) h);
+      free = not-true (has_any bar 0x0D id) (and_right (leb 1 (length id) && leb (length id) 20) (not (has_any bar 0x0D id)) h);
     }
 
 expected_within : (n : SequenceNumber) → answerable n ≡ true → is_within greatest_expected n ≡ true

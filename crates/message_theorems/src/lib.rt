@@ -1,1 +1,3 @@
 // Theorems only: what is written reads back, and fits its block (proofs/).
+
+#![tactic(auto)]

@@ -11,7 +11,7 @@ use native.Mathlib.Decide.{dec_le}
 use lib.ListN.{length, take, set, get_or, length-append}
 use lib.Seq.{length-take-le, take-length, take-suc}
 use lib.Dec.{leb, ltb, eqb}
-use borrow.Author.Tests.{le-leb, lt-leb, lt-ltb, le-ltb, eq-eqb, ne_eqb, eqb-true, not_true, not-false}
+use borrow.Author.Tests.{le-leb, lt-leb, lt-ltb, le-ltb, eq-eqb, ne_eqb, eqb-true, not-true, not-false}
 use Rattle.lists.specs.Bytes.{put, has_any, all}
 use Rattle.lists.proofs.Put.{put_none, put-put, set-put, length-put}
 use Rattle.refusal.specs.declared.Written.TheVariants.{Refused}
@@ -103,7 +103,7 @@ forbidden_some (x ∷ xs) = go (allowed x) refl (forbidden_some xs)
 module _ (id : List ℕ) (f : ℕ) (q : f ≡ first_forbidden id) where
   pub refused_byte : f < length id → Refused 3 f ≡ id_refusal id
   refused_byte h =
-      let e : all_allowed id ≡ false = not_true (all_allowed id) (sym (forbidden_some id) ∙ lt-ltb (first_forbidden id) (length id) (omega (arith, q))) in
+      let e : all_allowed id ≡ false = not-true (all_allowed id) (sym (forbidden_some id) ∙ lt-ltb (first_forbidden id) (length id) (omega (arith, q))) in
       rw (e, q)
 
   pub refused_header : length id ≤ f → Refused 9 0 ≡ id_refusal id

@@ -1,4 +1,7 @@
 // The two messages that the library writes: the answer to a request, and the sender's control message.
+
+#![tactic(auto)]
+
 mod answer_message;
 mod control_message;
 mod pieces;
@@ -10,7 +13,7 @@ pub use answer_message::{is_control_id, write_answer};
 pub use control_message::{is_type, write_control};
 
 // The sender's control messages.
-#[derive(Drop)]
+#[derive(Clone, Copy)]
 pub enum Control {
     // For -1: the resynchronising exchange.
     Resynchronize,
@@ -19,7 +22,7 @@ pub enum Control {
 }
 
 // The message type of control messages, three capital letters.
-#[derive(Drop)]
+#[derive(Clone, Copy)]
 pub struct MessageType {
     pub first: u8,
     pub second: u8,
@@ -27,7 +30,7 @@ pub struct MessageType {
 }
 
 // A message type made of letters, or a refusal (1).
-#[derive(Drop)]
+#[derive(Clone, Copy)]
 pub enum TypeMade {
     Unknown,
     Known(MessageType),

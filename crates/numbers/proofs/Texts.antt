@@ -8,7 +8,7 @@ use native.Mathlib.Omega.{arith}
 use lib.ListN.{length, take, drop, get_or}
 use lib.Seq.{take-suc, length-take-le}
 use lib.Dec.{ltb, eqb}
-use borrow.Author.Tests.{eq-eqb, ne_eqb, eqb-true, eqb-false, lt-ltb, le-ltb, ltb-true, ltb-false, not_true, not-false}
+use borrow.Author.Tests.{eq-eqb, ne_eqb, eqb-true, eqb-false, lt-ltb, le-ltb, ltb-true, ltb-false, not-true, not-false}
 use Rattle.lists.specs.Bytes.{same}
 use Rattle.lists.proofs.Parts.{drop_more, drop_none}
 use Rattle.lists.proofs.Same.{same_lengths}
@@ -90,7 +90,7 @@ module _ (s : List ℕ) (n : ℕ) where
           let l : i ≤ 1 = ltb-false 1 i (rw (lt-ltb 9 n (omega arith)) at e) in
           absurd (omega (arith, l, q, length_more n m, length_least (n / 10)))
       go (no m) q =
-          let d : eqb i 1 ≡ false = not_true (eqb i 1) (rw (le-ltb 9 n (omega arith)) at f) in
+          let d : eqb i 1 ≡ false = not-true (eqb i 1) (rw (le-ltb 9 n (omega arith)) at f) in
           eqb-false i 1 d (q ∙ length_one n (omega arith))
 
   -- one byte and one digit

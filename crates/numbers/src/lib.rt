@@ -1,4 +1,7 @@
 // Numbers in fields: -1 or plain digits, read and written.
+
+#![tactic(auto)]
+
 mod compare;
 mod read;
 mod text;
@@ -8,7 +11,7 @@ pub use read::read_number;
 pub use text::text_length;
 
 // A number that a message may carry.
-#[derive(Drop)]
+#[derive(Clone, Copy)]
 pub enum SequenceNumber {
     MinusOne,
     Number(u64),
@@ -23,7 +26,7 @@ impl SequenceNumber {
 }
 
 // What a field that should hold a number holds.
-#[derive(Drop)]
+#[derive(Clone, Copy)]
 pub enum NumberField {
     // It is missing or empty.
     Missing,

@@ -1,5 +1,8 @@
 // The receiver of sequence numbers: what it decides on a block and what is to be stored then, and the answer that it gives once
 // that is reported stored (02, §1).
+
+#![tactic(auto)]
+
 mod answering;
 mod deciding;
 mod states;
@@ -13,35 +16,35 @@ use numbers::SequenceNumber;
 pub use states::is_same_expected;
 
 // The stored state: none (document 01: NONE), or the expected sequence number.
-#[derive(Drop)]
+#[derive(Clone, Copy)]
 pub enum Expected {
     Unknown,
     Next(u64),
 }
 
 // The application's verdict on a transaction that is due: AA or AE.
-#[derive(Drop)]
+#[derive(Clone, Copy)]
 pub enum Application {
     Accepts,
     Errs,
 }
 
 // A transaction that is to be persisted.
-#[derive(Drop)]
+#[derive(Clone, Copy)]
 pub enum Transaction {
     NoTransaction,
     Numbered(u64),
 }
 
 // What must be persisted, as one act, before the decision is reported stored.
-#[derive(Drop)]
+#[derive(Clone, Copy)]
 pub struct Persisted {
     pub transaction: Transaction,
     pub expected: Expected,
 }
 
 // A row of the table: MSA-1, MSA-4, and what is stored then.
-#[derive(Drop)]
+#[derive(Clone, Copy)]
 pub struct Row {
     pub code: Code,
     pub number: SequenceNumber,
@@ -49,21 +52,21 @@ pub struct Row {
 }
 
 // A decision that is not yet reported stored or failed: whom its answer is to, and its row.
-#[derive(Drop)]
+#[derive(Clone, Copy)]
 pub enum Open {
     NoDecision,
     Decision(ControlId, Row),
 }
 
 // What is stored, and what a crash loses.
-#[derive(Drop)]
+#[derive(Clone, Copy)]
 pub struct Receiver {
     pub expected: Expected,
     pub decision: Open,
 }
 
 // What a decision answers.
-#[derive(Drop)]
+#[derive(Clone, Copy)]
 pub struct Decided {
     // The number that refuses the act: 11; otherwise 0.
     pub refusal: u64,
@@ -75,7 +78,7 @@ pub struct Decided {
 }
 
 // What a report, or an N reply, answers.
-#[derive(Drop)]
+#[derive(Clone, Copy)]
 pub struct Answered {
     // The number that refuses the act: 1, 2 or 11; otherwise 0.
     pub refusal: u64,

@@ -1,4 +1,7 @@
 // Document 01, 'Numbers that say no': what is refused, and by which number; what a reader and a writer say.
+
+#![tactic(auto)]
+
 ghost use Rattle.std.specs.Prelude.{◌≡◌};
 ghost use Rattle.refusal.specs.Refusal.{number_of, offset_of, type_of, length_of, written_number, written_offset, written_length};
 
@@ -26,7 +29,7 @@ pub const NUMBER: u64 = 10;
 pub const STATE: u64 = 11;
 
 // What a reader says of a block that has ended.
-#[derive(Drop)]
+#[derive(Clone, Copy)]
 pub enum Verdict {
     // Its type, D or N, and the length of its data.
     Accepted(u8, usize),
@@ -35,7 +38,7 @@ pub enum Verdict {
 }
 
 // What a writer says.
-#[derive(Drop)]
+#[derive(Clone, Copy)]
 pub enum Written {
     // The length of what was written.
     Done(usize),

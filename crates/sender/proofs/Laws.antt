@@ -6,7 +6,7 @@ use mathlib.Core.Logic.{◌⊎◌, ⊎_elim}
 use Prim.Native.Nat.{ℕ, ◌-◌, ◌≤◌}
 use native.Mathlib.Omega.{arith}
 use lib.Dec.{leb, ltb, eqb}
-use borrow.Author.Tests.{leb-true, eqb-true, not_true, not-false}
+use borrow.Author.Tests.{leb-true, eqb-true, not-true, not-false}
 use denote.Enum.Declared.{tag_of}
 use Rattle.lists.proofs.Calls.{met, unmet}
 use Rattle.lists.proofs.Tests.{and_left, and_right}
@@ -38,7 +38,7 @@ pub passed : {r t : Bool} → r ≡ t → not r ≡ false → t ≡ true
 passed {r} e h = sym e ∙ not-false r h
 
 pub failed : {r t : Bool} → r ≡ t → not r ≡ true → t ≡ false
-failed {r} e h = sym e ∙ not_true r h
+failed {r} e h = sym e ∙ not-true r h
 
 -- settings that are in their ranges: so are the resends
 resends_valid : (g : SenderSettings) → valid_settings g ≡ true → valid_resends g.resends ≡ true

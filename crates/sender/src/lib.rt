@@ -1,4 +1,7 @@
 // The sender of sequence numbers: what it has persisted, what waits on the circuit, and its acts.
+
+#![tactic(auto)]
+
 mod answers;
 mod blocks;
 mod circuit;
@@ -16,7 +19,7 @@ pub use state::new_sender;
 pub use submission::submit_transaction;
 
 // What must be persisted, as one act, before the next block goes out. A crash keeps it.
-#[derive(Drop)]
+#[derive(Clone, Copy)]
 pub struct Persisted {
     pub first: u64,
     // The last number known to be delivered (document 01: the mark).
@@ -27,7 +30,7 @@ pub struct Persisted {
 }
 
 // What waits for its answer on the circuit. A crash loses it: then no circuit is open.
-#[derive(Drop)]
+#[derive(Clone, Copy)]
 pub enum Waiting {
     Closed,
     Idle,
@@ -37,7 +40,7 @@ pub enum Waiting {
     Sending,
 }
 
-#[derive(Drop)]
+#[derive(Clone, Copy)]
 pub struct Sender {
     pub persisted: Persisted,
     pub waiting: Waiting,
@@ -47,14 +50,14 @@ pub struct Sender {
 
 // The settings of a sender. The first number counts where a sender is made, which stores it; how often a message is sent again
 // counts in each act, and may change.
-#[derive(Drop)]
+#[derive(Clone, Copy)]
 pub struct SenderSettings {
     pub first: u64,
     pub resends: u64,
 }
 
 // What making settings of plain numbers gives.
-#[derive(Drop)]
+#[derive(Clone, Copy)]
 pub enum SettingsMade {
     Refused,
     Valid(SenderSettings),
@@ -90,21 +93,21 @@ impl SenderSettings {
 }
 
 // What is made of settings.
-#[derive(Drop)]
+#[derive(Clone, Copy)]
 pub enum SenderMade {
     Refused,
     Made(Sender),
 }
 
 // A message by its number, which is also its control ID.
-#[derive(Drop)]
+#[derive(Clone, Copy)]
 pub enum NumberedMessage {
     Nothing,
     Numbered(SequenceNumber),
 }
 
 // What happened.
-#[derive(Drop)]
+#[derive(Clone, Copy)]
 pub enum Event {
     NoEvent,
     // A transaction is delivered, with its verdict.
@@ -116,7 +119,7 @@ pub enum Event {
 }
 
 // What an act answers.
-#[derive(Drop)]
+#[derive(Clone, Copy)]
 pub struct Acted {
     // 0, or why it was refused.
     pub refusal: u64,

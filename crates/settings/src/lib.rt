@@ -1,4 +1,7 @@
 // The block settings of a link, and the bytes of a block's data: which are allowed, their exclusive-or, decimal digits.
+
+#![tactic(auto)]
+
 mod bytes;
 mod digits;
 
@@ -9,14 +12,14 @@ pub use bytes::{are_allowed, checksum, first_forbidden};
 pub use digits::digit_of;
 
 // The two lower layer protocols (000, C.2 and C.4).
-#[derive(Drop)]
+#[derive(Clone, Copy)]
 pub enum Kind {
     Hybrid,
     Minimal,
 }
 
 // The block settings of a link.
-#[derive(Drop)]
+#[derive(Clone, Copy)]
 pub struct Settings {
     pub kind: Kind,
     pub start_block: u8,
@@ -25,7 +28,7 @@ pub struct Settings {
 }
 
 // What making settings of plain numbers gives.
-#[derive(Drop)]
+#[derive(Clone, Copy)]
 pub enum Made {
     Valid(Settings),
     Refused,

@@ -11,7 +11,7 @@ use Rattle.lists.specs.Outcome.{need, Outcome}
 use Rattle.lists.proofs.Tests.{cond_ind, and_left}
 use Rattle.refusal.specs.Refusal.{STATE}
 use Rattle.station.specs.Station.{is_duplicate, valid_station, dropped, station_acted, appended, good_block_of, bad_block_of, eot_of}
-use Rattle.station.specs.Interrupt.{turn, fresh_turn, station_state, turn_after, open_given, reply_given, turn_then, answered_of, bare_enq_of, asked_when, interrupt_of}
+use Rattle.station.specs.Interrupt.{fresh_turn, station_state, turn_after, open_given, reply_given, turn_then, answered_of, bare_enq_of, asked_when, interrupt_of}
 use Rattle.station.specs.declared.Station.{Station}
 use Rattle.station.specs.declared.Station.TheVariants.{Closed, Open}
 use Rattle.station.specs.declared.Ending.{Ending}

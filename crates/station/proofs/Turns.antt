@@ -74,9 +74,9 @@ unit_fits c bs v f (good n x t) =
     good_cases (λ (p : Past) (w : Reply). turn_fits (station_of p) (turn_after (open_given (expected_after bs) w v.interrupt) v) ≡ true) c bs n x t
     record {
       neither = refl;
-      duplicate = λ other d. ack_fits (expected_after bs) _ _ n v.last v.interrupt;
+      duplicate = λ other d. ack_fits (expected_after bs) (expected_after bs) (length (text_held bs)) n v.last v.interrupt;
       too_long = λ same. refl;
-      accepted = λ same r. ack_fits (expected_after bs) _ _ n v.last v.interrupt;
+      accepted = λ same r. ack_fits (expected_after bs) (expected_after (block x t ∷ bs)) (length (text_held (block x t ∷ bs))) n v.last v.interrupt;
     }
 unit_fits c bs v f bad = refl
 unit_fits c bs v f enquiry = refl

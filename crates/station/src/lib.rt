@@ -1,5 +1,8 @@
 // The X3.28 receiving station (000, C.3): what it is, and what it answers. The line driver frames the units and reports what arrived.
-#[derive(Drop)]
+
+#![tactic(auto)]
+
+#[derive(Clone, Copy)]
 pub enum Station {
     Closed,
     // The expected block number, and the length of the text held in the message buffer.
@@ -7,7 +10,7 @@ pub enum Station {
 }
 
 // What a reply is, its number aside.
-#[derive(Drop)]
+#[derive(Clone, Copy)]
 pub enum ReplyKind {
     NoneYet,
     Ack,
@@ -16,7 +19,7 @@ pub enum ReplyKind {
 }
 
 // How a station stands with RINT: none is asked for, one is, or one was given and no ACK since.
-#[derive(Drop)]
+#[derive(Clone, Copy)]
 pub enum Interrupt {
     Unasked,
     Pending,
@@ -24,40 +27,40 @@ pub enum Interrupt {
 }
 
 // What an open station keeps of its replies: the last one, and RINT. Closed: none, and unasked.
-#[derive(Drop)]
+#[derive(Clone, Copy)]
 pub struct Turn {
     pub last: ReplyKind,
     pub interrupt: Interrupt,
 }
 
-#[derive(Drop)]
+#[derive(Clone, Copy)]
 pub struct StationState {
     pub station: Station,
     pub turn: Turn,
 }
 
 // What a station's words encode.
-#[derive(Drop)]
+#[derive(Clone, Copy)]
 pub enum Decoded {
     Unknown,
     Known(StationState),
 }
 
 // How a good block ended.
-#[derive(Drop)]
+#[derive(Clone, Copy)]
 pub enum Ending {
     Etb,
     Etx,
 }
 
 // What a number from C stands for.
-#[derive(Drop)]
+#[derive(Clone, Copy)]
 pub enum DecodedEnding {
     Unknown,
     Known(Ending),
 }
 
-#[derive(Drop)]
+#[derive(Clone, Copy)]
 pub enum Reply {
     NoReply,
     // With the block's number.
@@ -68,14 +71,14 @@ pub enum Reply {
 }
 
 // Whether a message is complete: these many bytes from the buffer's start.
-#[derive(Drop)]
+#[derive(Clone, Copy)]
 pub enum Message {
     Incomplete,
     Complete(usize),
 }
 
 // What an act answers.
-#[derive(Drop)]
+#[derive(Clone, Copy)]
 pub struct Acted {
     // 0, or 11 for what is no station.
     pub refusal: u64,
@@ -85,7 +88,7 @@ pub struct Acted {
 }
 
 // The same, with what is kept of the replies then.
-#[derive(Drop)]
+#[derive(Clone, Copy)]
 pub struct StationAnswer {
     pub acted: Acted,
     pub turn: Turn,

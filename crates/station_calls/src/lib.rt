@@ -1,4 +1,7 @@
 // What the C functions do, on slices: the words are looked at, and the answer is written into the words.
+
+#![tactic(auto)]
+
 mod acts;
 mod blocks;
 mod interrupts;

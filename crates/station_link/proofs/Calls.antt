@@ -1,5 +1,5 @@
 -- Each call is the act of which the statement speaks, and leaves the words of the state after it.
-use mathlib.Core.Path.{◌≡◌, refl, sym, ap, ◌∙◌, subst}
+use mathlib.Core.Path.{◌≡◌, refl, sym, ap, ◌∙◌}
 use mathlib.Core.List.{List, [], ◌∷◌, ◌++◌}
 use mathlib.Core.Bool.{Bool, true, false, ◌&&◌, true≢false}
 use Prim.Native.Nat.{ℕ, ◌≤◌}
@@ -7,11 +7,11 @@ use native.Mathlib.Omega.{arith}
 use lib.ListN.{length, drop, length-append, length-drop}
 use lib.Seq.{drop-append_seam}
 use lib.Dec.{leb, eqb}
-use borrow.Author.Tests.{le-leb, eq-eqb, eqb-false}
+use borrow.Author.Tests.{le-leb, eqb-false}
 use Rattle.lists.specs.Bytes.{over}
 use Rattle.lists.specs.Outcome.{need, Outcome, outcome, Called, called}
 use Rattle.lists.proofs.Calls.{over-is}
-use Rattle.lists.proofs.Tests.{cond_ind, and_right}
+use Rattle.lists.proofs.Tests.{and_right}
 use Rattle.station.specs.Interrupt.{turn, station_state, station_answer, opened_station_answer, good_block_answer, bad_block_answer, eot_answer, bare_enq_of, asked_when, interrupt_at, interrupt_of}
 use Rattle.station.specs.Station.{valid_station, refused_station}
 use Rattle.station.specs.declared.Station.{Station}
@@ -32,11 +32,10 @@ use Rattle.station.specs.StationCalls.{station_words, station_report, ending_of,
 use Rattle.station.proofs.ReadBack.{words_back as station-words-back}
 use Rattle.station.proofs.Turns.{fresh-only}
 use Rattle.station.proofs.History.{reachable as station-reachable, never_refused}
-use Rattle.master.specs.Master.{refused_master, start_now, start_of}
-use Rattle.master.specs.Reversal.{answer_of, master_state, opened_master_answer, start_answer, reply_answer, timer_answer, close_answer, enquire_answer, may_receive_of, reversal_fits}
+use Rattle.master.specs.Master.{start_of}
+use Rattle.master.specs.Reversal.{answer_of, opened_master_answer, start_answer, reply_answer, timer_answer, close_answer, enquire_answer, may_receive_of, reversal_fits}
 use Rattle.master.specs.declared.Master.{Master}
 use Rattle.master.specs.declared.Master.TheVariants.{Closed, Idle, Waiting}
-use Rattle.master.specs.declared.Response.{Response}
 use Rattle.master.specs.declared.Response.TheVariants.{Ack, Nak, Eot, Damaged, Rint}
 use Rattle.master.specs.declared.Reversal.{Reversal}
 use Rattle.master.specs.declared.MasterState.{MasterState}

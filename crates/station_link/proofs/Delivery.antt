@@ -2,14 +2,13 @@
 use mathlib.Core.Path.{◌≡◌, refl, sym, ap, ◌∙◌, subst}
 use mathlib.Core.List.{List, [], ◌∷◌, ◌++◌}
 use mathlib.Core.Bool.{Bool, true, false, cond}
-use Prim.Native.Nat.{ℕ, zero, suc, ◌+◌, ◌-◌, ◌≤◌, ◌<◌}
+use Prim.Native.Nat.{ℕ, zero, suc, ◌+◌, ◌≤◌, ◌<◌}
 use native.Mathlib.Omega.{arith}
 use lib.ListN.{length, take, drop, length-append, length-take, length-drop, take-append-drop}
 use borrow.Author.Tests.{le-leb, eq-eqb, ne_eqb}
 use Rattle.lists.specs.Bytes.{greatest_word}
 use Rattle.fragments.proofs.Fragments.{ends_before}
 use Rattle.station.specs.declared.Ending.{Ending}
-use Rattle.station.specs.declared.Reply.{Reply}
 use Rattle.station.specs.declared.Reply.TheVariants.{Ack as AckReply, Eot as EotReply}
 use Rattle.station.specs.declared.ReplyKind.TheVariants.{Ack as AckKind}
 use Rattle.station.specs.declared.Interrupt.{Interrupt}
@@ -20,9 +19,8 @@ use Rattle.station.proofs.Turns.{unasked_stays}
 use Rattle.station.proofs.History.{stands, replies}
 use Rattle.master.proofs.Valid.{next_valid}
 use Rattle.master.specs.Master.{outstanding, block_number, valid_outstanding, is_last, ending_of_part, block_out, sends_out, next_out, acknowledged_of, accepted_of, ack_of, start_of, master_reply_of, close_of}
-use Rattle.master.specs.Reversal.{reversal, fresh_reversal, noted, kept, answer_of, reversed_of, master_state, refuses_rint, start_answer, close_answer}
+use Rattle.master.specs.Reversal.{reversal, fresh_reversal, answer_of, reversed_of, master_state, refuses_rint, start_answer, close_answer}
 use Rattle.master.specs.declared.Reversal.{Reversal}
-use Rattle.master.specs.declared.MasterAnswer.{MasterAnswer}
 use Rattle.master.specs.declared.Outstanding.{Outstanding}
 use Rattle.master.specs.declared.Master.{Master}
 use Rattle.master.specs.declared.Master.TheVariants.{Closed, Idle, Waiting}

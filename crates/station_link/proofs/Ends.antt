@@ -1,5 +1,5 @@
 -- How an opening ends, and when the count is exact.
-use mathlib.Core.Path.{◌≡◌, refl, sym, ap, ◌∙◌, subst}
+use mathlib.Core.Path.{◌≡◌, refl, sym, ◌∙◌, subst}
 use mathlib.Core.List.{List, ◌∷◌, ◌++◌}
 use mathlib.Core.Bool.{Bool, true, false, true≢false}
 use Prim.Native.Nat.{ℕ, suc, ◌+◌, ◌≤◌}
@@ -10,12 +10,10 @@ use Rattle.lists.specs.Bytes.{greatest_word}
 use Rattle.lists.proofs.Tests.{cond_ind}
 use Rattle.station.specs.Station.{precedes}
 use Rattle.station.specs.History.{Block, messages_of}
-use Rattle.master.specs.Master.{outstanding, block_number, valid_outstanding, is_last, master_acted, unchanged, refused_master, resent, resend_of, next_out, acknowledged_of, accepted_of, ack_of, waiting_reply, idle_reply, start_now, start_of, master_reply_of, timer_aOf, close_of}
+use Rattle.master.specs.Master.{outstanding, block_number, valid_outstanding, is_last, unchanged, refused_master, resent, resend_of, next_out, acknowledged_of, accepted_of, ack_of, waiting_reply, idle_reply, start_now, start_of, master_reply_of, timer_aOf, close_of}
 use Rattle.master.specs.Reversal.{answer_of, is_acknowledged, reversed_of, enquire_of, may_receive_now, may_receive_of, master_state, count_in}
 use Rattle.master.specs.declared.Reversal.{Reversal}
 use Rattle.master.specs.declared.MasterAnswer.{MasterAnswer}
-use Rattle.master.specs.declared.Transmission.TheVariants.{SendEot}
-use Rattle.master.specs.declared.Progress.TheVariants.{NoProgress}
 use Rattle.master.specs.declared.Outstanding.{Outstanding}
 use Rattle.master.specs.declared.Master.{Master}
 use Rattle.master.specs.declared.Master.TheVariants.{Closed, Idle, Waiting}

@@ -32,18 +32,17 @@ use Rattle.master.specs.declared.Response.{Response}
 use Rattle.master.specs.declared.Response.TheVariants.{Ack, Nak, Eot, Damaged, Rint}
 use Rattle.master.specs.declared.End.{End}
 use Rattle.master.specs.declared.End.TheVariants.{NotEnded, Failed, BySlave, ByDriver, Reversed}
-use Rattle.master.specs.declared.MasterActed.{MasterActed}
 use Rattle.station_link.specs.System.{damaged_reply, Started, Receiving, System, system, beginning, message_out, done_after, end_after, master_did, state_in, responses_of, is_eot, is_rint, refused_reply, is_replaced, receiving_after, opened_receiving}
 use Rattle.station_link.specs.System.{LinkAct, starts, timerRuns, closes, masterEot, enquires, mayReceive, slave_opens, grants, asks_rint, slave_ends, arrives, arrivesUnstored, reply_arrives, loses, losesReply, repeats, repeatsReply, damages, damagesReply, disturbs, disturbsReply}
 use Rattle.station_link.specs.System.{station_reply, stored_after, arrived, arrived_unstored, reply_arrived, may_grant, link_act, link_run}
 use Rattle.station_link.specs.Promise.{accepted, handed, Exact, OneShort, failed, refused, Ends, OneOfTwo, expected_one, one_before, Numbered}
 use Rattle.station_link.proofs.Queues.{Fine, fine, All, none, also, all-appended, all_as, all_lost, all-repeated, all_replaced, all_inserted}
 use Rattle.station_link.proofs.Content.{AllSent, Partly, started_length, last_complete, whole_messages}
-use Rattle.station_link.proofs.Stretches.{Stretch, oldOthers, newOthers, old_ack_lem, new_ack, Between, next as then, bounded}
+use Rattle.station_link.proofs.Stretches.{Stretch, oldRints, oldOthers, newRints, newOthers, old_ack_lem, new_ack, Between, next as then}
 use Rattle.station_link.proofs.Invariant.{from, even_end, out_end, Stand, StandOf, idle, pending, taken}
-use Rattle.station_link.proofs.SlaveSteps.{even_most, Arriving, duplicate, next, arriving, dup_reply}
+use Rattle.station_link.proofs.SlaveSteps.{Arriving, duplicate, next, arriving, dup_reply}
 use Rattle.station_link.proofs.Quiet.{run_quiet}
-use Rattle.station_link.proofs.Safety.{taken_in, given_in, Counts, counts, Lag, all-accepted, all_but_one, lag, no_blocks, ended_same, asks_same, run_stands, act_kept}
+use Rattle.station_link.proofs.Safety.{taken_in, given_in, Counts, counts, Lag, all-accepted, all_but_one, lag, ended_same, asks_same, run_stands, act_kept}
 use Rattle.station_link.proofs.Stored.{stays_closed}
 use Rattle.station_link.proofs.Ends.{is_closed, Told, Idled, ToldAfter, timer_told, close_told, enquire_told, may_told, reply_told, start_told, reply_grows, timer_grows, close_grows, enquire_grows, may_grows, start_grows, Finished, IdleDone, timer_finished, close_finished, enquire_finished, may_finished, reply_finished, start_finished}
 
@@ -567,6 +566,8 @@ module _ (b : List ℕ) where
   ack_head : (n m : ℕ) (hi lo : Stretch) (rs : List Response) → Between m hi lo (Ack n ∷ rs) → OneOfTwo n m
   ack_head n m hi lo rs (then {p = oldOthers} l (old_ack_lem q) i) = one_before q
   ack_head n m hi lo rs (then {p = newOthers} l (new_ack q) i) = expected_one q
+  ack_head n m hi lo rs (then {p = oldRints} l a i) = elim a [ ]
+  ack_head n m hi lo rs (then {p = newRints} l a i) = elim a [ ]
 
   out_or_before : (y : System) → StandOf b y → (n : ℕ) (rs : List Response) (o : Outstanding) → y.backward ≡ Ack n ∷ rs → y.sending.master ≡ Waiting o → OneOfTwo n (block_number o.count)
   out_or_before y s n rs o e f =

@@ -26,16 +26,15 @@ use Rattle.master.specs.declared.Response.{Response}
 use Rattle.master.specs.declared.Response.TheVariants.{Ack, Nak, Eot, Damaged, Rint}
 use Rattle.master.specs.declared.Transmission.{Transmission}
 use Rattle.master.specs.declared.Transmission.TheVariants.{Nothing, SendEot}
-use Rattle.master.specs.declared.Progress.{Progress}
-use Rattle.master.specs.declared.Progress.TheVariants.{NoProgress, Acknowledged, Done}
+use Rattle.master.specs.declared.Progress.TheVariants.{Acknowledged, Done}
 use Rattle.master.specs.declared.End.TheVariants.{NotEnded, Reversed}
 use Rattle.master.specs.declared.Reversal.{Reversal}
 use Rattle.master.specs.declared.MasterActed.{MasterActed}
 use Rattle.master.specs.declared.MasterAnswer.{MasterAnswer}
 use Rattle.master.specs.MasterHistory.{is_rint_kind}
 use Rattle.station_link.specs.System.{Started, message_out, text_of, units_of, resends_told, first_sent, done_after}
-use Rattle.station_link.proofs.Queues.{fine, All, also, only, older, all-appended, all_older, new_behind}
-use Rattle.station_link.proofs.Stretches.{Stretch, oldRints, oldOthers, newRints, newOthers, rank, old_rint, old_ack_lem, old_nak, old_eot, new_rint, new_ack, new_nak, new_eot, Between, next, skip, bounded, sooner, aged, all_aged}
+use Rattle.station_link.proofs.Queues.{fine, all-appended, all_older, new_behind}
+use Rattle.station_link.proofs.Stretches.{Stretch, oldRints, oldOthers, newRints, newOthers, rank, old_rint, old_ack_lem, old_nak, new_rint, new_ack, new_nak, Between, next, skip, bounded, sooner, aged, all_aged}
 use Rattle.station_link.proofs.Numbers.{block_number_next, expected_number_lem, not_itself}
 use Rattle.station_link.proofs.Content.{out_of, AllSent, Partly, Good, complete_good, acknowledged_good, out_good, last_complete, goes_on_lem, begins}
 use Rattle.station_link.proofs.Invariant.{Duplicate, Copy, Even, from, even_end, out_end, Behind, Stand, idle, pending, taken, over_even, over_ahead, forward_kept, backward_kept}
@@ -53,12 +52,19 @@ noted_rint Rint r = true
 pub stretch_tail : (n : ℕ) (hi : Stretch) (rs : List Response) (q : Response) (r : Bool) → Between n hi (from r) (q ∷ rs) → Between n hi (from (noted_rint q r)) rs
 stretch_tail n hi rs (Ack m) r (next {p = oldOthers} l (old_ack_lem e) j) = j
 stretch_tail n hi rs (Ack m) r (next {p = newOthers} l (new_ack e) j) = sooner n hi oldOthers newOthers rs (omega arith) j
+stretch_tail n hi rs (Ack m) r (next {p = oldRints} l a j) = elim a [ ]
+stretch_tail n hi rs (Ack m) r (next {p = newRints} l a j) = elim a [ ]
 stretch_tail n hi rs Nak r (next {p = oldOthers} l old_nak j) = j
 stretch_tail n hi rs Nak r (next {p = newOthers} l new_nak j) = sooner n hi oldOthers newOthers rs (omega arith) j
+stretch_tail n hi rs Nak r (next {p = oldRints} l a j) = elim a [ ]
+stretch_tail n hi rs Nak r (next {p = newRints} l a j) = elim a [ ]
 stretch_tail n hi rs Eot r (next {p = p} l a j) = sooner n hi (from r) p rs l j
 stretch_tail n hi rs Damaged r (skip j) = j
+stretch_tail n hi rs Damaged r (next {p = p} l a j) = elim a [ ]
 stretch_tail n hi rs Rint r (next {p = oldRints} l old_rint j) = j
 stretch_tail n hi rs Rint r (next {p = newRints} l new_rint j) = sooner n hi oldRints newRints rs (omega arith) j
+stretch_tail n hi rs Rint r (next {p = oldOthers} l a j) = elim a [ ]
+stretch_tail n hi rs Rint r (next {p = newOthers} l a j) = elim a [ ]
 
 -- after a RINT a RINT is refused, whatever was sent last
 pub last_refused : (k : ReplyKind) (enq : Bool) → is_rint_kind k ≡ true → refuses_by k enq ≡ true
@@ -320,6 +326,10 @@ module _ (ms : List Started) (d : ℕ) (bs sent : List Block) (us : List Unit) (
   matched o n rs r x (taken p v e l h u (next {p = oldOthers} k (old_ack_lem q) i)) = absurd (not_itself n (block_number o.count) q x)
   matched o n rs r x (taken p v e l h u (next {p = newOthers} k (new_ack q) i)) =
       record { partly = p; valid = v; all = e; counted = l; earlier_done = h; even = u; replies = now_old o.count newOthers rs (omega arith) i }
+  matched o n rs r x (pending p v e l h u (next {p = oldRints} k a i)) = elim a [ ]
+  matched o n rs r x (pending p v e l h u (next {p = newRints} k a i)) = elim a [ ]
+  matched o n rs r x (taken p v e l h u (next {p = oldRints} k a i)) = elim a [ ]
+  matched o n rs r x (taken p v e l h u (next {p = newRints} k a i)) = elim a [ ]
 
   -- a RINT right after another reply is one to the block out
   rint_matched : (o : Outstanding) (rs : List Response) → Stand ms d bs sent us (Rint ∷ rs) false z (Waiting o) → Acknowledgment o rs true
@@ -328,6 +338,10 @@ module _ (ms : List Started) (d : ℕ) (bs sent : List Block) (us : List Unit) (
   rint_matched o rs (taken p v e l h u (next {p = oldRints} k old_rint i)) = absurd (omega (arith, k))
   rint_matched o rs (taken p v e l h u (next {p = newRints} k new_rint i)) =
       record { partly = p; valid = v; all = e; counted = l; earlier_done = h; even = u; replies = now_old o.count newRints rs (omega arith) i }
+  rint_matched o rs (pending p v e l h u (next {p = oldOthers} k a i)) = elim a [ ]
+  rint_matched o rs (pending p v e l h u (next {p = newOthers} k a i)) = elim a [ ]
+  rint_matched o rs (taken p v e l h u (next {p = oldOthers} k a i)) = elim a [ ]
+  rint_matched o rs (taken p v e l h u (next {p = newOthers} k a i)) = elim a [ ]
 
   module _ (o : Outstanding) (rs : List Response) (r : Bool) (k : Acknowledgment o rs r) where
     accepted-length : length bs ≡ o.count + 1

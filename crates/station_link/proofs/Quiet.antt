@@ -1,7 +1,7 @@
 -- As long as the slave has given no RINT, none is on the line back, and the master has taken none.
-use mathlib.Core.Path.{◌≡◌, refl, sym, ◌∙◌, subst}
+use mathlib.Core.Path.{◌≡◌, refl, sym, subst}
 use mathlib.Core.List.{List, [], ◌∷◌, ◌++◌}
-use mathlib.Core.Bool.{Bool, true, false, cond, not, ◌&&◌, ◌||◌, true≢false}
+use mathlib.Core.Bool.{Bool, true, false, cond, ◌||◌, true≢false}
 use Prim.Native.Nat.{ℕ}
 use lib.ListN.{length}
 use lib.Dec.{eqb}
@@ -9,9 +9,9 @@ use Rattle.lists.proofs.Append.{append_none}
 use Rattle.lists.proofs.Tests.{cond_ind}
 use Rattle.station.specs.declared.Reply.{Reply}
 use Rattle.station.specs.declared.Reply.TheVariants.{NoReply, Ack as AckReply, Nak as NakReply, Eot as EotReply, Rint as RintReply}
-use Rattle.station.specs.History.{Unit, past_of}
-use Rattle.master.specs.Master.{valid_outstanding, refused_master, start_of, master_reply_of, timer_aOf, close_of}
-use Rattle.master.specs.Reversal.{noted, kept, answer_of, reversed_of, refuses_rint, enquire_of, may_receive_now, may_receive_of, master_state, start_answer, reply_answer, timer_answer, close_answer, enquire_answer}
+use Rattle.station.specs.History.{Unit}
+use Rattle.master.specs.Master.{valid_outstanding, refused_master}
+use Rattle.master.specs.Reversal.{noted, kept, answer_of, may_receive_now, may_receive_of, master_state, start_answer, timer_answer, close_answer, enquire_answer}
 use Rattle.master.specs.declared.Master.{Master}
 use Rattle.master.specs.declared.Master.TheVariants.{Closed, Idle, Waiting}
 use Rattle.master.specs.declared.Response.{Response}
@@ -21,10 +21,10 @@ use Rattle.master.specs.declared.Reversal.{Reversal}
 use Rattle.master.specs.declared.MasterActed.{MasterActed}
 use Rattle.master.specs.declared.MasterAnswer.{MasterAnswer}
 use Rattle.master.specs.MasterHistory.{is_rint_kind}
-use Rattle.station_link.specs.System.{lost_at, replaced_at, inserted_at, repeated_at, damaged_reply, Started, Receiving, System, system, beginning, master_did, state_in, responses_of, is_rint, refused_reply, receiving_after, opened_receiving}
+use Rattle.station_link.specs.System.{damaged_reply, Started, System, system, beginning, master_did, state_in, responses_of, is_rint, refused_reply}
 use Rattle.station_link.specs.System.{LinkAct, starts, timerRuns, closes, masterEot, enquires, mayReceive, slave_opens, grants, asks_rint, slave_ends, arrives, arrivesUnstored, reply_arrives, loses, losesReply, repeats, repeatsReply, damages, damagesReply, disturbs, disturbsReply}
 use Rattle.station_link.specs.System.{station_reply, arrived, arrived_unstored, reply_arrived, may_grant, link_act, link_run}
-use Rattle.station_link.proofs.Queues.{Fine, fine, All, none, also, all-appended, all_lost, all-repeated, all_replaced, all_inserted}
+use Rattle.station_link.proofs.Queues.{fine, All, none, also, all-appended, all_lost, all-repeated, all_replaced, all_inserted}
 use Rattle.station_link.proofs.Stretches.{NoRint}
 
 abbrev pub NoneTaken : Reversal → Type 0

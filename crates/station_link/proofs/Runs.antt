@@ -16,7 +16,7 @@ use Rattle.master.specs.Reversal.{answer_of, reversed_of, enquire_of, may_receiv
 use Rattle.master.specs.declared.Response.{Response}
 use Rattle.master.specs.declared.End.{End}
 use Rattle.master.specs.declared.End.TheVariants.{Failed, BySlave, ByDriver, Reversed}
-use Rattle.station_link.specs.System.{lost_at, replaced_at, inserted_at, asBad, asEnquiry, asBareEnq, System, beginning, link_act}
+use Rattle.station_link.specs.System.{lost_at, replaced_at, inserted_at, asBad, asEnquiry, System, beginning, link_act}
 use Rattle.station_link.specs.System.{LinkAct, starts, timerRuns, closes, enquires, mayReceive, slave_opens, grants, asks_rint, arrives, arrivesUnstored, reply_arrives, slave_ends, loses, losesReply, damages, damagesReply, disturbs}
 use Rattle.station_link.specs.Promise.{oldest_first, messages_started, accepted, handed, Safe}
 use Rattle.station_link.specs.Needed.{unit_at, newest_no_nak, overtakes, master_reopens, slave_reopens, numbers_restart, turns_into_nak, enqWithoutNak, duplicateRint, rintAfterEnqOnly, damagedNoted, Step, act, breach, step_run, old_ack}

@@ -1,7 +1,7 @@
 -- 02, §3 and §14: the statement, at every moment of every run.
 use mathlib.Core.Path.{◌≡◌, refl, sym, ap, ◌∙◌, subst}
 use mathlib.Core.List.{List, [], ◌∷◌, ◌++◌}
-use mathlib.Core.Bool.{Bool, true, false, cond, not, ◌&&◌, true≢false}
+use mathlib.Core.Bool.{Bool, true, false, cond, not, true≢false}
 use Prim.Native.Nat.{ℕ, ◌+◌, ◌≤◌}
 use native.Mathlib.Omega.{arith}
 use lib.ListN.{length}
@@ -10,21 +10,18 @@ use borrow.Author.Tests.{eqb-true, ne_eqb}
 use Rattle.lists.proofs.Append.{append_none}
 use Rattle.lists.proofs.Tests.{cond_ind, and_right}
 use Rattle.station.specs.Station.{next_number, precedes}
-use Rattle.station.specs.Interrupt.{turn, fresh_turn, turn_after, ack_given, open_given, last_reply}
+use Rattle.station.specs.Interrupt.{fresh_turn, turn_after, ack_given, open_given, last_reply}
 use Rattle.station.specs.declared.Reply.{Reply}
 use Rattle.station.specs.declared.ReplyKind.{ReplyKind}
 use Rattle.station.specs.declared.ReplyKind.TheVariants.{NoneYet, Ack as AckKind, Nak as NakKind, Rint as RintKind}
 use Rattle.station.specs.declared.Interrupt.{Interrupt}
 use Rattle.station.specs.declared.Interrupt.TheVariants.{Unasked, Pending, Given}
-use Rattle.station.specs.declared.Station.{Station}
-use Rattle.station.specs.declared.Station.TheVariants.{Closed as ClosedStation}
 use Rattle.station.specs.declared.Turn.{Turn}
 use Rattle.station.specs.History.{Unit, good, bad, enquiry, eot, bare_enq, asks, Block, expected_after, text_held, messages_of, Past, unit_after, asked, turn_by, turn_of, turn_fits, station_of, past_of}
 use Rattle.station.proofs.Turns.{good_cases, turn-fits, fresh-only}
 use Rattle.station.proofs.History.{stands, replies}
 use Rattle.master.specs.Master.{start_of}
 use Rattle.master.specs.Reversal.{answer_of, count_in}
-use Rattle.master.specs.declared.Reversal.{Reversal}
 use Rattle.master.specs.declared.Master.{Master}
 use Rattle.master.specs.declared.Master.TheVariants.{Closed, Idle, Waiting}
 use Rattle.master.specs.declared.Response.{Response}
@@ -35,7 +32,7 @@ use Rattle.station_link.specs.System.{LinkAct, starts, timerRuns, closes, master
 use Rattle.station_link.specs.System.{station_reply, arrived, arrived_unstored, reply_arrived, may_grant, link_act, link_run}
 use Rattle.station_link.specs.Promise.{oldest_first, started_blocks, messages_started, accepted, handed, FirstOf}
 use Rattle.station_link.proofs.Queues.{fine, All, none, Phases, all-appended, all_lost, all-repeated, all_replaced, all_inserted, new_behind, phases_lost, phases_repeated, phases_replaced, phases_inserted}
-use Rattle.station_link.proofs.Stretches.{oldOthers, end, Other, in_old, NoRint, between_lost, between_repeated, between_damaged, between_disturbed, nak_replaced, nak_inserted}
+use Rattle.station_link.proofs.Stretches.{oldOthers, end, Other, in_old, between_lost, between_repeated, between_damaged, between_disturbed, nak_replaced, nak_inserted}
 use Rattle.station_link.proofs.Content.{first_of, out_of, Good, complete_good, acknowledged_good, out_good}
 use Rattle.station_link.proofs.Invariant.{Duplicate, Copy, from, even_end, out_end, Behind, Level, Stand, StandOf, idle, pending, taken, over_even, over_ahead, rint_given, forward_kept, backward_kept}
 use Rattle.station_link.proofs.MasterSteps.{timer_stands, close_stands, enquire_stands, may_receive_stands, start_stands, reply_stands}

@@ -29,7 +29,7 @@ use Rattle.master.specs.declared.Response.TheVariants.{Ack, Nak, Eot, Rint}
 use Rattle.master.specs.MasterHistory.{is_rint_kind}
 use Rattle.station_link.specs.System.{Started, responses_of, refused_reply}
 use Rattle.station_link.proofs.Queues.{fine, All, also, Phases, only, older, all_as}
-use Rattle.station_link.proofs.Stretches.{Stretch, oldRints, oldOthers, newRints, newOthers, rank, old_rint, old_ack_lem, old_nak, old_eot, new_rint, new_ack, new_nak, new_eot, Between, behind, later}
+use Rattle.station_link.proofs.Stretches.{oldRints, oldOthers, newRints, newOthers, rank, old_rint, old_ack_lem, old_nak, old_eot, new_rint, new_ack, new_nak, new_eot, behind, later}
 use Rattle.station_link.proofs.Numbers.{block_number_next, expected_number_lem, expected_small, not_itself, before_next}
 use Rattle.station_link.proofs.Content.{out_of, Good}
 use Rattle.station_link.proofs.Invariant.{Duplicate, Copy, Even, from, even_end, out_end, Stand, idle, pending, taken, over_even, over_ahead, forward_kept, backward_kept}

@@ -2,14 +2,14 @@
 use mathlib.Core.Path.{◌≡◌, refl, sym, ap, ◌∙◌, subst}
 use mathlib.Core.List.{List, [], ◌∷◌, ◌++◌}
 use mathlib.Core.Bool.{Bool, true, false, cond, not, true≢false}
-use Prim.Native.Nat.{ℕ, ◌+◌, ◌≤◌}
+use Prim.Native.Nat.{ℕ, ◌≤◌}
 use native.Mathlib.Omega.{arith}
 use lib.ListN.{length}
 use lib.Dec.{leb, eqb}
 use borrow.Author.Tests.{eqb-true}
 use Rattle.lists.specs.Outcome.{need}
 use Rattle.lists.proofs.Append.{append_none, append_assoc}
-use Rattle.lists.proofs.Tests.{cond_ind, and_left, and_right}
+use Rattle.lists.proofs.Tests.{cond_ind, and_right}
 use Rattle.station.specs.Station.{precedes, good_block_of, bad_block_of, eot_of}
 use Rattle.station.specs.Interrupt.{reply_given, answered_of, bare_enq_of, interrupt_of}
 use Rattle.station.specs.declared.Station.TheVariants.{Closed as ClosedStation}
@@ -37,8 +37,8 @@ use Rattle.station_link.specs.System.{replaced_at, inserted_at, damaged_reply, S
 use Rattle.station_link.specs.System.{LinkAct, starts, timerRuns, closes, masterEot, enquires, mayReceive, slave_opens, grants, asks_rint, slave_ends, arrives, arrivesUnstored, reply_arrives, loses, losesReply, repeats, repeatsReply, damages, damagesReply, disturbs, disturbsReply}
 use Rattle.station_link.specs.System.{station_reply, stored_after, arrived, arrived_unstored, reply_arrived, may_grant, link_act, link_run}
 use Rattle.station_link.specs.Promise.{oldest_first, messages_started, accepted, handed, FirstOf, Safe}
-use Rattle.station_link.proofs.Queues.{Fine, fine, All, also}
-use Rattle.station_link.proofs.Stretches.{oldRints, oldOthers, newRints, newOthers, old_rint, old_ack_lem, old_nak, old_eot, new_rint, new_ack, Between, next, bounded, behind, later, between_lost, between_repeated, between_damaged, between_disturbed, nak_replaced, nak_inserted}
+use Rattle.station_link.proofs.Queues.{Fine, fine, also}
+use Rattle.station_link.proofs.Stretches.{oldRints, oldOthers, newRints, newOthers, old_rint, old_ack_lem, old_eot, new_rint, new_ack, next, bounded, behind, later, between_lost, between_repeated, between_damaged, between_disturbed, nak_replaced, nak_inserted}
 use Rattle.station_link.proofs.Numbers.{not_itself}
 use Rattle.station_link.proofs.Content.{first_of, oldest_append}
 use Rattle.station_link.proofs.Invariant.{from, even_end, Behind, Stand, StandOf, idle, pending, taken}
@@ -110,11 +110,15 @@ module _ (d : ℕ) (rs : List Response) where
   old_head : (n m : ℕ) (r : Bool) → Behind n r false (Ack m ∷ rs) → precedes m n ≡ true
   old_head n m r (next {p = oldOthers} l (old_ack_lem e) i) = e
   old_head n m r (next {p = newOthers} l (new_ack e) i) = let k = bounded n oldOthers newOthers rs i in absurd (omega (arith, k))
+  old_head n m r (next {p = oldRints} l a i) = elim a [ ]
+  old_head n m r (next {p = newRints} l a i) = elim a [ ]
 
   rint_last : (n : ℕ) (r : Bool) → Behind n r false (Rint ∷ rs) → r ≡ true
   rint_last n true i = refl
   rint_last n false (next {p = oldRints} l old_rint i) = absurd (omega (arith, l))
   rint_last n false (next {p = newRints} l new_rint i) = let k = bounded n oldOthers newRints rs i in absurd (omega (arith, k))
+  rint_last n false (next {p = oldOthers} l a i) = elim a [ ]
+  rint_last n false (next {p = newOthers} l a i) = elim a [ ]
 
   rint_mute : (refuses : Bool) (o : Outstanding) (r : Bool) → (r ≡ true → refuses ≡ true) → Behind (block_number o.count) r false (Rint ∷ rs)
       → Mute d rs true (cond refuses (resend_of o) (accepted_of o))

@@ -1,15 +1,15 @@
 -- The line back: which replies stand on it, the oldest first, and that loss, damage, noise and repetition keep it so.
-use mathlib.Core.Path.{◌≡◌, refl, sym, ap, ◌∙◌, subst}
+use mathlib.Core.Path.{◌≡◌, subst}
 use mathlib.Core.List.{List, [], ◌∷◌, ◌++◌}
-use mathlib.Core.Bool.{Bool, true, false, cond}
-use Prim.Native.Nat.{ℕ, zero, suc, ◌+◌, ◌≤◌}
+use mathlib.Core.Bool.{true}
+use Prim.Native.Nat.{ℕ, zero, suc, ◌≤◌}
 use native.Mathlib.Omega.{arith}
 use Rattle.station.specs.Station.{next_number, precedes}
 use Rattle.station.proofs.Duplicates.{next_preceded}
 use Rattle.master.specs.declared.Response.{Response}
 use Rattle.master.specs.declared.Response.TheVariants.{Ack, Nak, Eot, Damaged, Rint}
 use Rattle.station_link.specs.System.{lost_at, replaced_at, inserted_at, repeated_at}
-use Rattle.station_link.proofs.Queues.{Fine, fine, All, none, also}
+use Rattle.station_link.proofs.Queues.{Fine, All, none, also}
 
 -- Four stretches, one after the other, where n is the number of the block out or the next one: RINTs given while the block before was the newest
 -- accepted, other replies given then, RINTs given since the block out is accepted, other replies since then.
@@ -102,18 +102,32 @@ module _ (n : ℕ) (hi : Stretch) where
   C = Between n hi
 
   nak_at : (lo : Stretch) → Other lo → At n lo Nak
+  nak_at oldRints o = elim o [ ]
   nak_at oldOthers in_old = old_nak
+  nak_at newRints o = elim o [ ]
   nak_at newOthers in_new = new_nak
 
   other_at : (p : Stretch) (r : Response) → At n p r → NoRint r → Other p
   other_at oldRints Rint old_rint q = absurd q
+  other_at oldRints (Ack m) a q = elim a [ ]
+  other_at oldRints Nak a q = elim a [ ]
+  other_at oldRints Eot a q = elim a [ ]
+  other_at oldRints Damaged a q = elim a [ ]
   other_at oldOthers (Ack m) (old_ack_lem e) q = in_old
   other_at oldOthers Nak old_nak q = in_old
   other_at oldOthers Eot old_eot q = in_old
+  other_at oldOthers Damaged a q = elim a [ ]
+  other_at oldOthers Rint a q = elim a [ ]
   other_at newRints Rint new_rint q = absurd q
+  other_at newRints (Ack m) a q = elim a [ ]
+  other_at newRints Nak a q = elim a [ ]
+  other_at newRints Eot a q = elim a [ ]
+  other_at newRints Damaged a q = elim a [ ]
   other_at newOthers (Ack m) (new_ack e) q = in_new
   other_at newOthers Nak new_nak q = in_new
   other_at newOthers Eot new_eot q = in_new
+  other_at newOthers Damaged a q = elim a [ ]
+  other_at newOthers Rint a q = elim a [ ]
 
   pub nak_replaced : (k : ℕ) (lo : Stretch) (rs : List Response) → Other lo → All NoRint rs → C lo rs → C lo (replaced_at k Nak rs)
   unfolding replaced_at
@@ -152,9 +166,15 @@ aged_at : (n : ℕ) (p : Stretch) (r : Response) → 2 ≤ rank p → At n p r �
 aged_at n oldRints r l a = absurd (omega (arith, l))
 aged_at n oldOthers r l a = absurd (omega (arith, l))
 aged_at n newRints Rint l new_rint = old_rint
+aged_at n newRints (Ack m) l a = elim a [ ]
+aged_at n newRints Nak l a = elim a [ ]
+aged_at n newRints Eot l a = elim a [ ]
+aged_at n newRints Damaged l a = elim a [ ]
 aged_at n newOthers (Ack m) l (new_ack e) = old_ack_lem (subst (λ (z : ℕ). precedes m (next_number z) ≡ true) e (next_preceded m))
 aged_at n newOthers Nak l new_nak = old_nak
 aged_at n newOthers Eot l new_eot = old_eot
+aged_at n newOthers Damaged l a = elim a [ ]
+aged_at n newOthers Rint l a = elim a [ ]
 
 aged_rank : (p q : Stretch) → 2 ≤ rank p → rank p ≤ rank q → rank (aged p) ≤ rank (aged q)
 aged_rank oldRints q l m = absurd (omega (arith, l))

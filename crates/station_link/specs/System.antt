@@ -2,7 +2,7 @@
 use Rattle.std.specs.Prelude.{List, [], ◌∷◌, ◌++◌, Bool, true, false, cond, not, ◌&&◌, ◌||◌, ℕ, zero, suc, length, take, drop, eqb}
 use Rattle.station.specs.declared.Reply.{Reply}
 use Rattle.station.specs.declared.Reply.TheVariants.{NoReply, Ack as AckReply, Nak as NakReply, Eot as EotReply, Rint as RintReply}
-use Rattle.station.specs.History.{Unit, good, bad, enquiry, eot, bare_enq, asks, Block, block, Past, past_of, unit_outcome, handed_over, station_run}
+use Rattle.station.specs.History.{Unit, good, bad, enquiry, eot, bare_enq, asks, Block, block, past_of, unit_outcome, handed_over, station_run}
 use Rattle.master.specs.Reversal.{master_state, opened_master_answer, start_answer, reply_answer, timer_answer, close_answer, enquire_answer, may_receive_of}
 use Rattle.master.specs.declared.Reversal.{Reversal}
 use Rattle.master.specs.declared.MasterState.{MasterState}

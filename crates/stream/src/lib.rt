@@ -1,4 +1,7 @@
 // Reading a stream of hybrid or minimal blocks, in parts.
+
+#![tactic(auto)]
+
 mod scan;
 
 ghost use Rattle.std.specs.Prelude.{◌≡◌};
@@ -8,7 +11,7 @@ use refusal::Verdict;
 pub use scan::read;
 
 // Where a reader stands in the stream.
-#[derive(Drop)]
+#[derive(Clone, Copy)]
 pub enum Phase {
     Between,
     Inside,
@@ -17,7 +20,7 @@ pub enum Phase {
 }
 
 // A reader's state between two parts of the input.
-#[derive(Drop)]
+#[derive(Clone, Copy)]
 pub struct Reader {
     pub phase: Phase,
     // Bytes of the current block; a reader counts at most one more than the buffer holds of it.
@@ -29,7 +32,7 @@ pub struct Reader {
 }
 
 // What reading a part gives.
-#[derive(Drop)]
+#[derive(Clone, Copy)]
 pub enum Answer {
     // By 1, 2 or 11.
     Refused(u64),
@@ -39,7 +42,7 @@ pub enum Answer {
     Found(usize, Verdict),
 }
 
-#[derive(Drop)]
+#[derive(Clone, Copy)]
 pub struct Reading {
     pub answer: Answer,
     pub reader: Reader,

@@ -1,1 +1,3 @@
 // Theorems only: each promise allows one outcome (proofs/).
+
+#![tactic(auto)]

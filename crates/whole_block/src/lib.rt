@@ -1,4 +1,7 @@
 // Checking one whole block that lies in memory.
+
+#![tactic(auto)]
+
 ghost use Rattle.std.specs.Prelude.{◌≡◌, ◌<◌, length, get_or};
 ghost use Rattle.stream.specs.Stream.{end_verdict};
 ghost use Rattle.whole_block.specs.Whole.{whole_of, check_of};

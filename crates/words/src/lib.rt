@@ -1,4 +1,7 @@
 // A verdict that a C driver hands on as numbers, and a report as its 64-bit words.
+
+#![tactic(auto)]
+
 ghost use Rattle.std.specs.Prelude.{◌≡◌, []};
 ghost use Rattle.lists.specs.Bytes.{over};
 ghost use Rattle.lists.specs.Outcome.{called};
@@ -7,7 +10,7 @@ ghost use Rattle.words.specs.Words.{short_refusal, report_words, write_finished,
 use refusal::{Verdict, Written};
 
 // What a block's number and type from C stand for.
-#[derive(Drop)]
+#[derive(Clone, Copy)]
 pub enum VerdictMade {
     Unknown,
     Known(Verdict),

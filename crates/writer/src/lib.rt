@@ -1,4 +1,7 @@
 // Writing one block into the caller's buffer, from an offset the caller names (document 01: place).
+
+#![tactic(auto)]
+
 mod content;
 mod hybrid;
 mod minimal;

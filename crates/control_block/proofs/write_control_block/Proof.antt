@@ -1,7 +1,7 @@
 -- `control_block::write_control_block` meets its contract.
 use borrow.Author.Rules.{rules}
 use mathlib.Core.Bool.{◌&&◌}
-use borrow.Author.Tests.{not_true, not-false}
+use borrow.Author.Tests.{not-true, not-false}
 use Rattle.control_block.proofs.Laws.{control_refused, control_space, control_written}
 use Rattle.control_block.proofs.write_control_block.Statement.{statement}
 use Rattle.control_block.proofs.write_control_block.Tie as tie
@@ -32,7 +32,7 @@ returns c =
     control_refused a.settings a.name a.control a.start a.buffer.now (at-is-link.is-link.result && at-is-type.is-type.result)
     at-is-long-enough.is-long-enough.result (rw (at-is-link.is-link.ensures, at-is-type.is-type.ensures))
     at-block-length.block-length.result at-block-length.block-length.ensures at-is-long-enough.is-long-enough.ensures
-    (not_true _ at-if1.if1.true) c.refusal-of.result c.refusal-of.ensures
+    (not-true _ at-if1.if1.true) c.refusal-of.result c.refusal-of.ensures
 
 put-block-requires : tie.Need-put-block-requires
 put-block-requires c κs =

@@ -1,6 +1,6 @@
 -- `whole_block::check_block` meets its contract.
 use mathlib.Core.Path.{sym, ◌∙◌}
-use borrow.Author.Tests.{not_true, not-false}
+use borrow.Author.Tests.{not-true, not-false}
 use borrow.Author.Rules.{rules}
 use Rattle.whole_block.proofs.Checks.{check_setting, check-judged}
 use Rattle.whole_block.proofs.check_block.Statement.{statement}
@@ -11,7 +11,7 @@ is-valid-requires c κs = search rules
 
 returns : tie.Need-returns
 returns c =
-    let a = c.before.before.before.args in check_setting a.settings a.block.now (sym c.before.is-valid.ensures ∙ not_true _ c.if1.true)
+    let a = c.before.before.before.args in check_setting a.settings a.block.now (sym c.before.is-valid.ensures ∙ not-true _ c.if1.true)
 
 judge-whole-requires : tie.Need-judge-whole-requires
 judge-whole-requires c κs = search rules

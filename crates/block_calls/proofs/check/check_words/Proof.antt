@@ -1,7 +1,7 @@
 -- `block_calls::check::check_words` meets its contract.
 use native.Mathlib.Omega.{arith}
 use mathlib.Core.Path.{sym, ◌∙◌}
-use borrow.Author.Tests.{not_true, not-false}
+use borrow.Author.Tests.{not-true, not-false}
 use Rattle.block_calls.proofs.CheckLaws.{check-refused, check_bad, check_few, offset_small, check_as}
 use borrow.Author.Rules.{rules}
 use Rattle.block_calls.proofs.check.check_words.Statement.{statement}
@@ -25,7 +25,7 @@ returns-2 : tie.Need-returns-2
 returns-2 c =
     let at-made = c.before.before.before in
     let a = at-made.before.before.before.before.args in
-    rw at-made.made.given.1 (check_bad _ a.block.now a.verdict.now (sym c.before.is-valid.ensures ∙ not_true _ c.if1.true))
+    rw at-made.made.given.1 (check_bad _ a.block.now a.verdict.now (sym c.before.is-valid.ensures ∙ not-true _ c.if1.true))
 
 returns-3 : tie.Need-returns-3
 returns-3 c =

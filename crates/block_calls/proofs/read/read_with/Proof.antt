@@ -1,6 +1,6 @@
 -- `block_calls::read::read_with` meets its contract.
 use borrow.Author.Rules.{rules}
-use Rattle.block_calls.proofs.ReadLaws.{read_known}
+use Rattle.block_calls.proofs.ReadLaws.{read_known_lem}
 use Rattle.block_calls.proofs.read.read_with.Statement.{statement}
 use Rattle.block_calls.proofs.read.read_with.Tie as tie
 
@@ -50,7 +50,7 @@ returns-2 c =
     let at-read-reader = at-reader.before.before in
     let a = at-read-reader.before.before.before.before.before.before.args in
     rw (← at-read-reader.read-reader.ensures, at-reader.reader.given.1)
-    (read_known a.settings a.state.now a.verdict.now at_read.read.new.1.1.1.0 at_read.read.result _ at-finish.finish.result _ _ at-finish.finish.ensures at_read.read.ensures)
+    (read_known_lem a.settings a.state.now a.verdict.now at_read.read.new.1.1.1.0 at_read.read.result _ at-finish.finish.result _ _ at-finish.finish.ensures at_read.read.ensures)
 
 pub read-with-spec : {M : Type 1} → statement M
 read-with-spec =

@@ -1,6 +1,6 @@
 -- `block_calls::read::read_words` meets its contract.
 use mathlib.Core.Path.{◌∙◌}
-use borrow.Author.Tests.{not_true, not-false}
+use borrow.Author.Tests.{not-true, not-false}
 use borrow.Author.Rules.{rules}
 use Rattle.lists.proofs.Calls.{state_words_lem, report_words_lem}
 use Rattle.block_calls.proofs.ReadLaws.{read_refused, read_few, read_enough}
@@ -30,7 +30,7 @@ returns-2 c =
     let at-made = at-if1.before.before in
     let a = at-made.before.before.before.before.before.before.args in
     rw (c.refuse-short.ensures, c.before.is-valid.ensures, at-made.made.given.1)
-    (read_few _ a.state.now a.part.now a.buffer.now a.verdict.now (not_true _ at-if1.if1.true))
+    (read_few _ a.state.now a.part.now a.buffer.now a.verdict.now (not-true _ at-if1.if1.true))
 
 read-with-requires : tie.Need-read-with-requires
 read-with-requires c κs =

@@ -1,6 +1,6 @@
 -- `block_calls::read::refuse_unknown` meets its contract.
 use mathlib.Core.Path.{sym, ◌∙◌}
-use borrow.Author.Tests.{not_true, not-false}
+use borrow.Author.Tests.{not-true, not-false}
 use borrow.Author.Rules.{rules}
 use Rattle.block_calls.proofs.read.refuse_unknown.Statement.{statement}
 use Rattle.block_calls.proofs.read.refuse_unknown.Tie as tie
@@ -9,7 +9,7 @@ is-valid-requires : tie.Need-is-valid-requires
 is-valid-requires c κs = search rules
 
 returns : tie.Need-returns
-returns c = rw (sym c.before.is-valid.ensures ∙ not_true _ c.if1.true)
+returns c = rw (sym c.before.is-valid.ensures ∙ not-true _ c.if1.true)
 
 buffer-fits-requires : tie.Need-buffer-fits-requires
 buffer-fits-requires c κs = search rules

@@ -3,7 +3,7 @@ use Rattle.master.specs.MasterCalls.{enough_master_words, open_master_call}
 use Rattle.master_calls.proofs.CallLaws.{enough_both, opens}
 use Rattle.lists.proofs.Calls.{unmet}
 use lib.ListN.{length}
-use borrow.Author.Tests.{not_true}
+use borrow.Author.Tests.{not-true}
 use mathlib.Core.Path.{sym, ◌∙◌}
 use borrow.Author.Rules.{rules}
 use Rattle.master_calls.proofs.calls.opened_master_words.Statement.{statement}
@@ -16,7 +16,7 @@ returns : tie.Need-returns
 unfolding open_master_call
 returns c =
     let a = c.before.before.before.before.args in
-    unmet (enough_master_words (length a.state.now) (length a.report.now)) _ _ (sym c.before.enough-words.ensures ∙ not_true _ c.if1.true)
+    unmet (enough_master_words (length a.state.now) (length a.report.now)) _ _ (sym c.before.enough-words.ensures ∙ not-true _ c.if1.true)
 
 opened-answer-requires : tie.Need-opened-answer-requires
 opened-answer-requires c κs = search rules

@@ -5,7 +5,7 @@ use Rattle.messages.proofs.answer_message.write_answer.Tie as tie
 use mathlib.Core.List.{List}
 use mathlib.Core.Path.{sym, ap, ◌∙◌}
 use native.Mathlib.Omega.{arith}
-use borrow.Author.Tests.{not_true, not-false}
+use borrow.Author.Tests.{not-true, not-false}
 use Rattle.lists.specs.Outcome.{outcome}
 use Rattle.refusal.specs.declared.Written.{Written}
 use Rattle.messages.proofs.Shapes.{length_header}
@@ -23,7 +23,7 @@ returns c =
     let at_start = at-text-length.before.before.before in
     let a = at_start.args in
     answer_short a.control-id.now a.code a.number a.start a.buffer.now at-text-length.text-length.result
-    at-text-length.text-length.ensures (sym c.before.is-long-enough.ensures ∙ not_true _ c.if1.true)
+    at-text-length.text-length.ensures (sym c.before.is-long-enough.ensures ∙ not-true _ c.if1.true)
 
 is-control-id-requires : tie.Need-is-control-id-requires
 is-control-id-requires c κs = search rules
@@ -42,7 +42,7 @@ returns-2 c =
     ap (λ (z : Written). outcome z a.buffer.now) c.refuse-control-id.ensures
     ∙ answer_refused a.control-id.now a.code a.number a.start a.buffer.now at-text-length.text-length.result
     at-text-length.text-length.ensures (sym at-is-long-enough.is-long-enough.ensures ∙ not-false _ at-if1.if1.false)
-    (sym at-is-control-id.is-control-id.ensures ∙ not_true _ c.before.if2.true)
+    (sym at-is-control-id.is-control-id.ensures ∙ not-true _ c.before.if2.true)
 
 is-answerable-requires : tie.Need-is-answerable-requires
 is-answerable-requires c κs = search rules
@@ -59,7 +59,7 @@ returns-3 c =
     answer_number a.control-id.now a.code a.number a.start a.buffer.now at-text-length.text-length.result
     at-text-length.text-length.ensures (sym at-is-long-enough.is-long-enough.ensures ∙ not-false _ at-if1.if1.false)
     (sym at-is-control-id.is-control-id.ensures ∙ not-false _ at-if2.if2.false)
-    (sym c.before.is-answerable.ensures ∙ not_true _ c.if3.true)
+    (sym c.before.is-answerable.ensures ∙ not-true _ c.if3.true)
 
 put-header-requires : tie.Need-put-header-requires
 put-header-requires c κs =

@@ -3,7 +3,7 @@ use borrow.Author.Rules.{rules}
 use Rattle.messages.proofs.control_message.write_control.Statement.{statement}
 use Rattle.messages.proofs.control_message.write_control.Tie as tie
 use mathlib.Core.Path.{sym, ◌∙◌}
-use borrow.Author.Tests.{not_true, not-false, leb-true}
+use borrow.Author.Tests.{not-true, not-false, leb-true}
 use Rattle.messages.proofs.Shapes.{length_resynchronize, length_query}
 use Rattle.messages.proofs.Returns.{control_setting, control_short, control_done}
 
@@ -14,7 +14,7 @@ returns : tie.Need-returns
 returns c =
     let at_start = c.before.before.before in
     let a = at_start.args in
-    control_setting a.name a.control a.start a.buffer.now (sym c.before.is-type.ensures ∙ not_true _ c.if1.true)
+    control_setting a.name a.control a.start a.buffer.now (sym c.before.is-type.ensures ∙ not-true _ c.if1.true)
 
 enum_told : tie.Need-enum-told
 enum_told c = search rules
@@ -30,7 +30,7 @@ returns-2 c =
     let a = at_start.args in
     rw c.before.before.enum_told.given.1
     (control_short a.name _ a.start a.buffer.now (sym at-is-type.is-type.ensures ∙ not-false _ at-if1.if1.false) 33
-    (length_resynchronize a.name) (sym c.before.is-long-enough.ensures ∙ not_true _ c.if2.true))
+    (length_resynchronize a.name) (sym c.before.is-long-enough.ensures ∙ not-true _ c.if2.true))
 
 put-resynchronize-requires : tie.Need-put-resynchronize-requires
 put-resynchronize-requires c κs = leb-true _ _ (sym c.before.before.is-long-enough.ensures ∙ not-false _ c.before.if2.false)
@@ -49,7 +49,7 @@ returns-3 c =
     let a = at_start.args in
     rw c.before.before.enum-told2.given.1
     (control_short a.name _ a.start a.buffer.now (sym at-is-type.is-type.ensures ∙ not-false _ at-if1.if1.false) 31
-    (length_query a.name) (sym c.before.is-long-enough2.ensures ∙ not_true _ c.if3.true))
+    (length_query a.name) (sym c.before.is-long-enough2.ensures ∙ not-true _ c.if3.true))
 
 put-query-requires : tie.Need-put-query-requires
 put-query-requires c κs = leb-true _ _ (sym c.before.before.is-long-enough2.ensures ∙ not-false _ c.before.if3.false)

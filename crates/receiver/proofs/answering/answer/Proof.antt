@@ -3,7 +3,7 @@ use borrow.Author.Rules.{rules}
 use Rattle.receiver.proofs.answering.answer.Statement.{statement}
 use Rattle.receiver.proofs.answering.answer.Tie as tie
 use mathlib.Core.Path.{sym, ◌∙◌}
-use borrow.Author.Tests.{not_true, not-false}
+use borrow.Author.Tests.{not-true, not-false}
 use Rattle.receiver.proofs.Laws.{answer_setting, answer_short, answer_none, answer_reported}
 use Rattle.receiver.proofs.Replying.{linked}
 
@@ -17,7 +17,7 @@ returns : tie.Need-returns
 returns c =
     let a = c.before.before.before.before.args in
     rw c.answer-as.ensures
-    (answer_setting a.settings a.receiver a.start a.buffer.now a.stored (sym c.before.before.is-link.ensures ∙ not_true _ c.before.if1.true))
+    (answer_setting a.settings a.receiver a.start a.buffer.now a.stored (sym c.before.before.is-link.ensures ∙ not-true _ c.before.if1.true))
 
 fits-reply-requires : tie.Need-fits-reply-requires
 fits-reply-requires c κs = search rules
@@ -30,7 +30,7 @@ returns-2 c =
     let a = c.before.before.before.before.before.before.args in
     rw c.answer-as2.ensures
     (answer_short a.settings a.receiver a.start a.buffer.now a.stored (sym c.before.before.before.before.is-link.ensures ∙ not-false _ c.before.before.before.if1.false)
-    (sym c.before.before.fits-reply.ensures ∙ not_true _ c.before.if2.true))
+    (sym c.before.before.fits-reply.ensures ∙ not-true _ c.before.if2.true))
 
 is-receiver-requires : tie.Need-is-receiver-requires
 is-receiver-requires c κs = search rules
@@ -44,7 +44,7 @@ returns-3 c =
     rw c.answer-as3.ensures
     (answer_none a.settings a.receiver a.start a.buffer.now a.stored (sym c.before.before.before.before.before.before.is-link.ensures ∙ not-false _ c.before.before.before.before.before.if1.false)
     (sym c.before.before.before.before.fits-reply.ensures ∙ not-false _ c.before.before.before.if2.false)
-    (sym c.before.before.is-receiver.ensures ∙ not_true _ c.before.if3.true))
+    (sym c.before.before.is-receiver.ensures ∙ not-true _ c.before.if3.true))
 
 report-on-requires : tie.Need-report-on-requires
 report-on-requires c κs =

@@ -4,7 +4,7 @@ use Rattle.receiver.proofs.answering.nak.Statement.{statement}
 use Rattle.receiver.proofs.answering.nak.Tie as tie
 use mathlib.Core.Path.{◌≡◌, sym, ◌∙◌}
 use mathlib.Core.Bool.{true, ◌&&◌}
-use borrow.Author.Tests.{not_true, not-false}
+use borrow.Author.Tests.{not-true, not-false}
 use Rattle.lists.proofs.Tests.{and_left}
 use Rattle.settings.specs.Settings.{valid_link}
 use Rattle.receiver.specs.Receiver.{is_block_number}
@@ -25,7 +25,7 @@ returns c =
     let a = c.before.before.before.before.before.args in
     rw c.answer-as.ensures
     (nak_setting a.settings a.receiver a.start a.buffer.now a.number
-    (rw (← c.before.before.before.is-link.ensures, ← c.before.before.is-block-number.ensures) (not_true _ c.before.if1.true)))
+    (rw (← c.before.before.before.is-link.ensures, ← c.before.before.is-block-number.ensures) (not-true _ c.before.if1.true)))
 
 fits-reply-requires : tie.Need-fits-reply-requires
 fits-reply-requires c κs = search rules
@@ -39,7 +39,7 @@ returns-2 c =
     rw c.answer-as2.ensures
     (nak_short a.settings a.receiver a.start a.buffer.now a.number
     (rw (← c.before.before.before.before.before.is-link.ensures, ← c.before.before.before.before.is-block-number.ensures) (not-false _ c.before.before.before.if1.false))
-    (sym c.before.before.fits-reply.ensures ∙ not_true _ c.before.if2.true))
+    (sym c.before.before.fits-reply.ensures ∙ not-true _ c.before.if2.true))
 
 is-receiver-requires : tie.Need-is-receiver-requires
 is-receiver-requires c κs = search rules
@@ -57,7 +57,7 @@ returns-3 c =
     (nak_none a.settings a.receiver a.start a.buffer.now a.number
     (rw (← c.before.before.before.before.before.before.before.before.is-link.ensures, ← c.before.before.before.before.before.before.before.is-block-number.ensures) (not-false _ c.before.before.before.before.before.before.if1.false))
     (sym c.before.before.before.before.before.fits-reply.ensures ∙ not-false _ c.before.before.before.before.if2.false)
-    (rw (← c.before.before.before.is-receiver.ensures, ← c.before.before.is-closed.ensures) (not_true _ c.before.if3.true)))
+    (rw (← c.before.before.before.is-receiver.ensures, ← c.before.before.is-closed.ensures) (not-true _ c.before.if3.true)))
 
 write-nak-reply-requires : tie.Need-write-nak-reply-requires
 write-nak-reply-requires c κs =

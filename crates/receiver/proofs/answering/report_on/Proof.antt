@@ -2,7 +2,7 @@
 use borrow.Author.Rules.{rules}
 use Rattle.receiver.proofs.answering.report_on.Statement.{statement}
 use Rattle.receiver.proofs.answering.report_on.Tie as tie
-use borrow.Author.Tests.{not_true, not-false}
+use borrow.Author.Tests.{not-true, not-false}
 use Rattle.receiver.proofs.Rows.{opened, open_answerable}
 use Rattle.receiver.proofs.Replying.{replied_as}
 
@@ -25,7 +25,7 @@ answer-as-requires-2 : tie.Need-answer-as-requires-2
 answer-as-requires-2 c κs = search rules
 
 returns-2 : tie.Need-returns-2
-returns-2 c = rw (c.answer-as2.ensures, c.before.close.ensures, c.before.before.before.before.decision.given.1, not_true c.before.before.before.before.before.before.before.args.stored c.before.before.if1.true)
+returns-2 c = rw (c.answer-as2.ensures, c.before.close.ensures, c.before.before.before.before.decision.given.1, not-true c.before.before.before.before.before.before.before.args.stored c.before.before.if1.true)
 
 write-carried-requires : tie.Need-write-carried-requires
 write-carried-requires c κs =

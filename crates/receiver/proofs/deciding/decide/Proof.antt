@@ -3,7 +3,7 @@ use borrow.Author.Rules.{rules}
 use Rattle.receiver.proofs.deciding.decide.Statement.{statement}
 use Rattle.receiver.proofs.deciding.decide.Tie as tie
 use mathlib.Core.Path.{sym, ◌∙◌}
-use borrow.Author.Tests.{not_true, not-false, eq-eqb, ne_eqb}
+use borrow.Author.Tests.{not-true, not-false, eq-eqb, ne_eqb}
 use Rattle.receiver.proofs.Laws.{decide_none, decide_nak, decide_busy, decide_data_lem}
 
 is-receiver-requires : tie.Need-is-receiver-requires
@@ -16,7 +16,7 @@ returns : tie.Need-returns
 returns c =
     let a = c.before.before.before.before.args in
     c.leave-undecided.ensures
-    ∙ decide_none a.application a.receiver a.content.now a.block_type (sym c.before.before.is-receiver.ensures ∙ not_true _ c.before.if1.true)
+    ∙ decide_none a.application a.receiver a.content.now a.block_type (sym c.before.before.is-receiver.ensures ∙ not-true _ c.before.if1.true)
 
 is-closed-requires : tie.Need-is-closed-requires
 is-closed-requires c κs = search rules
@@ -29,7 +29,7 @@ returns-2 c =
     let a = c.before.before.before.before.before.before.args in
     c.leave-undecided2.ensures
     ∙ decide_busy a.application a.receiver a.content.now a.block_type (sym c.before.before.before.before.is-receiver.ensures ∙ not-false _ c.before.before.before.if1.false)
-    (sym c.before.before.is-closed.ensures ∙ not_true _ c.before.if2.true)
+    (sym c.before.before.is-closed.ensures ∙ not-true _ c.before.if2.true)
 
 leave-undecided-requires-3 : tie.Need-leave-undecided-requires-3
 leave-undecided-requires-3 c κs = search rules

@@ -3,9 +3,9 @@ use borrow.Author.Rules.{rules}
 use Rattle.receiver.proofs.deciding.decide_data.Statement.{statement}
 use Rattle.receiver.proofs.deciding.decide_data.Tie as tie
 use mathlib.Core.Path.{sym, ap, ◌∙◌}
-use borrow.Author.Tests.{not_true, not-false}
+use borrow.Author.Tests.{not-true, not-false}
 use Rattle.settings.specs.DataBytes.{all_allowed}
-use Rattle.receiver.proofs.Laws.{field_fits, header_forbidden, header_opens}
+use Rattle.receiver.proofs.Laws.{field_fits_lem, header_forbidden, header_opens}
 
 read-header-requires : tie.Need-read-header-requires
 read-header-requires c κs = search rules
@@ -38,7 +38,7 @@ returns-2 c =
     c.leave-undecided2.ensures
     ∙ rw (← c.before.before.before.before.before.before.before.read-header.ensures, known.1)
     (header_forbidden a.application a.receiver a.content.now known.0.0 known.0.1.0
-    (ap all_allowed (sym c.before.before.before.field-content.ensures.0) ∙ sym c.before.before.are-allowed.ensures ∙ not_true _ c.before.if1.true))
+    (ap all_allowed (sym c.before.before.before.field-content.ensures.0) ∙ sym c.before.before.are-allowed.ensures ∙ not-true _ c.before.if1.true))
 
 field-content-requires-2 : tie.Need-field-content-requires-2
 field-content-requires-2 c κs = search rules
@@ -50,7 +50,7 @@ pack-requires : tie.Need-pack-requires
 pack-requires c κs = search rules
 
 table-row-requires : tie.Need-table-row-requires
-table-row-requires c κs = rw c.before.read_number.ensures (field_fits _)
+table-row-requires c κs = rw c.before.read_number.ensures (field_fits_lem _)
 
 open-decision-requires : tie.Need-open-decision-requires
 open-decision-requires c κs = search rules

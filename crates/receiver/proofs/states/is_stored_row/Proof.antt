@@ -2,7 +2,7 @@
 use borrow.Author.Rules.{rules}
 use Rattle.receiver.proofs.states.is_stored_row.Statement.{statement}
 use Rattle.receiver.proofs.states.is_stored_row.Tie as tie
-use borrow.Author.Tests.{not_true, not-false}
+use borrow.Author.Tests.{not-true, not-false}
 use mathlib.Core.Path.{sym, ◌∙◌}
 use Rattle.lists.proofs.Tests.{and_right}
 use Rattle.receiver.proofs.Rows.{due_most}
@@ -18,7 +18,7 @@ returns : tie.Need-returns
 returns c =
     let code = c.before.before.is-code-of-stored in
     let due = c.before.is-due in
-    rw (← code.ensures, ← due.ensures, not_true (code.result && due.result) c.if1.true)
+    rw (← code.ensures, ← due.ensures, not-true (code.result && due.result) c.if1.true)
 
 is-same-number-requires : tie.Need-is-same-number-requires
 is-same-number-requires c κs = search rules

@@ -3,7 +3,7 @@ use borrow.Author.Rules.{rules}
 use Rattle.receiver_calls.proofs.acts.answer_words.Statement.{statement}
 use Rattle.receiver_calls.proofs.acts.answer_words.Tie as tie
 use mathlib.Core.Path.{refl, sym, ◌∙◌}
-use borrow.Author.Tests.{not_true, not-false}
+use borrow.Author.Tests.{not-true, not-false}
 use Rattle.receiver_calls.proofs.Laws.{enough_state, answer_as_lem, answer_setting, answer_short, answer_read_lem, answer_done}
 
 enum-known-made : tie.Need-enum-known-made
@@ -33,7 +33,7 @@ is-link-requires c κs = search rules
 returns-3 : tie.Need-returns-3
 returns-3 c =
     let a = c.before.before.before.before.before.before.before.before.before.before.before.before.args in
-    answer_setting a.state.now a.buffer.now a.start a.report.now c.before.before.before.before.before.before.before.made.given.0.0 c.before.before.before.is-stored.given.0.0 (sym c.before.is-link.ensures ∙ not_true _ c.if1.true)
+    answer_setting a.state.now a.buffer.now a.start a.report.now c.before.before.before.before.before.before.before.made.given.0.0 c.before.before.before.is-stored.given.0.0 (sym c.before.is-link.ensures ∙ not-true _ c.if1.true)
     ∙ answer_as_lem a.state.now a.buffer.now a.start a.report.now a.made a.stored c.before.before.before.before.before.before.before.made.given.1 (sym c.before.before.before.before.before.outcome-from.ensures ∙ c.before.before.before.is-stored.given.1)
 
 is-enough-requires : tie.Need-is-enough-requires
@@ -42,7 +42,7 @@ is-enough-requires c κs = search rules
 returns-4 : tie.Need-returns-4
 returns-4 c =
     let a = c.before.before.before.before.before.before.before.before.before.before.before.before.before.before.args in
-    answer_short a.state.now a.buffer.now a.start a.report.now c.before.before.before.before.before.before.before.before.before.made.given.0.0 c.before.before.before.before.before.is-stored.given.0.0 (sym c.before.before.before.is-link.ensures ∙ not-false _ c.before.before.if1.false) (sym c.before.is-enough.ensures ∙ not_true _ c.if2.true)
+    answer_short a.state.now a.buffer.now a.start a.report.now c.before.before.before.before.before.before.before.before.before.made.given.0.0 c.before.before.before.before.before.is-stored.given.0.0 (sym c.before.before.before.is-link.ensures ∙ not-false _ c.before.before.if1.false) (sym c.before.is-enough.ensures ∙ not-true _ c.if2.true)
     ∙ answer_as_lem a.state.now a.buffer.now a.start a.report.now a.made a.stored c.before.before.before.before.before.before.before.before.before.made.given.1 (sym c.before.before.before.before.before.before.before.outcome-from.ensures ∙ c.before.before.before.before.before.is-stored.given.1)
 
 read-receiver-requires : tie.Need-read-receiver-requires

@@ -3,7 +3,7 @@ use borrow.Author.Rules.{rules}
 use Rattle.receiver_calls.proofs.acts.decide_words.Statement.{statement}
 use Rattle.receiver_calls.proofs.acts.decide_words.Tie as tie
 use mathlib.Core.Path.{sym, ap, ◌∙◌}
-use borrow.Author.Tests.{not_true, not-false}
+use borrow.Author.Tests.{not-true, not-false}
 use Rattle.lists.proofs.Calls.{state_words_lem, report_words_lem}
 use Rattle.receiver_calls.specs.ReceiverCalls.{decided_as}
 use Rattle.receiver_calls.proofs.Laws.{decide_as, decide_type, decide_short, decide_read}
@@ -26,13 +26,13 @@ is-type-requires c κs = search rules
 returns-2 : tie.Need-returns-2
 returns-2 c =
     let a = c.before.before.before.before.before.before.before.before.before.args in
-    decide_type a.block_type a.content.now a.state.now a.report.now c.before.before.before.verdict.given.0.0 (sym c.before.is-type.ensures ∙ not_true _ c.if1.true)
+    decide_type a.block_type a.content.now a.state.now a.report.now c.before.before.before.verdict.given.0.0 (sym c.before.is-type.ensures ∙ not-true _ c.if1.true)
     ∙ decide_as a.block_type a.content.now a.state.now a.report.now a.application (sym c.before.before.before.before.before.application-from.ensures ∙ c.before.before.before.verdict.given.1)
 
 returns-3 : tie.Need-returns-3
 returns-3 c =
     let a = c.before.before.before.before.before.before.before.before.before.before.args in
-    decide_short a.block_type a.content.now a.state.now a.report.now c.before.before.before.before.verdict.given.0.0 (sym c.before.before.is-type.ensures ∙ not-false _ c.before.if1.false) (not_true _ c.if2.true)
+    decide_short a.block_type a.content.now a.state.now a.report.now c.before.before.before.before.verdict.given.0.0 (sym c.before.before.is-type.ensures ∙ not-false _ c.before.if1.false) (not-true _ c.if2.true)
     ∙ decide_as a.block_type a.content.now a.state.now a.report.now a.application (sym c.before.before.before.before.before.before.application-from.ensures ∙ c.before.before.before.before.verdict.given.1)
 
 read-receiver-requires : tie.Need-read-receiver-requires

@@ -2,7 +2,7 @@
 use borrow.Author.Rules.{rules}
 use Rattle.receiver_calls.proofs.acts.finish_decision.Statement.{statement}
 use Rattle.receiver_calls.proofs.acts.finish_decision.Tie as tie
-use borrow.Author.Tests.{eq-eqb, ne_eqb, not_true, not-false}
+use borrow.Author.Tests.{eq-eqb, ne_eqb, not-true, not-false}
 
 returns : tie.Need-returns
 returns c = rw (ne_eqb c.before.before.before.before.args.decided.refusal 0 c.if1.true)
@@ -16,7 +16,7 @@ same_length c = search rules
 returns-2 : tie.Need-returns-2
 returns-2 c =
     let a = c.before.before.before.before.before.before.before.before.before.before.args in
-    rw (c.before.before.before.before.write-decision.ensures, eq-eqb a.decided.refusal 0 c.before.before.before.before.before.before.if1.false, not_true a.decided.opened c.if2.true)
+    rw (c.before.before.before.before.write-decision.ensures, eq-eqb a.decided.refusal 0 c.before.before.before.before.before.before.if1.false, not-true a.decided.opened c.if2.true)
 
 write-receiver-requires : tie.Need-write-receiver-requires
 write-receiver-requires c κs = search rules

@@ -3,7 +3,7 @@ use borrow.Author.Rules.{rules}
 use Rattle.receiver_calls.proofs.acts.nak_words.Statement.{statement}
 use Rattle.receiver_calls.proofs.acts.nak_words.Tie as tie
 use mathlib.Core.Path.{sym, ◌∙◌}
-use borrow.Author.Tests.{not_true, not-false}
+use borrow.Author.Tests.{not-true, not-false}
 use Rattle.receiver_calls.proofs.Laws.{enough_state, nak_as_lem, nak_setting, nak_short, nak_read, nak_done}
 
 enum-known-made : tie.Need-enum-known-made
@@ -24,7 +24,7 @@ is-block-number-requires c κs = search rules
 returns-2 : tie.Need-returns-2
 returns-2 c =
     let a = c.before.before.before.before.before.before.before.before.before.args in
-    nak_setting a.state.now a.buffer.now a.start a.report.now a.number c.before.before.before.before.made.given.0.0 (rw (← c.before.before.is-link.ensures, ← c.before.is-block-number.ensures) (not_true _ c.if1.true))
+    nak_setting a.state.now a.buffer.now a.start a.report.now a.number c.before.before.before.before.made.given.0.0 (rw (← c.before.before.is-link.ensures, ← c.before.is-block-number.ensures) (not-true _ c.if1.true))
     ∙ nak_as_lem a.state.now a.buffer.now a.start a.report.now a.number a.made c.before.before.before.before.made.given.1
 
 is-enough-requires : tie.Need-is-enough-requires
@@ -33,7 +33,7 @@ is-enough-requires c κs = search rules
 returns-3 : tie.Need-returns-3
 returns-3 c =
     let a = c.before.before.before.before.before.before.before.before.before.before.before.args in
-    nak_short a.state.now a.buffer.now a.start a.report.now a.number c.before.before.before.before.before.before.made.given.0.0 (rw (← c.before.before.before.before.is-link.ensures, ← c.before.before.before.is-block-number.ensures) (not-false _ c.before.before.if1.false)) (sym c.before.is-enough.ensures ∙ not_true _ c.if2.true)
+    nak_short a.state.now a.buffer.now a.start a.report.now a.number c.before.before.before.before.before.before.made.given.0.0 (rw (← c.before.before.before.before.is-link.ensures, ← c.before.before.before.is-block-number.ensures) (not-false _ c.before.before.if1.false)) (sym c.before.is-enough.ensures ∙ not-true _ c.if2.true)
     ∙ nak_as_lem a.state.now a.buffer.now a.start a.report.now a.number a.made c.before.before.before.before.before.before.made.given.1
 
 read-receiver-requires : tie.Need-read-receiver-requires

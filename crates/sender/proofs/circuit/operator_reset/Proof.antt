@@ -1,5 +1,5 @@
 -- `sender::circuit::operator_reset` meets its contract.
-use borrow.Author.Tests.{not_true, not-false}
+use borrow.Author.Tests.{not-true, not-false}
 use mathlib.Core.Path.{◌∙◌}
 use Rattle.lists.proofs.Calls.{met, unmet}
 use Rattle.sender.proofs.Laws.{passed, failed}
@@ -26,7 +26,7 @@ returns-2 c =
     let at-if1 = c.before.before.before.before in
     let at-is-state = at-if1.before in
     let at-args = at-is-state.before in
-    c.refuse.ensures ∙ unmet _ _ _ (not_true at-args.args.sender.persisted.frozen c.before.if2.true) ∙ met _ _ _ (passed at-is-state.is_state.ensures at-if1.if1.false)
+    c.refuse.ensures ∙ unmet _ _ _ (not-true at-args.args.sender.persisted.frozen c.before.if2.true) ∙ met _ _ _ (passed at-is-state.is_state.ensures at-if1.if1.false)
 
 end-circuit-requires : tie.Need-end-circuit-requires
 end-circuit-requires c κs = tt

@@ -1,6 +1,6 @@
 -- `sender::submission::submit_header` meets its contract.
 use borrow.Author.Rules.{rules}
-use borrow.Author.Tests.{not_true, not-false}
+use borrow.Author.Tests.{not-true, not-false}
 use mathlib.Core.Bool.{◌&&◌}
 use mathlib.Core.Path.{sym, ◌∙◌}
 use Rattle.lists.proofs.Calls.{met, unmet}
@@ -54,7 +54,7 @@ returns-2 c =
     let at-read-header = at-control-id.before.before in
     let other =
     rw (at-is-number.is_number.ensures, at-is-text.is-text.ensures, at-field-content2.field-content2.ensures.0, at-read-number.read_number.ensures, at-field-content.field-content.ensures.0)
-    at (not_true (at-is-number.is_number.result && at-is-text.is-text.result) c.before.if1.true) in
+    at (not-true (at-is-number.is_number.result && at-is-text.is-text.result) c.before.if1.true) in
     c.refuse2.ensures ∙ rw (sym at-read-header.read-header.ensures ∙ at-control-id.control-id.given.1) (unmet _ _ _ other)
 
 take-requires : tie.Need-take-requires

@@ -1,6 +1,6 @@
 -- `sender_calls::acts::find_sender` meets its contract.
 use borrow.Author.Rules.{rules}
-use borrow.Author.Tests.{not_true, not-false}
+use borrow.Author.Tests.{not-true, not-false}
 use lib.Dec.{leb}
 use lib.ListN.{length}
 use mathlib.Core.Bool.{◌&&◌}
@@ -16,7 +16,7 @@ returns c =
     let st = at-args.args.state.now in
     let p = at-args.args.report.now in
     let enough = leb 7 (length st) && leb 8 (length p) in
-    unmet enough _ _ (not_true enough c.if1.true)
+    unmet enough _ _ (not-true enough c.if1.true)
 
 read-sender-requires : tie.Need-read-sender-requires
 read-sender-requires c κs =

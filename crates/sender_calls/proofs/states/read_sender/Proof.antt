@@ -1,6 +1,6 @@
 -- `sender_calls::states::read_sender` meets its contract.
 use borrow.Author.Rules.{rules}
-use borrow.Author.Tests.{not_true, not-false}
+use borrow.Author.Tests.{not-true, not-false}
 use lib.Dec.{leb}
 use lib.ListN.{get_or}
 use mathlib.Core.Bool.{◌&&◌}
@@ -24,7 +24,7 @@ returns c =
     let at-args = c.before.before.before.before.before in
     let ws = at-args.args.words.now in
     let known = leb (get_or ws 3 0) 1 && (leb (get_or ws 4 0) 1 && leb (get_or ws 5 0) 4) in
-    unmet known _ _ (not_true known c.if1.true)
+    unmet known _ _ (not-true known c.if1.true)
 
 shared-slice-read-t7 : tie.Need-shared-slice-read-t7
 shared-slice-read-t7 c = search rules

@@ -1,6 +1,6 @@
 -- `station_calls::acts::bad_words` meets its contract.
 use borrow.Author.Rules.{rules}
-use borrow.Author.Tests.{not_true, not-false}
+use borrow.Author.Tests.{not-true, not-false}
 use mathlib.Core.Path.{sym, ap, ◌∙◌}
 use Rattle.station.specs.Interrupt.{answered_of, bad_block_answer}
 use Rattle.station.specs.StationCalls.{bad_block_call}
@@ -16,7 +16,7 @@ returns : tie.Need-returns
 unfolding bad_block_call
 returns c =
     let a = c.before.before.before.before.args in
-    few_words_only bad_block_answer a.state.now a.report.now (sym c.before.enough-words.ensures ∙ not_true _ c.if1.true)
+    few_words_only bad_block_answer a.state.now a.report.now (sym c.before.enough-words.ensures ∙ not-true _ c.if1.true)
 
 read-station-requires : tie.Need-read-station-requires
 read-station-requires c κs =

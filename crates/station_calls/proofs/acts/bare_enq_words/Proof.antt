@@ -1,6 +1,6 @@
 -- `station_calls::acts::bare_enq_words` meets its contract.
 use borrow.Author.Rules.{rules}
-use borrow.Author.Tests.{not_true, not-false}
+use borrow.Author.Tests.{not-true, not-false}
 use mathlib.Core.Path.{sym, ◌∙◌}
 use Rattle.station.specs.Interrupt.{bare_enq_of}
 use Rattle.station.specs.StationCalls.{bare_enq_call}
@@ -16,7 +16,7 @@ returns : tie.Need-returns
 unfolding bare_enq_call
 returns c =
     let a = c.before.before.before.before.args in
-    few_words_only bare_enq_of a.state.now a.report.now (sym c.before.enough-words.ensures ∙ not_true _ c.if1.true)
+    few_words_only bare_enq_of a.state.now a.report.now (sym c.before.enough-words.ensures ∙ not-true _ c.if1.true)
 
 read-station-requires : tie.Need-read-station-requires
 read-station-requires c κs =

@@ -1,6 +1,6 @@
 -- `station_calls::acts::block_words` meets its contract.
 use borrow.Author.Rules.{rules}
-use borrow.Author.Tests.{not_true, not-false}
+use borrow.Author.Tests.{not-true, not-false}
 use mathlib.Core.Path.{sym, ◌∙◌}
 use mathlib.Core.List.{[]}
 use Rattle.lists.specs.Outcome.{Outcome, called}
@@ -39,7 +39,7 @@ returns-2 c =
     let how = ended_as.how.given in
     let act : StationState → Outcome StationAnswer = λ s. good_block_answer s a.number how.0.0 a.text.now a.buffer.now in
     let ended = ended_by a.number a.ending a.text.now a.buffer.now a.state.now a.report.now _ (sym ended_as.before.before.Ending-of.ensures ∙ how.1) in
-    few_words act a.state.now a.buffer.now a.report.now (sym c.before.enough-words.ensures ∙ not_true _ c.if1.true) ∙ ended
+    few_words act a.state.now a.buffer.now a.report.now (sym c.before.enough-words.ensures ∙ not-true _ c.if1.true) ∙ ended
 
 read-station-requires : tie.Need-read-station-requires
 read-station-requires c κs =

@@ -1,6 +1,6 @@
 -- `station_calls::acts::end_words` meets its contract.
 use borrow.Author.Rules.{rules}
-use borrow.Author.Tests.{not_true, not-false}
+use borrow.Author.Tests.{not-true, not-false}
 use mathlib.Core.Path.{sym, ap, ◌∙◌}
 use Rattle.station.specs.Interrupt.{answered_of, eot_answer}
 use Rattle.station.specs.StationCalls.{eot_call}
@@ -16,7 +16,7 @@ returns : tie.Need-returns
 unfolding eot_call
 returns c =
     let a = c.before.before.before.before.args in
-    few_words_only eot_answer a.state.now a.report.now (sym c.before.enough-words.ensures ∙ not_true _ c.if1.true)
+    few_words_only eot_answer a.state.now a.report.now (sym c.before.enough-words.ensures ∙ not-true _ c.if1.true)
 
 read-station-requires : tie.Need-read-station-requires
 read-station-requires c κs =

@@ -1,6 +1,6 @@
 -- `station_calls::acts::interrupt_words` meets its contract.
 use borrow.Author.Rules.{rules}
-use borrow.Author.Tests.{not_true, not-false}
+use borrow.Author.Tests.{not-true, not-false}
 use mathlib.Core.Path.{sym, ◌∙◌}
 use Rattle.station.specs.Interrupt.{interrupt_of}
 use Rattle.station.specs.StationCalls.{interrupt_call}
@@ -16,7 +16,7 @@ returns : tie.Need-returns
 unfolding interrupt_call
 returns c =
     let a = c.before.before.before.before.args in
-    few_words_only interrupt_of a.state.now a.report.now (sym c.before.enough-words.ensures ∙ not_true _ c.if1.true)
+    few_words_only interrupt_of a.state.now a.report.now (sym c.before.enough-words.ensures ∙ not-true _ c.if1.true)
 
 read-station-requires : tie.Need-read-station-requires
 read-station-requires c κs =

@@ -1,6 +1,6 @@
 -- `station_calls::acts::opened_words` meets its contract.
 use borrow.Author.Rules.{rules}
-use borrow.Author.Tests.{not_true, not-false}
+use borrow.Author.Tests.{not-true, not-false}
 use mathlib.Core.Path.{sym, ap, ◌∙◌}
 use mathlib.Core.List.{[]}
 use lib.ListN.{length}
@@ -18,7 +18,7 @@ returns : tie.Need-returns
 unfolding open_station_call
 returns c =
     let a = c.before.before.before.before.args in
-    unmet (enough_words (length a.state.now) (length a.report.now)) _ _ (sym c.before.enough-words.ensures ∙ not_true _ c.if1.true)
+    unmet (enough_words (length a.state.now) (length a.report.now)) _ _ (sym c.before.enough-words.ensures ∙ not-true _ c.if1.true)
 
 opened-requires : tie.Need-opened-requires
 opened-requires c κs = search rules
