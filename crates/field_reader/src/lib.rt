@@ -1,6 +1,5 @@
-// A reader over a message: it holds the message's bytes and its position and gives the next field each time. The borrow
-// checker covers no function over a struct that holds a slice, so those here are few and thin, and are proved by hand. The
-// work is done by field_at, which takes the slice and the position.
+// A reader over a message: it holds the message's bytes and its position and gives the next field each time. The work is done
+// by field_at, which takes the slice and the position.
 
 #![tactic(auto)]
 

@@ -34,11 +34,11 @@ use Rattle.sender.specs.declared.Event.TheVariants.{NoEvent, Delivered}
 use Rattle.sender.specs.contracts.Waiting.{the_type as the-waiting}
 
 -- what a test's result says of what it tested
-pub passed : {r t : Bool} → r ≡ t → not r ≡ false → t ≡ true
-passed {r} e h = sym e ∙ not-false r h
+pub passed : {r t : Bool} → r ≡ t → r ≡ true → t ≡ true
+passed e h = sym e ∙ h
 
-pub failed : {r t : Bool} → r ≡ t → not r ≡ true → t ≡ false
-failed {r} e h = sym e ∙ not-true r h
+pub failed : {r t : Bool} → r ≡ t → r ≡ false → t ≡ false
+failed e h = sym e ∙ h
 
 -- settings that are in their ranges: so are the resends
 resends_valid : (g : SenderSettings) → valid_settings g ≡ true → valid_resends g.resends ≡ true
@@ -95,7 +95,7 @@ bounded s h =
       sends = sends_few p s.waiting s.sends sent;
     }
 
-pub bounded_open : (s : Sender) {r : Bool} → r ≡ on_circuit s → not r ≡ false → Bounded s
+pub bounded_open : (s : Sender) {r : Bool} → r ≡ on_circuit s → r ≡ true → Bounded s
 bounded_open s e h = bounded s (and_left (valid_sender s) (is_open s.waiting) (passed e h))
 
 -- ---- the acts that take settings, by what their tests say
