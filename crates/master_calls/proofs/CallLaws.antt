@@ -6,7 +6,6 @@ use Prim.Native.Nat.{ℕ, ◌+◌, ◌-◌, ◌≤◌}
 use native.Mathlib.Omega.{arith}
 use lib.ListN.{length, drop, get_or, length-append, length-drop}
 use lib.Seq.{length-take-le}
-use borrow.Author.Tests.{not-true, not-false}
 use borrow.Rule.Slice.PartMut.{mid_of, put_mid}
 use Rattle.lists.specs.Bytes.{put, over}
 use Rattle.lists.specs.Outcome.{Called, called}
@@ -30,9 +29,9 @@ use Rattle.master.specs.MasterCalls.{master_words, known_reversal, reversal_in, 
 
 -- an act, by what its test of the words' numbers gave: too few, words that are no state, or what the act answered
 module _ (st p : List ℕ) {enough : Bool} (e : enough ≡ enough_master_words (length st) (length p)) where
-  module _ (h : not enough ≡ false) where
+  module _ (h : enough ≡ true) where
     enough_words_lem : enough_master_words (length st) (length p) ≡ true
-    enough_words_lem = sym e ∙ not-false enough h
+    enough_words_lem = sym e ∙ h
 
     pub enough_state : 10 ≤ length st
     enough_state = state_words_lem 10 10 st p enough_words_lem
@@ -45,10 +44,10 @@ module _ (st p : List ℕ) {enough : Bool} (e : enough ≡ enough_master_words (
     opens f w = w ∙ rw (f, enough_words_lem)
 
   module _ (f : MasterState → MasterAnswer) where
-    pub few_words : not enough ≡ true → called 2 st [] p ≡ master_call f st p
-    few_words h = unmet (enough_master_words (length st) (length p)) _ _ (sym e ∙ not-true enough h)
+    pub few_words : enough ≡ false → called 2 st [] p ≡ master_call f st p
+    few_words h = unmet (enough_master_words (length st) (length p)) _ _ (sym e ∙ h)
 
-    module _ (h : not enough ≡ false) where
+    module _ (h : enough ≡ true) where
       decoded_as : (d : DecodedMaster) → master_in st ≡ d → master_act_on d f st p ≡ master_call f st p
       decoded_as d g = ap (λ (z : DecodedMaster). master_act_on z f st p) (sym g) ∙ met (enough_master_words (length st) (length p)) _ _ (enough_words_lem h)
 
