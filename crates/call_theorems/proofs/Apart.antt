@@ -15,8 +15,8 @@ use Rattle.link.proofs.Facts.{not_both}
 use Rattle.call_theorems.specs.Reading.{Shown}
 use Rattle.call_theorems.specs.Driver.{Passed, Named, ReaderMemory, SenderEnd, ReceiverEnd, Drivers, drivers, enough_to_read, enough_to_send, enough_to_receive, read_bytes, block_of_named, oldest_sent, verdict_taken}
 use Rattle.call_theorems.specs.Driver.{opened_by, by_sender, decided_by, decision_on, oldest_decided, oldest_tried, is_open_word, may_report, answer_on, nak_on, reply_sent, after_driver, driven_by}
-use Rattle.call_theorems.specs.Driver.{DriverAct, opens, ends, resets, timer, submits, stores, restores, receiverStores, receiverRestores, replies, sends, forgets, reads, takes, drops}
-use Rattle.call_theorems.specs.Driver.{receiverReads, receiverDrops, decides, answers, naks, replaces, receiver_replaces, tries, crashes, receiver_crashes, damagesForward, damagesBack}
+use Rattle.call_theorems.specs.Driver.{DriverAct, opens, ends, resets, timer, submits, stores, restores, receiver_stores, receiver_restores, replies, sends, forgets, reads, takes, drops}
+use Rattle.call_theorems.specs.Driver.{receiver_reads, receiver_drops, decides, answers, naks, replaces, receiver_replaces, tries, crashes, receiver_crashes, damages_forward, damages_back}
 use Rattle.call_theorems.specs.Apart.{of_sender, of_receiver, all_of, with_receiver, with_sender, gone_over, gone_first, opens_apart}
 
 -- a test that does not look at what is replaced
@@ -52,14 +52,14 @@ module _ (k : Passed) where
     sender_keeps (drops n) z = refl
     sender_keeps (replaces p v b w) z = both (with_receiver e) (leb 8 (length p) && leb 8 (length v)) _ _
     sender_keeps (crashes m) z = both (with_receiver e) (enough_to_send k.link.settings m) _ _
-    sender_keeps (damagesForward xs) z = both (with_receiver e) (damages k.link.settings x.forward xs) _ _
-    sender_keeps (damagesBack xs) z = both (with_receiver e) (disorders k.link.settings x.back xs) _ _
+    sender_keeps (damages_forward xs) z = both (with_receiver e) (damages k.link.settings x.forward xs) _ _
+    sender_keeps (damages_back xs) z = both (with_receiver e) (disorders k.link.settings x.back xs) _ _
     sender_keeps (opens r q) z = not_both (sym z)
-    sender_keeps receiverStores z = not_both (sym z)
-    sender_keeps receiverRestores z = not_both (sym z)
+    sender_keeps receiver_stores z = not_both (sym z)
+    sender_keeps receiver_restores z = not_both (sym z)
     sender_keeps replies z = not_both (sym z)
-    sender_keeps (receiverReads n) z = not_both (sym z)
-    sender_keeps (receiverDrops n) z = not_both (sym z)
+    sender_keeps (receiver_reads n) z = not_both (sym z)
+    sender_keeps (receiver_drops n) z = not_both (sym z)
     sender_keeps (decides a) z = not_both (sym z)
     sender_keeps (answers b start) z = not_both (sym z)
     sender_keeps (naks n start) z = not_both (sym z)
@@ -91,19 +91,19 @@ module _ (k : Passed) where
     tried_leaves a (w ∷ ws) = refl
 
     receiver_leaves : (a : DriverAct) → of_receiver a ≡ true → Leaves (after_driver k a x)
-    receiver_leaves receiverStores z = either (is_open_word x.receiver.memory.state && not x.receiver.reports) _ refl
-    receiver_leaves receiverRestores z = refl
+    receiver_leaves receiver_stores z = either (is_open_word x.receiver.memory.state && not x.receiver.reports) _ refl
+    receiver_leaves receiver_restores z = refl
     receiver_leaves replies z = replied_leaves x.receiver.pending
-    receiver_leaves (receiverReads n) z = either (eqb (read_bytes k.numbers n x.receiver.memory.reader x.forward).number 0) _ refl
-    receiver_leaves (receiverDrops n) z = refl
+    receiver_leaves (receiver_reads n) z = either (eqb (read_bytes k.numbers n x.receiver.memory.reader x.forward).number 0) _ refl
+    receiver_leaves (receiver_drops n) z = refl
     receiver_leaves (decides a) z = decided_leaves a x.receiver.arrived
     receiver_leaves (answers b start) z = either (may_report b x.receiver.reports && eqb (answer_on k b start x.receiver.memory).number 0) _ refl
     receiver_leaves (naks n start) z = either (eqb (nak_on k n start x.receiver.memory).number 0) _ refl
     receiver_leaves (receiver_replaces d p v b) z = either (leb 5 (length d) && (leb 2 (length p) && leb 8 (length v))) _ refl
     receiver_leaves (tries a) z = tried_leaves a x.receiver.arrived
     receiver_leaves (receiver_crashes m) z = either (enough_to_receive k.link.settings m) _ refl
-    receiver_leaves (damagesForward xs) z = either (damages k.link.settings x.forward xs) _ refl
-    receiver_leaves (damagesBack xs) z = either (disorders k.link.settings x.back xs) _ refl
+    receiver_leaves (damages_forward xs) z = either (damages k.link.settings x.forward xs) _ refl
+    receiver_leaves (damages_back xs) z = either (disorders k.link.settings x.back xs) _ refl
     receiver_leaves (opens r q) z = not_both (sym z)
     receiver_leaves ends z = not_both (sym z)
     receiver_leaves resets z = not_both (sym z)
@@ -139,19 +139,19 @@ module _ (k : Passed) where
     tried_same a (w ∷ ws) = refl
 
     receiver_same : (a : DriverAct) → of_receiver a ≡ true → Same a
-    receiver_same receiverStores z = both (with_sender e) (is_open_word x.receiver.memory.state && not x.receiver.reports) _ _
-    receiver_same receiverRestores z = refl
+    receiver_same receiver_stores z = both (with_sender e) (is_open_word x.receiver.memory.state && not x.receiver.reports) _ _
+    receiver_same receiver_restores z = refl
     receiver_same replies z = replied-same x.receiver.pending
-    receiver_same (receiverReads n) z = both (with_sender e) (eqb (read_bytes k.numbers n x.receiver.memory.reader x.forward).number 0) _ _
-    receiver_same (receiverDrops n) z = refl
+    receiver_same (receiver_reads n) z = both (with_sender e) (eqb (read_bytes k.numbers n x.receiver.memory.reader x.forward).number 0) _ _
+    receiver_same (receiver_drops n) z = refl
     receiver_same (decides a) z = decided-same a x.receiver.arrived
     receiver_same (answers b start) z = both (with_sender e) (may_report b x.receiver.reports && eqb (answer_on k b start x.receiver.memory).number 0) _ _
     receiver_same (naks n start) z = both (with_sender e) (eqb (nak_on k n start x.receiver.memory).number 0) _ _
     receiver_same (receiver_replaces d p v b) z = both (with_sender e) (leb 5 (length d) && (leb 2 (length p) && leb 8 (length v))) _ _
     receiver_same (tries a) z = tried_same a x.receiver.arrived
     receiver_same (receiver_crashes m) z = both (with_sender e) (enough_to_receive k.link.settings m) _ _
-    receiver_same (damagesForward xs) z = both (with_sender e) (damages k.link.settings x.forward xs) _ _
-    receiver_same (damagesBack xs) z = both (with_sender e) (disorders k.link.settings x.back xs) _ _
+    receiver_same (damages_forward xs) z = both (with_sender e) (damages k.link.settings x.forward xs) _ _
+    receiver_same (damages_back xs) z = both (with_sender e) (disorders k.link.settings x.back xs) _ _
     receiver_same (opens r q) z = not_both (sym z)
     receiver_same ends z = not_both (sym z)
     receiver_same resets z = not_both (sym z)

@@ -44,7 +44,7 @@ use Rattle.link.specs.Duties.{every, one_at, others_at}
 use Rattle.link.specs.SenderActs.{act_of, falls_due}
 use Rattle.link.specs.SenderHistory.{Entry, reported, counted_of, is_abandoned}
 use Rattle.link.specs.Line.{Line, line, damages, disorders}
-use Rattle.link.specs.System.{Link, System, Remains, SystemAct, beginning, link, damagesForward as linkDamagesForward, damagesBack as linkDamagesBack, run_of}
+use Rattle.link.specs.System.{Link, System, Remains, SystemAct, beginning, link, damages_forward as link_damages_forward, damages_back as link_damages_back, run_of}
 use Rattle.link.specs.Promise.{Logged, Ready, Covers, OnlyAnswers}
 use Rattle.link.proofs.Queues.{Each, each_none, each_more, Front, front, each_front}
 use Rattle.link.proofs.SenderDue.{due_sends, timer_on, block_on, submit_on}
@@ -57,8 +57,8 @@ use Rattle.link.proofs.Delivery.{answer_moves}
 use Rattle.link.proofs.Facts.{not_both}
 use Rattle.link.proofs.Runs.{run_join}
 use Rattle.call_theorems.specs.Driver.{Passed, made_from, Named, ReaderMemory, SenderMemory, ReceiverMemory, ReceiverEnd, Drivers, drivers, enough_to_read, enough_to_send, enough_to_receive, waits_words, report_of, with_transaction, is_open_word, answer_on, DriverAct, verdict_taken, after_driver, driven_by, DriversLeft, drivers_start}
-use Rattle.call_theorems.specs.Driver.{opens, ends, resets, timer, submits, stores, restores, receiverStores, receiverRestores, replies, sends, forgets, reads, takes, drops, receiverReads, receiverDrops}
-use Rattle.call_theorems.specs.Driver.{decides, answers, naks, replaces, receiver_replaces, tries, crashes, receiver_crashes, damagesForward, damagesBack}
+use Rattle.call_theorems.specs.Driver.{opens, ends, resets, timer, submits, stores, restores, receiver_stores, receiver_restores, replies, sends, forgets, reads, takes, drops, receiver_reads, receiver_drops}
+use Rattle.call_theorems.specs.Driver.{decides, answers, naks, replaces, receiver_replaces, tries, crashes, receiver_crashes, damages_forward, damages_back}
 use Rattle.call_theorems.specs.Verdicts.{reader_gives}
 use Rattle.call_theorems.specs.Reading.{Shown, shown}
 use Rattle.call_theorems.specs.DriversRun.{acts_of, link_run}
@@ -126,13 +126,13 @@ module _ (k : Passed) (ag : Agrees k) (rd : Ready k.link) where
           back = h.back;
         }
 
-    forward_goes : (b : Bool) → damages g x.forward xs ≡ b → Goes l (linkDamagesForward xs ∷ []) (cond b damaged x) y
+    forward_goes : (b : Bool) → damages g x.forward xs ≡ b → Goes l (link_damages_forward xs ∷ []) (cond b damaged x) y
     forward_goes false e =
-        by_act l x y (linkDamagesForward xs)
+        by_act l x y (link_damages_forward xs)
         (subst (λ (b : Bool). Shows l x (cond b (link y.sending y.receiving (line y.forward.reader xs) y.back) y))
         (sym (ap (λ (z : Line). damages g z xs) (sym h.forward) ∙ e)) h)
     forward_goes true e =
-        by_act l damaged y (linkDamagesForward xs)
+        by_act l damaged y (link_damages_forward xs)
         (subst (λ (b : Bool). Shows l damaged (cond b (link y.sending y.receiving (line y.forward.reader xs) y.back) y))
         (sym (ap (λ (z : Line). damages g z xs) (sym h.forward) ∙ e)) damaged_shows)
 
@@ -156,13 +156,13 @@ module _ (k : Passed) (ag : Agrees k) (rd : Ready k.link) where
           back = ap (λ (z : Line). line z.reader xs) h.back;
         }
 
-    back_goes : (b : Bool) → disorders g x.back xs ≡ b → Goes l (linkDamagesBack xs ∷ []) (cond b disordered x) y
+    back_goes : (b : Bool) → disorders g x.back xs ≡ b → Goes l (link_damages_back xs ∷ []) (cond b disordered x) y
     back_goes false e =
-        by_act l x y (linkDamagesBack xs)
+        by_act l x y (link_damages_back xs)
         (subst (λ (b : Bool). Shows l x (cond b (link y.sending y.receiving y.forward (line y.back.reader xs)) y))
         (sym (ap (λ (z : Line). disorders g z xs) (sym h.back) ∙ e)) h)
     back_goes true e =
-        by_act l disordered y (linkDamagesBack xs)
+        by_act l disordered y (link_damages_back xs)
         (subst (λ (b : Bool). Shows l disordered (cond b (link y.sending y.receiving y.forward (line y.back.reader xs)) y))
         (sym (ap (λ (z : Line). disorders g z xs) (sym h.back) ∙ e)) disordered_shows)
 
@@ -175,16 +175,16 @@ module _ (k : Passed) (ag : Agrees k) (rd : Ready k.link) where
   act_goes (submits limit d) x y i h = submits_goes k ag rd x y i h limit d
   act_goes stores x y i h = stores_goes k ag rd x y i h
   act_goes restores x y i h = restores_goes k ag rd x y i h
-  act_goes receiverStores x y i h = receiver_stores_goes k ag rd x y i h
-  act_goes receiverRestores x y i h = receiver_restores_goes k ag rd x y i h
+  act_goes receiver_stores x y i h = receiver_stores_goes k ag rd x y i h
+  act_goes receiver_restores x y i h = receiver_restores_goes k ag rd x y i h
   act_goes replies x y i h = replies_goes k ag rd x y i h
   act_goes (sends start) x y i h = sends_goes k ag rd x y i h start
   act_goes (forgets n) x y i h = forgets_goes k ag rd x y i h n
   act_goes (reads n) x y i h = reads_goes k ag rd x y i h n
   act_goes (takes n) x y i h = takes_goes k ag rd x y i h n
   act_goes (drops n) x y i h = drops_goes k ag rd x y i h n
-  act_goes (receiverReads n) x y i h = receiver_reads_goes k ag rd x y i h n
-  act_goes (receiverDrops n) x y i h = receiver_drops_goes k ag rd x y i h n
+  act_goes (receiver_reads n) x y i h = receiver_reads_goes k ag rd x y i h n
+  act_goes (receiver_drops n) x y i h = receiver_drops_goes k ag rd x y i h n
   act_goes (decides a) x y i h = decides_goes k ag rd x y i h a
   act_goes (answers b start) x y i h = answers_goes k ag rd x y i h b start
   act_goes (naks n start) x y i h = naks_goes k ag rd x y i h n start
@@ -193,8 +193,8 @@ module _ (k : Passed) (ag : Agrees k) (rd : Ready k.link) where
   act_goes (tries a) x y i h = tries_goes k ag rd x y i h a
   act_goes (crashes m) x y i h = crashes_goes k ag rd x y i h m
   act_goes (receiver_crashes m) x y i h = receiver_crashes_goes k ag rd x y i h m
-  act_goes (damagesForward xs) x y i h = forward_goes x y h xs (damages g x.forward xs) refl
-  act_goes (damagesBack xs) x y i h = back_goes x y h xs (disorders g x.back xs) refl
+  act_goes (damages_forward xs) x y i h = forward_goes x y h xs (damages g x.forward xs) refl
+  act_goes (damages_back xs) x y i h = back_goes x y h xs (disorders g x.back xs) refl
 
   -- what is asked of a receiver's end is what it has stored
   safe_with : (e : ReceiverEnd) (x : Drivers) → e.stored_has ≡ x.receiver.stored_has → DriversSafe l x → DriversSafe l (with_receiver e x)

@@ -42,7 +42,7 @@ use Rattle.link.proofs.Exchange.{blank}
 use Rattle.link.proofs.ReceiverInvariant.{expects_next}
 use Rattle.link.proofs.Example.{ready}
 use Rattle.call_theorems.specs.Driver.{SettingNumbers, hybrid, minimal, Passed, ReaderMemory, reader_memory, SenderMemory, sender_memory, ReceiverMemory, receiver_memory, Drivers, reader_past, driven_by, DriversLeft, drivers_start}
-use Rattle.call_theorems.specs.Driver.{DriverAct, opens, ends, timer, submits, stores, receiverStores, replies, sends, reads, takes, receiverReads, decides, answers, tries, crashes, receiver_crashes, damagesForward, damagesBack, enough_to_send, enough_to_receive}
+use Rattle.call_theorems.specs.Driver.{DriverAct, opens, ends, timer, submits, stores, receiver_stores, replies, sends, reads, takes, receiver_reads, decides, answers, tries, crashes, receiver_crashes, damages_forward, damages_back, enough_to_send, enough_to_receive}
 use Rattle.call_theorems.specs.DriversPromise.{Agrees, all_given, DriversSafe, delivered_word, frozen_word}
 use Rattle.call_theorems.proofs.Demand.{calls_safe}
 
@@ -65,7 +65,7 @@ receiver_space = receiver_memory (blank 9) (blank 5) (blank 2) reader_space (bla
 -- the oldest message is stored, written and sent, read in two parts at the far end, decided on, stored, reported and answered, and the answer is read and taken
 exchanged : List DriverAct
 exchanged =
-    stores ∷ sends 0 ∷ receiverReads 20 ∷ receiverReads 64 ∷ decides 1 ∷ receiverStores ∷ answers true 0 ∷ replies ∷ reads 30 ∷ reads 64 ∷ takes 0 ∷ []
+    stores ∷ sends 0 ∷ receiver_reads 20 ∷ receiver_reads 64 ∷ decides 1 ∷ receiver_stores ∷ answers true 0 ∷ replies ∷ reads 30 ∷ reads 64 ∷ takes 0 ∷ []
 
 reversed : List DriverAct → List DriverAct → List DriverAct
 reversed [] ds = ds
@@ -78,14 +78,14 @@ new_circuit = opens reader_space reader_space
 lost_run : List DriverAct
 lost_run =
     reversed
-    (submits 128 (example_log 1) ∷ stores ∷ new_circuit ∷ (exchanged ++ stores ∷ sends 0 ∷ damagesForward [] ∷ crashes sender_space ∷ new_circuit ∷ (exchanged ++ (exchanged ++ stores ∷ [])))) []
+    (submits 128 (example_log 1) ∷ stores ∷ new_circuit ∷ (exchanged ++ stores ∷ sends 0 ∷ damages_forward [] ∷ crashes sender_space ∷ new_circuit ∷ (exchanged ++ (exchanged ++ stores ∷ [])))) []
 
 -- 1 is sent twice, as the timer ran out, and both come in one part. The second is refused while the first is decided on; the first could not be stored, and is reported so; the second is tried, stored and answered
 restored_run : List DriverAct
 restored_run =
     reversed
-    (submits 128 (example_log 1) ∷ stores ∷ new_circuit ∷ (exchanged ++ stores ∷ sends 0 ∷ timer ∷ sends 0 ∷ receiverReads 200 ∷ receiverReads 200 ∷ decides 1 ∷ decides 1 ∷ answers false 0 ∷ tries 1 ∷ decides 2
-    ∷ receiverStores ∷ answers true 0 ∷ replies ∷ reads 200 ∷ takes 0 ∷ stores ∷ ends ∷ [])) []
+    (submits 128 (example_log 1) ∷ stores ∷ new_circuit ∷ (exchanged ++ stores ∷ sends 0 ∷ timer ∷ sends 0 ∷ receiver_reads 200 ∷ receiver_reads 200 ∷ decides 1 ∷ decides 1 ∷ answers false 0 ∷ tries 1 ∷ decides 2
+    ∷ receiver_stores ∷ answers true 0 ∷ replies ∷ reads 200 ∷ takes 0 ∷ stores ∷ ends ∷ [])) []
 
 -- The beginning of the night of slot 7: an earlier tenant's answers to -1 and to 1 are on the line, one to 1 is still to be sent, and one to 1 was read.
 old_answer : Kind → SequenceNumber → List ℕ
@@ -105,8 +105,8 @@ none_left = record { back = []; pending = []; answers = [] }
 -- 1 and 2 are submitted. After the exchange for -1 the receiver stores 1, and its answer is lost. 1 is sent three times more, and each is lost; when the timer runs out again, it is given up
 abandoned_run : List DriverAct
 abandoned_run =
-    submits 128 (example_log 1) ∷ submits 128 (example_log 2) ∷ stores ∷ new_circuit ∷ (exchanged ++ stores ∷ sends 0 ∷ receiverReads 200 ∷ decides 1 ∷ receiverStores ∷ answers true 0 ∷ replies ∷ damagesBack []
-    ∷ timer ∷ sends 0 ∷ damagesForward [] ∷ timer ∷ sends 0 ∷ damagesForward [] ∷ timer ∷ sends 0 ∷ damagesForward [] ∷ timer ∷ [])
+    submits 128 (example_log 1) ∷ submits 128 (example_log 2) ∷ stores ∷ new_circuit ∷ (exchanged ++ stores ∷ sends 0 ∷ receiver_reads 200 ∷ decides 1 ∷ receiver_stores ∷ answers true 0 ∷ replies ∷ damages_back []
+    ∷ timer ∷ sends 0 ∷ damages_forward [] ∷ timer ∷ sends 0 ∷ damages_forward [] ∷ timer ∷ sends 0 ∷ damages_forward [] ∷ timer ∷ [])
 
 -- the receiver crashes, and on the next circuit the answer to 0 says that 1 is there, and 2 gets through
 resumed_run : List DriverAct

@@ -25,7 +25,7 @@ use Rattle.link.specs.Duties.{every}
 use Rattle.link.specs.SenderActs.{after_crash}
 use Rattle.link.specs.SenderHistory.{reported, crashed}
 use Rattle.link.specs.Line.{Reader, Line, empty_line}
-use Rattle.link.specs.System.{Link, System, sending, sender_acted, new_circuit, circuit_opened, SystemAct, opens, ends, resets, timer, submits, senderPersists, senderRestores, after_act, run_of}
+use Rattle.link.specs.System.{Link, System, sending, sender_acted, new_circuit, circuit_opened, SystemAct, opens, ends, resets, timer, submits, sender_persists, sender_restores, after_act, run_of}
 use Rattle.link.specs.Promise.{Ready}
 use Rattle.link.proofs.Queues.{Each, each_none, each_more}
 use Rattle.link.proofs.Messages.{link-valid, link_limit}
@@ -33,7 +33,7 @@ use Rattle.link.proofs.Early.{Standing}
 use Rattle.call_theorems.specs.Reading.{Shown, Taken, hybrid, minimal}
 use Rattle.call_theorems.specs.Driver.{SettingNumbers, hybrid as hybrid_numbers, minimal as minimal_numbers, Passed, made_from, ReaderMemory, Drivers, fresh_reader}
 use Rattle.call_theorems.specs.Driver.{enough_to_read, report_of, restarted, by_sender, opened_by, after_driver}
-use Rattle.call_theorems.specs.Driver.{opens as opensDriver, ends as endsDriver, resets as resetsDriver, timer as timerDriver, submits as submitsDriver, stores, restores}
+use Rattle.call_theorems.specs.Driver.{opens as opens_driver, ends as ends_driver, resets as resets_driver, timer as timer_driver, submits as submits_driver, stores, restores}
 use Rattle.call_theorems.specs.DriversRun.{once, acts_of}
 use Rattle.call_theorems.specs.DriversPromise.{Agrees}
 use Rattle.call_theorems.proofs.Streams.{StandsAt, fresh_stands_at}
@@ -112,18 +112,18 @@ module _ (k : Passed) (ag : Agrees k) (rd : Ready k.link) where
         by_act l (by_sender x x.sender.arrived c) y d
         (subst (Shows l (by_sender x x.sender.arrived c)) (sym e) (by_call a c x.sender.arrived y.sending.arrived does h.sender.arrived))
 
-    pub ends_goes : Goes l (ends ∷ []) (after_driver k endsDriver x) y
+    pub ends_goes : Goes l (ends ∷ []) (after_driver k ends_driver x) y
     ends_goes = called_is ends (ended_of y.sending.sender) (ended_call st p) refl (ended_does y.sending.sender i.ends.valid st p h.sender.state h.sender.report)
 
-    pub resets_goes : Goes l (resets ∷ []) (after_driver k resetsDriver x) y
+    pub resets_goes : Goes l (resets ∷ []) (after_driver k resets_driver x) y
     resets_goes = called_is resets (reset_of y.sending.sender) (reset_call st p) refl (reset_does y.sending.sender i.ends.valid st p h.sender.state h.sender.report)
 
-    pub timer_goes : Goes l (timer ∷ []) (after_driver k timerDriver x) y
+    pub timer_goes : Goes l (timer ∷ []) (after_driver k timer_driver x) y
     timer_goes =
         called_is timer (timer_of l.resends y.sending.sender) (timer_call l.resends st p) refl
         (timer_does y.sending.sender i.ends.valid st p h.sender.state h.sender.report l.resends rd.resends)
 
-    pub submits_goes : (limit : ℕ) (d : List ℕ) → Goes l (submits limit d ∷ []) (after_driver k (submitsDriver limit d) x) y
+    pub submits_goes : (limit : ℕ) (d : List ℕ) → Goes l (submits limit d ∷ []) (after_driver k (submits_driver limit d) x) y
     submits_goes limit d =
         called_is (submits limit d) (submit_of limit y.sending.sender d) (submit_call limit d st p) refl
         (submit_does y.sending.sender i.ends.valid st p h.sender.state h.sender.report limit d)
@@ -176,7 +176,7 @@ module _ (k : Passed) (ag : Agrees k) (rd : Ready k.link) where
           (subst (λ (b : Bool). Shows l (by_sender x x.sender.arrived c) (cond b (new_circuit every y (open_of y.sending.sender)) (sender_acted y y.sending.arrived (open_of y.sending.sender)))) (sym no)
           (by_call a c x.sender.arrived y.sending.arrived (refused n o z t same none report) h.sender.arrived))
 
-      pub opens_goes : Goes l (acts_of k (opensDriver r q) x) (after_driver k (opensDriver r q) x) y
+      pub opens_goes : Goes l (acts_of k (opens_driver r q) x) (after_driver k (opens_driver r q) x) y
       opens_goes = go (enough_to_read g r && enough_to_read g q) refl
         where
           go : (b : Bool) → (enough_to_read g r && enough_to_read g q) ≡ b
@@ -188,9 +188,9 @@ module _ (k : Passed) (ag : Agrees k) (rd : Ready k.link) where
               (open_does y.sending.sender i.ends.valid st p h.sender.state h.sender.report))
 
     -- storing, and going on from what is stored
-    pub stores_goes : Goes l (senderPersists ∷ []) (after_driver k stores x) y
+    pub stores_goes : Goes l (sender_persists ∷ []) (after_driver k stores x) y
     stores_goes =
-        by_act l (after_driver k stores x) y senderPersists
+        by_act l (after_driver k stores x) y sender_persists
         (record {
           sender = record {
             state = h.sender.state;
@@ -211,9 +211,9 @@ module _ (k : Passed) (ag : Agrees k) (rd : Ready k.link) where
         subst (λ (d : List ℕ). Behind (sender_words (after_crash y.sending.persisted)) (over s (d ++ 0 ∷ 0 ∷ []))) (sym h.sender.stored)
         (over_behind (sender_words (after_crash y.sending.persisted)) s m)
 
-    pub restores_goes : Goes l (senderRestores ∷ []) (after_driver k restores x) y
+    pub restores_goes : Goes l (sender_restores ∷ []) (after_driver k restores x) y
     restores_goes =
-        by_act l (after_driver k restores x) y senderRestores
+        by_act l (after_driver k restores x) y sender_restores
         (record {
           sender = record {
             state = restored st (behind_length h.sender.state);

@@ -60,8 +60,8 @@ use Rattle.receiver_calls.specs.declared.Decoded.TheVariants.{Known as AReceiver
 use Rattle.receiver_calls.proofs.ReadBack.{words_read}
 use Rattle.link.specs.Duties.{every, one_at, others_at}
 use Rattle.link.specs.Line.{Reader, Line, line, empty_line, reads_byte, reader_after}
-use Rattle.link.specs.System.{Link, System, SendingEnd, ReceivingEnd, run_of, receiverReads as linkReads, receiving, link, has_with, stored_by, to_persist, replies_of, decided_end, request_decided, verdict_decided, request_taken, nak_taken, is_true}
-use Rattle.link.specs.System.{receiver_persisted, reported_end, decision_reported, reply_written, after_act, receiver_decides, receiver_reports, receiver_naks, receiverDiscards, receiverPersists, receiverWrites, receiverRestores as linkRestores, receiver_crashes as endCrashes}
+use Rattle.link.specs.System.{Link, System, SendingEnd, ReceivingEnd, run_of, receiver_reads as link_reads, receiving, link, has_with, stored_by, to_persist, replies_of, decided_end, request_decided, verdict_decided, request_taken, nak_taken, is_true}
+use Rattle.link.specs.System.{receiver_persisted, reported_end, decision_reported, reply_written, after_act, receiver_decides, receiver_reports, receiver_naks, receiver_discards, receiver_persists, receiver_writes, receiver_restores as link_restores, receiver_crashes as end_crashes}
 use Rattle.link.specs.Promise.{Ready}
 use Rattle.link.proofs.Facts.{not_both}
 use Rattle.link.proofs.Queues.{Each, each_none, Front, front, each_front, Answer}
@@ -71,7 +71,7 @@ use Rattle.link.proofs.Early.{Standing}
 use Rattle.call_theorems.specs.Reading.{Shown, used_bytes, new_verdict}
 use Rattle.call_theorems.specs.Driver.{Passed, made_from, ReceiverMemory, Noted, noted, nothing_noted, Drivers, drivers, receiver_end, receiver_memory, with_verdict, enough_to_read, enough_to_receive, fresh_reader, after_reading, reader_past, line_past}
 use Rattle.call_theorems.specs.Driver.{read_bytes, with_transaction, reply_by, noted_by, decided_by, decision_on, oldest_decided, tried_by, oldest_tried, is_open_word, may_report, answered_by, answer_on, nakked_by, nak_on, reply_sent, restored_receiver, after_driver}
-use Rattle.call_theorems.specs.Driver.{receiverReads, decides, answers, naks, receiver_replaces, tries, receiverDrops, receiverStores, receiverRestores, replies, receiver_crashes}
+use Rattle.call_theorems.specs.Driver.{receiver_reads, decides, answers, naks, receiver_replaces, tries, receiver_drops, receiver_stores, receiver_restores, replies, receiver_crashes}
 use Rattle.call_theorems.specs.DriversRun.{repeated, once, decides_on, acts_of}
 use Rattle.call_theorems.specs.DriversPromise.{Agrees}
 use Rattle.call_theorems.proofs.Verdicts.{accepted_number}
@@ -147,14 +147,14 @@ report_word_lem p n h = ap (λ (ws : List ℕ). get_or ws 0 0) (over-is p (repor
 
 -- the receiver reads the first bytes on its line, one by one
 requests_repeated : (l : Link) (xs ys : List ℕ) (r : Reader) (s : SendingEnd) (e : ReceivingEnd) (b : Line)
-    → run_of every l (link s e (line r (xs ++ ys)) b) (repeated (length xs) linkReads)
+    → run_of every l (link s e (line r (xs ++ ys)) b) (repeated (length xs) link_reads)
     ≡ link s (receiving e.receiver e.persisted e.message e.reports e.pending (e.arrived ++ run l.settings r.offset r.mode xs)) (line (reader_past l.settings r xs) ys) b
 unfolding run reader_past repeated run_of
 requests_repeated l [] ys r s e b = ap (λ (ws : List Judged). link s (receiving e.receiver e.persisted e.message e.reports e.pending ws) (line r ys) b) (sym (append-nil e.arrived))
 requests_repeated l (x ∷ xs) ys r s e b =
     let us = (reads_byte l.settings r x).says in
     let q = reader_after l.settings r x in
-    repeated-run l (length xs) linkReads (link s e (line r (x ∷ xs ++ ys)) b)
+    repeated-run l (length xs) link_reads (link s e (line r (x ∷ xs ++ ys)) b)
     ∙ requests_repeated l xs ys q s (receiving e.receiver e.persisted e.message e.reports e.pending (e.arrived ++ us)) b
     ∙ ap (λ (ws : List Judged). link s (receiving e.receiver e.persisted e.message e.reports e.pending ws) (line (reader_past l.settings q xs) ys) b)
     (append_assoc e.arrived us (run l.settings q.offset q.mode xs))
@@ -194,12 +194,12 @@ module _ (k : Passed) (ag : Agrees k) (rd : Ready k.link) (x : Drivers) (y : Sys
         let e = y.receiving in
         link y.sending (receiving e.receiver e.persisted e.message e.reports e.pending (e.arrived ++ brought g u y.forward)) (line_past g u y.forward) y.back
 
-    requests_run : u ≤ length y.forward.bytes → run_of every l y (repeated u linkReads) ≡ read_end
+    requests_run : u ≤ length y.forward.bytes → run_of every l y (repeated u link_reads) ≡ read_end
     requests_run most =
         let e = y.receiving in
         let b = y.forward in
-        ap (λ (n : ℕ). run_of every l y (repeated n linkReads)) (sym (length-take-le u b.bytes most))
-        ∙ ap (λ (bs : List ℕ). run_of every l (link y.sending e (line b.reader bs) y.back) (repeated (length (take u b.bytes)) linkReads)) (sym (take-append-drop u b.bytes))
+        ap (λ (n : ℕ). run_of every l y (repeated n link_reads)) (sym (length-take-le u b.bytes most))
+        ∙ ap (λ (bs : List ℕ). run_of every l (link y.sending e (line b.reader bs) y.back) (repeated (length (take u b.bytes)) link_reads)) (sym (take-append-drop u b.bytes))
         ∙ requests_repeated l (take u b.bytes) (drop u b.bytes) b.reader y.sending e y.back
 
   module _ (n : ℕ) where
@@ -236,10 +236,10 @@ module _ (k : Passed) (ag : Agrees k) (rd : Ready k.link) (x : Drivers) (y : Sys
           back = h.back;
         }
 
-    pub receiver_reads_goes : Goes l (acts_of k (receiverReads n) x) (after_driver k (receiverReads n) x) y
+    pub receiver_reads_goes : Goes l (acts_of k (receiver_reads n) x) (after_driver k (receiver_reads n) x) y
     receiver_reads_goes = go (eqb reading.number 0) refl
       where
-        go : (b : Bool) → eqb reading.number 0 ≡ b → Goes l (cond b (repeated used linkReads) []) (cond b read_by x) y
+        go : (b : Bool) → eqb reading.number 0 ≡ b → Goes l (cond b (repeated used link_reads) []) (cond b read_by x) y
         go false e = stays l x y h
         go true e =
             let t = read_took g (settings_valid k ag rd) x.receiver.memory.reader x.forward h.receiver.reader n (made_from k.numbers) ag.settings e in
@@ -482,9 +482,9 @@ module _ (k : Passed) (ag : Agrees k) (rd : Ready k.link) (x : Drivers) (y : Sys
       (λ e. with_memory d r v c (leb-true 5 (length d) (and_left long (reports && verdict) e)) (leb-true 2 (length r) (and_left reports verdict (and_right long (reports && verdict) e)))
       (leb-true 8 (length v) (and_right reports verdict (and_right long (reports && verdict) e)))) (λ e. h))
 
-  pub receiver_drops_goes : (n : ℕ) → Goes l (receiverDiscards n ∷ []) (after_driver k (receiverDrops n) x) y
+  pub receiver_drops_goes : (n : ℕ) → Goes l (receiver_discards n ∷ []) (after_driver k (receiver_drops n) x) y
   receiver_drops_goes n =
-      by_act l (after_driver k (receiverDrops n) x) y (receiverDiscards n)
+      by_act l (after_driver k (receiver_drops n) x) y (receiver_discards n)
       (record {
         sender = h.sender;
         receiver = record {
@@ -535,8 +535,8 @@ module _ (k : Passed) (ag : Agrees k) (rd : Ready k.link) (x : Drivers) (y : Sys
       let e = x.receiver in
       drivers x.sender (receiver_end e.memory (e.noted.expected ∷ []) (with_transaction e.stored_has e.noted) e.noted true e.pending e.arrived) x.forward x.back
 
-  pub receiver_stores_goes : Goes l (receiverPersists ∷ []) (after_driver k receiverStores x) y
-  receiver_stores_goes = by_act l (after_driver k receiverStores x) y receiverPersists (go (not (is_closed s.decision) && not y.receiving.reports) refl)
+  pub receiver_stores_goes : Goes l (receiver_persists ∷ []) (after_driver k receiver_stores x) y
+  receiver_stores_goes = by_act l (after_driver k receiver_stores x) y receiver_persists (go (not (is_closed s.decision) && not y.receiving.reports) refl)
     where
       done : (not (is_closed s.decision) && not y.receiving.reports) ≡ true
           → Shows l stored_drivers (receiver_persisted y (to_persist y.receiving) true)
@@ -805,9 +805,9 @@ module _ (k : Passed) (ag : Agrees k) (rd : Ready k.link) (x : Drivers) (y : Sys
       subst (λ (d : List ℕ). Behind (receiver_words (closed y.receiving.persisted.expected)) (over z (d ++ 0 ∷ 0 ∷ 0 ∷ 0 ∷ 0 ∷ 0 ∷ 0 ∷ 0 ∷ []))) (sym h.receiver.stored)
       (over_behind (receiver_words (closed y.receiving.persisted.expected)) z m)
 
-  pub receiver_restores_goes : Goes l (linkRestores ∷ []) (after_driver k receiverRestores x) y
+  pub receiver_restores_goes : Goes l (link_restores ∷ []) (after_driver k receiver_restores x) y
   receiver_restores_goes =
-      by_act l (after_driver k receiverRestores x) y linkRestores
+      by_act l (after_driver k receiver_restores x) y link_restores
       (record {
         sender = h.sender;
         receiver = record {
@@ -830,7 +830,7 @@ module _ (k : Passed) (ag : Agrees k) (rd : Ready k.link) (x : Drivers) (y : Sys
   receiver_crashes_goes m = go (enough_to_receive g m) refl
     where
       go : (b : Bool) → enough_to_receive g m ≡ b
-          → Goes l (once b endCrashes) (cond b (drivers x.sender (receiver_end (receiver_memory (restored_receiver x.receiver m.state) m.decision m.report (fresh_reader m.reader) m.reply)
+          → Goes l (once b end_crashes) (cond b (drivers x.sender (receiver_end (receiver_memory (restored_receiver x.receiver m.state) m.decision m.report (fresh_reader m.reader) m.reply)
           x.receiver.stored x.receiver.stored_has nothing_noted false [] []) empty_line (line x.back.reader [])) x) y
       go false e = stays l x y h
       go true e =
@@ -839,7 +839,7 @@ module _ (k : Passed) (ag : Agrees k) (rd : Ready k.link) (x : Drivers) (y : Sys
           let reports = leb 2 (length m.report) in
           let rest = and_right states (decisions && (reports && enough_to_read g m.reader)) e in
           let more = and_right decisions (reports && enough_to_read g m.reader) rest in
-          by_act l _ y endCrashes
+          by_act l _ y end_crashes
           (record {
             sender = record {
               state = h.sender.state;
@@ -895,9 +895,9 @@ module _ (k : Passed) (ag : Agrees k) (rd : Ready k.link) (x : Drivers) (y : Sys
         back = ap (λ (z : Line). line z.reader (z.bytes ++ c)) h.back;
       }
 
-  pub replies_goes : Goes l (receiverWrites ∷ []) (after_driver k replies x) y
+  pub replies_goes : Goes l (receiver_writes ∷ []) (after_driver k replies x) y
   replies_goes =
-      by_act l (after_driver k replies x) y receiverWrites
+      by_act l (after_driver k replies x) y receiver_writes
       (subst (λ (bs : List (List ℕ)). Shows l (reply_sent x x.receiver.pending) (reply_written y bs)) h.receiver.pending (go x.receiver.pending refl))
     where
       go : (bs : List (List ℕ)) → x.receiver.pending ≡ bs → Shows l (reply_sent x bs) (reply_written y bs)

@@ -25,7 +25,7 @@ use Rattle.link.specs.SenderHistory.{crashed}
 use Rattle.link.specs.Duties.{every, one_at, others_at}
 use Rattle.link.specs.Line.{Reader, Line, line, empty_line, reads_byte, reader_after}
 use Rattle.link.specs.System.{Link, System, SendingEnd, ReceivingEnd, SystemAct, sending, link, request_of, same_flag, same_persisted, request_written, answer_taken, sender_acted}
-use Rattle.link.specs.System.{senderWrites, senderForgets, senderActs, senderDiscards, senderCrashes, senderReads, after_act, run_of}
+use Rattle.link.specs.System.{sender_writes, sender_forgets, sender_acts, sender_discards, sender_crashes, sender_reads, after_act, run_of}
 use Rattle.link.specs.Promise.{Ready}
 use Rattle.link.proofs.Queues.{All, all_head, all_right, Each, each_none, each_more, Front, front, each_front}
 use Rattle.link.proofs.Messages.{Nameable, request_writable}
@@ -88,7 +88,7 @@ unfolding run_of
 repeated-run l n a y = ap (run_of every l y) (repeated_end n a) ∙ run_join l y (a ∷ []) (repeated n a)
 
 answers_repeated : (l : Link) (xs ys : List ℕ) (r : Reader) (e : SendingEnd) (v : ReceivingEnd) (b : Line)
-    → run_of every l (link e v b (line r (xs ++ ys))) (repeated (length xs) senderReads)
+    → run_of every l (link e v b (line r (xs ++ ys))) (repeated (length xs) sender_reads)
     ≡ link (sending e.sender e.persisted e.named (e.arrived ++ run l.settings r.offset r.mode xs) e.history) v b (line (reader_past l.settings r xs) ys)
 unfolding run reader_past repeated run_of
 answers_repeated l [] ys r e v b =
@@ -96,7 +96,7 @@ answers_repeated l [] ys r e v b =
 answers_repeated l (x ∷ xs) ys r e v b =
     let us = (reads_byte l.settings r x).says in
     let q = reader_after l.settings r x in
-    repeated-run l (length xs) senderReads (link e v b (line r (x ∷ xs ++ ys)))
+    repeated-run l (length xs) sender_reads (link e v b (line r (x ∷ xs ++ ys)))
     ∙ answers_repeated l xs ys q (sending e.sender e.persisted e.named (e.arrived ++ us) e.history) v b
     ∙ ap (λ (ws : List Judged). link (sending e.sender e.persisted e.named ws e.history) v b (line (reader_past l.settings q xs) ys))
     (append_assoc e.arrived us (run l.settings q.offset q.mode xs))
@@ -128,7 +128,7 @@ module _ (k : Passed) (ag : Agrees k) (rd : Ready k.link) (x : Drivers) (y : Sys
         link (sending y.sending.sender y.sending.persisted vs y.sending.arrived y.sending.history) y.receiving
         (line y.forward.reader (y.forward.bytes ++ block_of g (code "D") (request_of l v))) y.back
 
-    written_is : same_persisted y.sending.sender.persisted y.sending.persisted ≡ true → after_act every l (senderWrites 0) y ≡ written
+    written_is : same_persisted y.sending.sender.persisted y.sending.persisted ≡ true → after_act every l (sender_writes 0) y ≡ written
     unfolding one_at others_at
     written_is s =
         ap (λ (ms : List SequenceNumber). request_written every l y (one_at 0 ms) (others_at 0 ms)) queue
@@ -156,13 +156,13 @@ module _ (k : Passed) (ag : Agrees k) (rd : Ready k.link) (x : Drivers) (y : Sys
           back = h.back;
         }
 
-    one_sent : (b : Bool) → (eqb call.number 0 && same (take 5 x.sender.memory.state) x.sender.stored) ≡ b → Goes l (once b (senderWrites 0)) (cond b sent x) y
+    one_sent : (b : Bool) → (eqb call.number 0 && same (take 5 x.sender.memory.state) x.sender.stored) ≡ b → Goes l (once b (sender_writes 0)) (cond b sent x) y
     one_sent false e = stays l x y h
     one_sent true e =
         let done = and_left (eqb call.number 0) (same (take 5 x.sender.memory.state) x.sender.stored) e in
         let words = same-is (take 5 x.sender.memory.state) x.sender.stored (and_right (eqb call.number 0) (same (take 5 x.sender.memory.state) x.sender.stored) e) in
         let kept = words_same y.sending.sender.persisted y.sending.persisted (sym (ap (take 5) h.sender.state.is) ∙ words ∙ h.sender.stored) in
-        by_act l sent y (senderWrites 0) (subst (Shows l sent) (sym (written_is kept)) (sent_shows done))
+        by_act l sent y (sender_writes 0) (subst (Shows l sent) (sym (written_is kept)) (sent_shows done))
 
     -- what is named and stored goes out, where the memory is long enough
     goes_out_lem : same (take 5 x.sender.memory.state) x.sender.stored ≡ true → start + need_of g (message_named k n) ≤ length x.sender.memory.block → 2 ≤ length x.sender.memory.written
@@ -185,16 +185,16 @@ module _ (k : Passed) (ag : Agrees k) (rd : Ready k.link) (x : Drivers) (y : Sys
   pub sends_goes : (start : ℕ) → Goes l (acts_of k (sends start) x) (after_driver k (sends start) x) y
   sends_goes start = go x.sender.named h.sender.named
     where
-      named : (n : Named) (ns : List Named) → Front SameSend n ns y.sending.named → Goes l (once (goes_out k start x (n ∷ ns)) (senderWrites 0)) (oldest_sent k start x (n ∷ ns)) y
+      named : (n : Named) (ns : List Named) → Front SameSend n ns y.sending.named → Goes l (once (goes_out k start x (n ∷ ns)) (sender_writes 0)) (oldest_sent k start x (n ∷ ns)) y
       named n ns (front v vs q is rest) = one_sent start n ns v vs q is rest (eqb (block_of_named k start x.sender.memory n).number 0 && same (take 5 x.sender.memory.state) x.sender.stored) refl
 
-      go : (ns : List Named) → Each SameSend ns y.sending.named → Goes l (once (goes_out k start x ns) (senderWrites 0)) (oldest_sent k start x ns) y
+      go : (ns : List Named) → Each SameSend ns y.sending.named → Goes l (once (goes_out k start x ns) (sender_writes 0)) (oldest_sent k start x ns) y
       go [] e = stays l x y h
       go (n ∷ ns) e = named n ns (each_front e)
 
-  pub forgets_goes : (n : ℕ) → Goes l (senderForgets n ∷ []) (after_driver k (forgets n) x) y
+  pub forgets_goes : (n : ℕ) → Goes l (sender_forgets n ∷ []) (after_driver k (forgets n) x) y
   forgets_goes n =
-      by_act l (after_driver k (forgets n) x) y (senderForgets n)
+      by_act l (after_driver k (forgets n) x) y (sender_forgets n)
       (record {
         sender = record {
           state = h.sender.state;
@@ -217,12 +217,12 @@ module _ (k : Passed) (ag : Agrees k) (rd : Ready k.link) (x : Drivers) (y : Sys
         let e = y.sending in
         link (sending e.sender e.persisted e.named (e.arrived ++ brought g u y.back) e.history) y.receiving y.forward (line_past g u y.back)
 
-    answers_run : u ≤ length y.back.bytes → run_of every l y (repeated u senderReads) ≡ read_end
+    answers_run : u ≤ length y.back.bytes → run_of every l y (repeated u sender_reads) ≡ read_end
     answers_run most =
         let e = y.sending in
         let b = y.back in
-        ap (λ (n : ℕ). run_of every l y (repeated n senderReads)) (sym (length-take-le u b.bytes most))
-        ∙ ap (λ (bs : List ℕ). run_of every l (link e y.receiving y.forward (line b.reader bs)) (repeated (length (take u b.bytes)) senderReads)) (sym (take-append-drop u b.bytes))
+        ap (λ (n : ℕ). run_of every l y (repeated n sender_reads)) (sym (length-take-le u b.bytes most))
+        ∙ ap (λ (bs : List ℕ). run_of every l (link e y.receiving y.forward (line b.reader bs)) (repeated (length (take u b.bytes)) sender_reads)) (sym (take-append-drop u b.bytes))
         ∙ answers_repeated l (take u b.bytes) (drop u b.bytes) b.reader e y.receiving y.forward
 
   module _ (n : ℕ) where
@@ -259,7 +259,7 @@ module _ (k : Passed) (ag : Agrees k) (rd : Ready k.link) (x : Drivers) (y : Sys
     pub reads_goes : Goes l (acts_of k (reads n) x) (after_driver k (reads n) x) y
     reads_goes = go (eqb reading.number 0) refl
       where
-        go : (b : Bool) → eqb reading.number 0 ≡ b → Goes l (cond b (repeated used senderReads) []) (cond b read_by x) y
+        go : (b : Bool) → eqb reading.number 0 ≡ b → Goes l (cond b (repeated used sender_reads) []) (cond b read_by x) y
         go false e = stays l x y h
         go true e =
             let t = read_took g (settings_valid k ag rd) x.sender.memory.reader x.back h.sender.reader n (made_from k.numbers) ag.settings e in
@@ -270,30 +270,30 @@ module _ (k : Passed) (ag : Agrees k) (rd : Ready k.link) (x : Drivers) (y : Sys
             }
 
   -- ---- acting on a verdict
-  pub takes_goes : (n : ℕ) → Goes l (senderActs n ∷ []) (after_driver k (takes n) x) y
+  pub takes_goes : (n : ℕ) → Goes l (sender_acts n ∷ []) (after_driver k (takes n) x) y
   takes_goes n = go (one_at n x.sender.arrived) (one_at n y.sending.arrived) refl (each_one n h.sender.arrived)
     where
-      by : (vs : List Judged) → one_at n y.sending.arrived ≡ vs → after_act every l (senderActs n) y ≡ answer_taken l y vs (others_at n y.sending.arrived)
+      by : (vs : List Judged) → one_at n y.sending.arrived ≡ vs → after_act every l (sender_acts n) y ≡ answer_taken l y vs (others_at n y.sending.arrived)
       by vs e = ap (λ (us : List Judged). answer_taken l y us (others_at n y.sending.arrived)) e
 
-      go : (ws : List Shown) (vs : List Judged) → one_at n y.sending.arrived ≡ vs → Each (SameVerdict g) ws vs → Goes l (senderActs n ∷ []) (verdict_taken k x ws (others_at n x.sender.arrived)) y
-      go [] vs e each_none = by_act l x y (senderActs n) (subst (Shows l x) (sym (by [] e)) h)
+      go : (ws : List Shown) (vs : List Judged) → one_at n y.sending.arrived ≡ vs → Each (SameVerdict g) ws vs → Goes l (sender_acts n ∷ []) (verdict_taken k x ws (others_at n x.sender.arrived)) y
+      go [] vs e each_none = by_act l x y (sender_acts n) (subst (Shows l x) (sym (by [] e)) h)
       go (w ∷ ws) [] e i = elim i [ ]
       go (w ∷ ws) (v ∷ vs) e (each_more p ps) =
           let s = y.sending.sender in
           let st = x.sender.memory.state in
           let r = x.sender.memory.report in
           let a = block_read_of l.resends s v.verdict v.content in
-          by_act l (verdict_taken k x (w ∷ ws) (others_at n x.sender.arrived)) y (senderActs n)
+          by_act l (verdict_taken k x (w ∷ ws) (others_at n x.sender.arrived)) y (sender_acts n)
           (subst (λ (z : System). Shows l (verdict_taken k x (w ∷ ws) (others_at n x.sender.arrived)) z) (sym (by (v ∷ vs) e))
           (subst (λ (z : Shown). Shows l (by_sender x (others_at n x.sender.arrived) (block_call l.resends z.number z.type z.content st r)) (sender_acted y (others_at n y.sending.arrived) a)) (sym p.is)
           (by_call k ag rd x y i h a (block_call l.resends (shown g v).number (shown g v).type v.content st r) (others_at n x.sender.arrived) (others_at n y.sending.arrived)
           (block_does s i.ends.valid st r h.sender.state h.sender.report l.resends rd.resends v.verdict v.content p.given)
           (each_others n h.sender.arrived))))
 
-  pub drops_goes : (n : ℕ) → Goes l (senderDiscards n ∷ []) (after_driver k (drops n) x) y
+  pub drops_goes : (n : ℕ) → Goes l (sender_discards n ∷ []) (after_driver k (drops n) x) y
   drops_goes n =
-      by_act l (after_driver k (drops n) x) y (senderDiscards n)
+      by_act l (after_driver k (drops n) x) y (sender_discards n)
       (record {
         sender = record {
           state = h.sender.state;
@@ -338,14 +338,14 @@ module _ (k : Passed) (ag : Agrees k) (rd : Ready k.link) (x : Drivers) (y : Sys
   crashes_goes m = go (enough_to_send g m) refl
     where
       go : (b : Bool) → enough_to_send g m ≡ b
-          → Goes l (once b senderCrashes) (cond b (drivers (sender_end (sender_memory (over m.state (x.sender.stored ++ 0 ∷ 0 ∷ [])) m.report (fresh_reader m.reader) m.block m.written) x.sender.stored [] [] (restarted ∷ x.sender.reports)) x.receiver
+          → Goes l (once b sender_crashes) (cond b (drivers (sender_end (sender_memory (over m.state (x.sender.stored ++ 0 ∷ 0 ∷ [])) m.report (fresh_reader m.reader) m.block m.written) x.sender.stored [] [] (restarted ∷ x.sender.reports)) x.receiver
           (line x.forward.reader []) empty_line) x) y
       go false e = stays l x y h
       go true e =
           let states = leb 7 (length m.state) in
           let reports = leb 8 (length m.report) in
           let rest = and_right states (reports && enough_to_read g m.reader) e in
-          by_act l _ y senderCrashes
+          by_act l _ y sender_crashes
           (record {
             sender = record {
               state = restored k ag rd x y i h m.state (leb-true 7 (length m.state) (and_left states (reports && enough_to_read g m.reader) e));

@@ -2,8 +2,8 @@
 use Rattle.std.specs.Prelude.{List, [], ◌∷◌, Bool, true, false, ◌&&◌}
 use Rattle.link.specs.Line.{empty_line}
 use Rattle.call_theorems.specs.Driver.{Passed, ReaderMemory, SenderEnd, ReceiverEnd, Drivers, drivers, receiver_memory, receiver_end, fresh_reader, after_driver, driven_by}
-use Rattle.call_theorems.specs.Driver.{DriverAct, opens, ends, resets, timer, submits, stores, restores, receiverStores, receiverRestores, replies, sends, forgets, reads, takes, drops}
-use Rattle.call_theorems.specs.Driver.{receiverReads, receiverDrops, decides, answers, naks, replaces, receiver_replaces, tries, crashes, receiver_crashes, damagesForward, damagesBack}
+use Rattle.call_theorems.specs.Driver.{DriverAct, opens, ends, resets, timer, submits, stores, restores, receiver_stores, receiver_restores, replies, sends, forgets, reads, takes, drops}
+use Rattle.call_theorems.specs.Driver.{receiver_reads, receiver_drops, decides, answers, naks, replaces, receiver_replaces, tries, crashes, receiver_crashes, damages_forward, damages_back}
 
 -- what the sender's driver does by itself on a circuit, and what happens on its lines
 abbrev pub of_sender : DriverAct → Bool
@@ -20,14 +20,14 @@ of_sender (takes n) = true
 of_sender (drops n) = true
 of_sender (replaces p v b w) = true
 of_sender (crashes m) = true
-of_sender (damagesForward xs) = true
-of_sender (damagesBack xs) = true
+of_sender (damages_forward xs) = true
+of_sender (damages_back xs) = true
 of_sender (opens r q) = false
-of_sender receiverStores = false
-of_sender receiverRestores = false
+of_sender receiver_stores = false
+of_sender receiver_restores = false
 of_sender replies = false
-of_sender (receiverReads n) = false
-of_sender (receiverDrops n) = false
+of_sender (receiver_reads n) = false
+of_sender (receiver_drops n) = false
 of_sender (decides a) = false
 of_sender (answers b start) = false
 of_sender (naks n start) = false
@@ -37,19 +37,19 @@ of_sender (receiver_crashes m) = false
 
 -- and the receiver's
 abbrev pub of_receiver : DriverAct → Bool
-of_receiver receiverStores = true
-of_receiver receiverRestores = true
+of_receiver receiver_stores = true
+of_receiver receiver_restores = true
 of_receiver replies = true
-of_receiver (receiverReads n) = true
-of_receiver (receiverDrops n) = true
+of_receiver (receiver_reads n) = true
+of_receiver (receiver_drops n) = true
 of_receiver (decides a) = true
 of_receiver (answers b start) = true
 of_receiver (naks n start) = true
 of_receiver (receiver_replaces d p v b) = true
 of_receiver (tries a) = true
 of_receiver (receiver_crashes m) = true
-of_receiver (damagesForward xs) = true
-of_receiver (damagesBack xs) = true
+of_receiver (damages_forward xs) = true
+of_receiver (damages_back xs) = true
 of_receiver (opens r q) = false
 of_receiver ends = false
 of_receiver resets = false

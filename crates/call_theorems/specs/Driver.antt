@@ -366,10 +366,10 @@ pub data DriverAct : Type 0 where
   opens : ReaderMemory → ReaderMemory → DriverAct
   ends resets timer : DriverAct
   submits : ℕ → List ℕ → DriverAct
-  stores restores receiverStores receiverRestores replies : DriverAct
+  stores restores receiver_stores receiver_restores replies : DriverAct
   -- at an offset of the buffer for blocks; which message named; at most so many bytes; which verdict
   sends forgets reads takes drops : ℕ → DriverAct
-  receiverReads receiverDrops : ℕ → DriverAct
+  receiver_reads receiver_drops : ℕ → DriverAct
   -- the application's verdict; stored or not, and the answer's offset; the number of a refused block, and the reply's offset
   decides : ℕ → DriverAct
   answers : Bool → ℕ → DriverAct
@@ -382,7 +382,7 @@ pub data DriverAct : Type 0 where
   -- the memory is new, of any content
   crashes : SenderMemory → DriverAct
   receiver_crashes : ReceiverMemory → DriverAct
-  damagesForward damagesBack : List ℕ → DriverAct
+  damages_forward damages_back : List ℕ → DriverAct
 
 -- memory that is too short for the act is none: then it is not done
 abbrev pub after_driver : Passed → DriverAct → Drivers → Drivers
@@ -418,17 +418,17 @@ after_driver k (crashes m) x =
     cond (enough_to_send k.link.settings m)
     (drivers (sender_end (sender_memory (restored_words e m.state) m.report (fresh_reader m.reader) m.block m.written) e.stored [] [] (restarted ∷ e.reports)) x.receiver
     (line x.forward.reader []) empty_line) x
-after_driver k (receiverReads n) x = request_read k x (read_bytes k.numbers n x.receiver.memory.reader x.forward)
+after_driver k (receiver_reads n) x = request_read k x (read_bytes k.numbers n x.receiver.memory.reader x.forward)
 after_driver k (decides application) x = oldest_decided application x x.receiver.arrived
 after_driver k (answers success start) x = answered_by x success start (answer_on k success start x.receiver.memory)
 after_driver k (naks number start) x = nakked_by x start (nak_on k number start x.receiver.memory)
-after_driver k (receiverDrops n) x =
+after_driver k (receiver_drops n) x =
     let e = x.receiver in
     drivers x.sender (receiver_end e.memory e.stored e.stored_has e.noted e.reports e.pending (others_at n e.arrived)) x.forward x.back
-after_driver k receiverStores x = decision_stored x
+after_driver k receiver_stores x = decision_stored x
 after_driver k replies x = reply_sent x x.receiver.pending
 -- it cannot be told whether it was stored: the driver reports nothing, and goes on from what is stored, on the same circuit
-after_driver k receiverRestores x =
+after_driver k receiver_restores x =
     let e = x.receiver in
     let m = x.receiver.memory in
     drivers x.sender (receiver_end (receiver_memory (restored_receiver e m.state) m.decision m.report m.reader m.reply) e.stored e.stored_has nothing_noted false e.pending e.arrived)
@@ -449,8 +449,8 @@ after_driver k (receiver_replaces d p v b) x =
     cond (leb 5 (length d) && (leb 2 (length p) && leb 8 (length v)))
     (drivers x.sender (receiver_end (receiver_memory m.state d p (with_verdict v m.reader) b) e.stored e.stored_has e.noted e.reports e.pending e.arrived) x.forward x.back) x
 after_driver k (tries application) x = oldest_tried application x x.receiver.arrived
-after_driver k (damagesForward xs) x = cond (damages k.link.settings x.forward xs) (drivers x.sender x.receiver (line x.forward.reader xs) x.back) x
-after_driver k (damagesBack xs) x = cond (disorders k.link.settings x.back xs) (drivers x.sender x.receiver x.forward (line x.back.reader xs)) x
+after_driver k (damages_forward xs) x = cond (damages k.link.settings x.forward xs) (drivers x.sender x.receiver (line x.forward.reader xs) x.back) x
+after_driver k (damages_back xs) x = cond (disorders k.link.settings x.back xs) (drivers x.sender x.receiver x.forward (line x.back.reader xs)) x
 
 -- a run, the newest act first
 unfoldable pub driven_by : Passed → Drivers → List DriverAct → Drivers

@@ -5,13 +5,13 @@ use Rattle.lists.specs.Outcome.{Called}
 use Rattle.receiver_calls.specs.ReceiverCalls.{application_from, is_type}
 use Rattle.receiver_calls.specs.declared.ApplicationMade.{ApplicationMade}
 use Rattle.receiver_calls.specs.declared.ApplicationMade.TheVariants.{Unknown, Known}
-use Rattle.link.specs.System.{SystemAct, opens as linkOpens, ends as linkEnds, resets as linkResets, timer as linkTimer, submits as linkSubmits, senderPersists, senderWrites, senderForgets, senderReads}
-use Rattle.link.specs.System.{senderActs, senderDiscards, senderRestores, senderCrashes, receiverReads as linkReceiverReads, receiver_decides, receiver_reports, receiver_naks, receiverDiscards, receiverPersists, receiverWrites}
-use Rattle.link.specs.System.{receiverRestores as linkReceiverRestores, receiver_crashes as linkReceiverCrashes, damagesForward as linkDamagesForward, damagesBack as linkDamagesBack}
+use Rattle.link.specs.System.{SystemAct, opens as link_opens, ends as link_ends, resets as link_resets, timer as link_timer, submits as link_submits, sender_persists, sender_writes, sender_forgets, sender_reads}
+use Rattle.link.specs.System.{sender_acts, sender_discards, sender_restores, sender_crashes, receiver_reads as link_receiver_reads, receiver_decides, receiver_reports, receiver_naks, receiver_discards, receiver_persists, receiver_writes}
+use Rattle.link.specs.System.{receiver_restores as link_receiver_restores, receiver_crashes as link_receiver_crashes, damages_forward as link_damages_forward, damages_back as link_damages_back}
 use Rattle.call_theorems.specs.Reading.{Shown, used_bytes}
 use Rattle.call_theorems.specs.Driver.{Passed, Named, Drivers, DriverAct, read_bytes, block_of_named, enough_to_read, enough_to_send, enough_to_receive, driven_by}
-use Rattle.call_theorems.specs.Driver.{opens, ends, resets, timer, submits, stores, restores, receiverStores, receiverRestores, replies, sends, forgets, reads, takes, drops, receiverReads, receiverDrops}
-use Rattle.call_theorems.specs.Driver.{decides, answers, naks, replaces, receiver_replaces, tries, crashes, receiver_crashes, damagesForward, damagesBack}
+use Rattle.call_theorems.specs.Driver.{opens, ends, resets, timer, submits, stores, restores, receiver_stores, receiver_restores, replies, sends, forgets, reads, takes, drops, receiver_reads, receiver_drops}
+use Rattle.call_theorems.specs.Driver.{decides, answers, naks, replaces, receiver_replaces, tries, crashes, receiver_crashes, damages_forward, damages_back}
 
 unfoldable pub repeated : ℕ → SystemAct → List SystemAct
 repeated zero a = []
@@ -36,34 +36,34 @@ decides_on (Known a) [] = []
 decides_on (Known a) (w ∷ ws) = once (eqb w.number 0 && is_type w.type) (receiver_decides 0 a)
 
 abbrev pub acts_of : Passed → DriverAct → Drivers → List SystemAct
-acts_of k (opens r q) x = once (enough_to_read k.link.settings r && enough_to_read k.link.settings q) linkOpens
-acts_of k ends x = linkEnds ∷ []
-acts_of k resets x = linkResets ∷ []
-acts_of k timer x = linkTimer ∷ []
-acts_of k (submits limit d) x = linkSubmits limit d ∷ []
-acts_of k stores x = senderPersists ∷ []
-acts_of k restores x = senderRestores ∷ []
-acts_of k (sends start) x = once (goes_out k start x x.sender.named) (senderWrites 0)
-acts_of k (forgets n) x = senderForgets n ∷ []
-acts_of k (reads n) x = readings (read_bytes k.numbers n x.sender.memory.reader x.back) senderReads
-acts_of k (takes n) x = senderActs n ∷ []
-acts_of k (drops n) x = senderDiscards n ∷ []
-acts_of k (crashes m) x = once (enough_to_send k.link.settings m) senderCrashes
-acts_of k (receiverReads n) x = readings (read_bytes k.numbers n x.receiver.memory.reader x.forward) linkReceiverReads
+acts_of k (opens r q) x = once (enough_to_read k.link.settings r && enough_to_read k.link.settings q) link_opens
+acts_of k ends x = link_ends ∷ []
+acts_of k resets x = link_resets ∷ []
+acts_of k timer x = link_timer ∷ []
+acts_of k (submits limit d) x = link_submits limit d ∷ []
+acts_of k stores x = sender_persists ∷ []
+acts_of k restores x = sender_restores ∷ []
+acts_of k (sends start) x = once (goes_out k start x x.sender.named) (sender_writes 0)
+acts_of k (forgets n) x = sender_forgets n ∷ []
+acts_of k (reads n) x = readings (read_bytes k.numbers n x.sender.memory.reader x.back) sender_reads
+acts_of k (takes n) x = sender_acts n ∷ []
+acts_of k (drops n) x = sender_discards n ∷ []
+acts_of k (crashes m) x = once (enough_to_send k.link.settings m) sender_crashes
+acts_of k (receiver_reads n) x = readings (read_bytes k.numbers n x.receiver.memory.reader x.forward) link_receiver_reads
 acts_of k (decides application) x = decides_on (application_from application) x.receiver.arrived
 acts_of k (answers success start) x = receiver_reports success start x.receiver.memory.reply ∷ []
 acts_of k (naks number start) x = receiver_naks number start x.receiver.memory.reply ∷ []
-acts_of k (receiverDrops n) x = receiverDiscards n ∷ []
-acts_of k receiverStores x = receiverPersists ∷ []
-acts_of k replies x = receiverWrites ∷ []
-acts_of k receiverRestores x = linkReceiverRestores ∷ []
-acts_of k (receiver_crashes m) x = once (enough_to_receive k.link.settings m) linkReceiverCrashes
+acts_of k (receiver_drops n) x = receiver_discards n ∷ []
+acts_of k receiver_stores x = receiver_persists ∷ []
+acts_of k replies x = receiver_writes ∷ []
+acts_of k receiver_restores x = link_receiver_restores ∷ []
+acts_of k (receiver_crashes m) x = once (enough_to_receive k.link.settings m) link_receiver_crashes
 -- only memory changes
 acts_of k (replaces p v b w) x = []
 acts_of k (receiver_replaces d p v b) x = []
 acts_of k (tries application) x = []
-acts_of k (damagesForward xs) x = linkDamagesForward xs ∷ []
-acts_of k (damagesBack xs) x = linkDamagesBack xs ∷ []
+acts_of k (damages_forward xs) x = link_damages_forward xs ∷ []
+acts_of k (damages_back xs) x = link_damages_back xs ∷ []
 
 -- the run of the link that a run of the drivers is
 unfoldable pub link_run : Passed → Drivers → List DriverAct → List SystemAct

@@ -1,7 +1,7 @@
 // The X3.28 sending station, the master.
 ghost use Rattle.std.specs.Prelude.{◌≡◌, []};
 ghost use Rattle.lists.specs.Outcome.{called};
-ghost use Rattle.master.specs.MasterCalls.{fresh_master_call, open_master_call, start_call, master_reply_call, timer_aCall, close_call, enquire_call, may_receive_call};
+ghost use Rattle.master.specs.MasterCalls.{fresh_master_call, open_master_call, start_call, master_reply_call, timer_a_call, close_call, enquire_call, may_receive_call};
 
 // A master before its first opening.
 #[unsafe(no_mangle)]
@@ -48,7 +48,7 @@ pub extern "C" fn gmv_master_reply(
 // Timer A ran out.
 #[unsafe(no_mangle)]
 pub extern "C" fn gmv_master_timer(state: &mut [u64], report: &mut [u64]) -> u64
-    ensures { called result state.new [] report.new ≡ timer_aCall state.old report.old }
+    ensures { called result state.new [] report.new ≡ timer_a_call state.old report.old }
 {
     master_calls::timer_words(state, report)
 }

@@ -43,8 +43,8 @@ use Rattle.link.specs.SenderActs.{Act, opened, ended, reset, timer, submit, act_
 use Rattle.link.specs.Line.{Line, line, reads_byte, Arrival, arrival, accepted_of, arriving, damages, disorders}
 use Rattle.link.specs.System.{Link, System, beginning, sending, receiving, link, request_of, sender_acted, new_circuit, circuit_opened, same_flag, stored_by, to_persist, replies_of}
 use Rattle.link.specs.System.{same_persisted, request_written, sender_read, answer_taken, request_taken, nak_taken, receiver_read, receiver_persisted, reported_end, reply_written, after_act}
-use Rattle.link.specs.System.{senderPersists, senderForgets, senderRestores, senderCrashes, senderDiscards, receiverPersists, receiver_reports, receiver_naks, receiverRestores, receiver_crashes, receiverDiscards}
-use Rattle.link.specs.System.{damagesForward, damagesBack}
+use Rattle.link.specs.System.{sender_persists, sender_forgets, sender_restores, sender_crashes, sender_discards, receiver_persists, receiver_reports, receiver_naks, receiver_restores, receiver_crashes, receiver_discards}
+use Rattle.link.specs.System.{damages_forward, damages_back}
 use Rattle.link.specs.Promise.{Ready, transactions}
 use Rattle.link.proofs.Queues.{All, none, all_head, all_right, sub-all, sub_none, sub_behind, sub_others, sub_among, among_both, nobody, good_none, Each, each_none, each_end, each_front, each_sub, each_among}
 use Rattle.link.proofs.Queues.{Front, front, Some, some, Others, others, Answer, replies, refuses, side}
@@ -55,7 +55,7 @@ use Rattle.link.proofs.Sending.{After, submits as submits-after, ended as ended-
 use Rattle.link.proofs.Messages.{IsRequest, IsReply, IsBlock, Nameable, request_writable, request_is, answer_block_lem, nak_block_lem}
 use Rattle.link.proofs.AnswersRead.{timer_runs}
 use Rattle.link.proofs.Arrivals.{others_sub, read_same, lost_line, among_line, some_sub, each_of_lem}
-use Rattle.link.proofs.Invariant.{ends_of, Reach, transit, books_of, requests_to, answers_to, Sayable, Opening, none_open, to_store_lem, to_report, opening_as, opening_names, Inv, sender_acts, answer_one}
+use Rattle.link.proofs.Invariant.{ends_of, Reach, transit, books_of, requests_to, answers_to, Sayable, Opening, none_open, to_store_lem, to_report, opening_as, opening_names, Inv, sender_acts_lem, answer_one}
 use Rattle.link.proofs.Receiving.{closed-valid, answer_short, answer_is}
 use Rattle.link.proofs.RequestsRead.{all_nameable, reply_is, request_one}
 use Rattle.link.proofs.Bytes.{arriving_block}
@@ -126,7 +126,7 @@ module _ (l : Link) (rd : Ready l) where
   module _ (y : System) (i : Inv l y) where
     -- ---- the driver's and the operator's acts on the sender
     by_act : (a : Acted) → After l.first (books_of l y i.way) a → valid_sender a.sender ≡ true → Inv l (sender_acted y y.sending.arrived a)
-    by_act a c v = sender_acts l y i y.sending.arrived i.way.back a c v i.back
+    by_act a c v = sender_acts_lem l y i y.sending.arrived i.way.back a c v i.back
 
     act_keeps : (a : Act) → After l.first (books_of l y i.way) (act_of a y.sending.sender) → Inv l (sender_acted y y.sending.arrived (act_of a y.sending.sender))
     act_keeps a c = by_act (act_of a y.sending.sender) c (act_valid a y.sending.sender i.ends.valid)
@@ -183,7 +183,7 @@ module _ (l : Link) (rd : Ready l) where
     opens_keeps = opens_test (act_valid opened y.sending.sender i.ends.valid)
 
     -- ---- persisting
-    pub sender_persists_keeps : Inv l (after_act every l senderPersists y)
+    pub sender_persists_keeps : Inv l (after_act every l sender_persists y)
     sender_persists_keeps =
         record {
           way = i.way;
@@ -229,13 +229,13 @@ module _ (l : Link) (rd : Ready l) where
     store_open os e (to_report n r a b s x h) z =
         not_both (sym (and_right (not (is_closed y.receiving.receiver.decision)) (not y.receiving.reports) z) ∙ ap not b)
 
-    pub receiver_persists_keeps : Inv l (after_act every l receiverPersists y)
+    pub receiver_persists_keeps : Inv l (after_act every l receiver_persists y)
     receiver_persists_keeps =
         let e = y.receiving in
         cond_ind (Inv l) (not (is_closed e.receiver.decision) && not e.reports) _ _ (store_open i.way.opening refl i.opening) (λ z. i)
 
     -- ---- storing fails, and the end goes on from what is persisted
-    pub sender_restores_keeps : Inv l (after_act every l senderRestores y)
+    pub sender_restores_keeps : Inv l (after_act every l sender_restores y)
     sender_restores_keeps =
         record {
           way = i.way;
@@ -247,7 +247,7 @@ module _ (l : Link) (rd : Ready l) where
           pending = i.pending;
         }
 
-    pub sender_forgets_keeps : (n : ℕ) → Inv l (after_act every l (senderForgets n) y)
+    pub sender_forgets_keeps : (n : ℕ) → Inv l (after_act every l (sender_forgets n) y)
     sender_forgets_keeps n =
         record { way = i.way; core = forget_named i.core (sub_others n y.sending.named); ends = i.ends; opening = i.opening; forward = i.forward; back = i.back; pending = i.pending }
 
@@ -417,7 +417,7 @@ module _ (l : Link) (rd : Ready l) where
         (λ q. cond_ind (Nakked start) (valid_receiver s && is_closed s.decision) _ _ (λ t. nak_given n start b q) (λ t. i)) (λ q. i)) (λ p. i)
 
     -- ---- the receiver goes on from what is persisted
-    pub receiver_restores_keeps : Inv l (after_act every l receiverRestores y)
+    pub receiver_restores_keeps : Inv l (after_act every l receiver_restores y)
     receiver_restores_keeps =
         let m = i.way.persisted in
         record {
@@ -431,11 +431,11 @@ module _ (l : Link) (rd : Ready l) where
         }
 
     -- ---- crashes
-    pub sender_crashes_keeps : Inv l (after_act every l senderCrashes y)
+    pub sender_crashes_keeps : Inv l (after_act every l sender_crashes y)
     unfolding accepted_of run
     sender_crashes_keeps = go (each_sub (lost_line (accepted_of y.receiving.arrived) (arriving l.settings y.forward)) i.forward)
       where
-        go : Some (IsRequest l) (accepted_of y.receiving.arrived ++ []) i.way.forward → Inv l (after_act every l senderCrashes y)
+        go : Some (IsRequest l) (accepted_of y.receiving.arrived ++ []) i.way.forward → Inv l (after_act every l sender_crashes y)
         go (some zs s e) =
             record {
               way = transit zs [] i.way.pending i.way.opening i.way.volatile i.way.persisted;
@@ -492,21 +492,21 @@ module _ (l : Link) (rd : Ready l) where
         }
 
     -- a verdict is dropped
-    pub sender_discards_keeps : (n : ℕ) → Inv l (after_act every l (senderDiscards n) y)
+    pub sender_discards_keeps : (n : ℕ) → Inv l (after_act every l (sender_discards n) y)
     sender_discards_keeps n = less_back (others_at n y.sending.arrived) y.back (each_among (sub_among (others_sub n y.sending.arrived (arriving l.settings y.back))) i.back)
 
-    pub receiver_discards_keeps : (n : ℕ) → Inv l (after_act every l (receiverDiscards n) y)
+    pub receiver_discards_keeps : (n : ℕ) → Inv l (after_act every l (receiver_discards n) y)
     receiver_discards_keeps n = less_forward (others_at n y.receiving.arrived) y.forward (each_sub (others_sub n y.receiving.arrived (arriving l.settings y.forward)) i.forward)
 
     -- loss, damage and disorder
-    pub damages_forward_keeps : (b : List ℕ) → Inv l (after_act every l (damagesForward b) y)
+    pub damages_forward_keeps : (b : List ℕ) → Inv l (after_act every l (damages_forward b) y)
     damages_forward_keeps b =
         let new = line y.forward.reader b in
         let ws = accepted_of y.receiving.arrived in
         cond_ind (Inv l) (damages l.settings y.forward b) _ _
         (λ z. less_forward y.receiving.arrived new (each_sub (sub_behind ws (some_sub (arriving l.settings new) (arriving l.settings y.forward) z)) i.forward)) (λ z. i)
 
-    pub damages_back_keeps : (b : List ℕ) → Inv l (after_act every l (damagesBack b) y)
+    pub damages_back_keeps : (b : List ℕ) → Inv l (after_act every l (damages_back b) y)
     damages_back_keeps b =
         let new = line y.back.reader b in
         let ws = accepted_of y.sending.arrived in

@@ -13,7 +13,7 @@ use Rattle.link.specs.SenderActs.{after_crash}
 use Rattle.link.specs.SenderHistory.{crashed}
 use Rattle.link.specs.Line.{Reader, Line, line, empty_line, Arrival, arrival, arriving, same_arrival, some_of, one_of, each_of, damages, disorders}
 use Rattle.receiver.specs.Receiver.{closed}
-use Rattle.link.specs.System.{Link, System, sending, receiving, link, senderCrashes, receiver_crashes, damagesForward, damagesBack, after_act}
+use Rattle.link.specs.System.{Link, System, sending, receiving, link, sender_crashes, receiver_crashes, damages_forward, damages_back, after_act}
 use Rattle.link.proofs.Queues.{All, none, more, all-sub, all_among, Sub, empty, skip, keep, In, here, there, Among, nobody, one}
 use Rattle.link.proofs.Bytes.{arriving_block}
 
@@ -129,7 +129,7 @@ module _ (l : Link) (y : System) (xs : List ℕ) (bs cs : List Arrival) (fit : A
 
   -- of the requests on the line, behind any bytes, any may be lost: one, or several
   pub loses_requests : y.forward.bytes ≡ xs ++ blocks_of l.settings bs → Sub cs bs
-      → after_act every l (damagesForward (xs ++ blocks_of l.settings cs)) y
+      → after_act every l (damages_forward (xs ++ blocks_of l.settings cs)) y
       ≡ link y.sending y.receiving (line y.forward.reader (xs ++ blocks_of l.settings cs)) y.back
   loses_requests e s = ap (λ (b : Bool). cond b (link y.sending y.receiving (line y.forward.reader (xs ++ blocks_of l.settings cs)) y.back) y) lost
     where
@@ -145,7 +145,7 @@ module _ (l : Link) (y : System) (xs : List ℕ) (bs cs : List Arrival) (fit : A
 
   -- and of the answers any may be lost, come in another order, and come again
   pub disorders_answers : y.back.bytes ≡ xs ++ blocks_of l.settings bs → Among cs bs
-      → after_act every l (damagesBack (xs ++ blocks_of l.settings cs)) y
+      → after_act every l (damages_back (xs ++ blocks_of l.settings cs)) y
       ≡ link y.sending y.receiving y.forward (line y.back.reader (xs ++ blocks_of l.settings cs))
   disorders_answers e s = ap (λ (b : Bool). cond b (link y.sending y.receiving y.forward (line y.back.reader (xs ++ blocks_of l.settings cs))) y) other
     where
@@ -165,6 +165,6 @@ module _ (l : Link) (y : System) where
       ≡ link y.sending (receiving (closed y.receiving.persisted.expected) y.receiving.persisted [] false [] []) empty_line (line y.back.reader [])
   receiver_crash_leaves = refl
 
-  pub sender_crash_leaves : after_act every l senderCrashes y
+  pub sender_crash_leaves : after_act every l sender_crashes y
       ≡ link (sending (after_crash y.sending.persisted) y.sending.persisted [] [] (crashed ∷ y.sending.history)) y.receiving (line y.forward.reader []) empty_line
   sender_crash_leaves = refl

@@ -30,7 +30,7 @@ use Rattle.sender.specs.declared.Acted.{Acted}
 use Rattle.link.specs.SenderActs.{sender_at}
 use Rattle.link.specs.Duties.{every, one_at, others_at}
 use Rattle.link.specs.Line.{arrival, accepts, arriving}
-use Rattle.link.specs.System.{Link, System, Remains, beginning, answer_taken, SystemAct, senderActs, run_of}
+use Rattle.link.specs.System.{Link, System, Remains, beginning, answer_taken, SystemAct, sender_acts, run_of}
 use Rattle.link.specs.Promise.{Ready, OnlyAnswers}
 use Rattle.link.proofs.Queues.{all_in_lem, all_left, each_in, Found, found, replies, refuses, Given, ToNumber, to_zero, to_stored, to_repeat}
 use Rattle.link.proofs.Texts.{text_is}
@@ -90,7 +90,7 @@ module _ (l : Link) (rd : Ready l) (remains : Remains) (only : OnlyAnswers remai
         ∙ ap (λ (k : Waiting). delivered_after (answered (sender_at s.persisted k s.sends) k c m)) waits
         ∙ moved s.persisted (l.first + i.way.persisted.count) c m (subst (λ (k : SequenceNumber). Given (books_of l now i.way).stored (replies k c m)) same given)
 
-    pub answer_moves : (run_of every l (beginning every l e remains) (senderActs k ∷ ds)).sending.sender.persisted.delivered ≡ reached + 1
+    pub answer_moves : (run_of every l (beginning every l e remains) (sender_acts k ∷ ds)).sending.sender.persisted.delivered ≡ reached + 1
     unfolding run_of
     answer_moves =
         ap (λ (ws : List Judged). (answer_taken l now ws (others_at k now.sending.arrived)).sending.sender.persisted.delivered) arrived

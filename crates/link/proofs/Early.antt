@@ -21,7 +21,7 @@ use Rattle.header.specs.declared.Header.TheVariants.{Unreadable, Readable}
 use Rattle.stream.specs.Stream.{Judged, run}
 use Rattle.refusal.specs.declared.Verdict.{Verdict}
 use Rattle.refusal.specs.declared.Verdict.TheVariants.{Accepted, Refused}
-use Rattle.receiver.specs.Receiver.{valid_expected, closed as closedReceiver, is_closed, decide_of, answer_of, nak_of}
+use Rattle.receiver.specs.Receiver.{valid_expected, closed as closed_receiver, is_closed, decide_of, answer_of, nak_of}
 use Rattle.receiver.specs.declared.Answered.{Answered}
 use Rattle.receiver.specs.declared.Application.{Application}
 use Rattle.receiver.specs.declared.Expected.{Expected}
@@ -37,15 +37,15 @@ use Rattle.link.specs.SenderActs.{after_crash}
 use Rattle.link.specs.Duties.{every, one_at, others_at}
 use Rattle.link.specs.Line.{Line, line, new_reader, empty_line, accepted_of, damages, disorders}
 use Rattle.link.specs.System.{Link, System, Remains, beginning, stored, sending, receiving, link, sender_acted, circuit_opened, request_written, sender_read, answer_taken}
-use Rattle.link.specs.System.{decided_end, verdict_decided, nak_taken, replies_of, receiver_persisted, to_persist, is_true, reported_end, receiver_read, request_taken, reply_written, SystemAct, opens, ends, resets, timer, submits, senderPersists, senderWrites, senderForgets, senderReads}
-use Rattle.link.specs.System.{senderActs, senderDiscards, senderRestores, senderCrashes, receiverReads, receiver_decides, receiver_reports, receiver_naks, receiverDiscards, receiverPersists, receiverWrites}
-use Rattle.link.specs.System.{receiverRestores, receiver_crashes, damagesForward, damagesBack, persistsNumber, persistsTransaction, landsLate, revertsTo, sender_reverts_to, bringsLate, bringsLateRequest, after_act}
+use Rattle.link.specs.System.{decided_end, verdict_decided, nak_taken, replies_of, receiver_persisted, to_persist, is_true, reported_end, receiver_read, request_taken, reply_written, SystemAct, opens, ends, resets, timer, submits, sender_persists, sender_writes, sender_forgets, sender_reads}
+use Rattle.link.specs.System.{sender_acts, sender_discards, sender_restores, sender_crashes, receiver_reads, receiver_decides, receiver_reports, receiver_naks, receiver_discards, receiver_persists, receiver_writes}
+use Rattle.link.specs.System.{receiver_restores, receiver_crashes, damages_forward, damages_back, persists_number, persists_transaction, lands_late, reverts_to, sender_reverts_to, brings_late, brings_late_request, after_act}
 use Rattle.link.specs.Promise.{Ready, OnlyAnswers}
 use Rattle.link.proofs.Facts.{not_both}
 use Rattle.link.proofs.Queues.{none, all_right, each_none}
 use Rattle.link.proofs.Books.{Waits, Queried, books, Core, queried_of, lines_with, waits_with}
 use Rattle.link.proofs.Naming.{quiet}
-use Rattle.link.proofs.Invariant.{Transit, transit, books_of, Ends, Opening, opening_as, Inv, sender_acts}
+use Rattle.link.proofs.Invariant.{Transit, transit, books_of, Ends, Opening, opening_as, Inv, sender_acts_lem}
 use Rattle.link.proofs.RequestsRead.{request_one}
 use Rattle.link.proofs.Acts.{start, opens_keeps, resets_keeps, submits_keeps, sender_persists_keeps, sender_forgets_keeps, sender_restores_keeps, sender_crashes_keeps, receiver_reads_keeps}
 use Rattle.link.proofs.Acts.{receiver_discards_keeps, receiver_persists_keeps, receiver_reports_keeps, receiver_naks_keeps, receiver_restores_keeps, receiver_crashes_keeps, damages_forward_keeps}
@@ -112,8 +112,8 @@ module _ (l : Link) (rd : Ready l) where
       let end = sending (after_crash p) p [] [] [] in
       record {
         closed = refl;
-        rest = subst (λ (xs : List ℕ). Inv l (link end (receiving (closedReceiver e) (stored e []) m.message false [] m.requests) (line new_reader xs) empty_line)) (sym only.forward)
-            (subst (λ (ws : List Judged). Inv l (link end (receiving (closedReceiver e) (stored e []) m.message false [] ws) empty_line empty_line)) (sym only.requests) (start l rd e v m.message));
+        rest = subst (λ (xs : List ℕ). Inv l (link end (receiving (closed_receiver e) (stored e []) m.message false [] m.requests) (line new_reader xs) empty_line)) (sym only.forward)
+            (subst (λ (ws : List Judged). Inv l (link end (receiving (closed_receiver e) (stored e []) m.message false [] ws) empty_line empty_line)) (sym only.requests) (start l rd e v m.message));
       }
 
   without_answers_lem : (y : System) → Inv l y → Inv l (without_answers y)
@@ -150,7 +150,7 @@ module _ (l : Link) (rd : Ready l) where
     still ws n k =
         let j = i.rest in
         let a : Acted = record { refusal = n; sender = s; send = Nothing; sends = k; event = NoEvent; block = 0; offset = 0 } in
-        early (sender_acted y ws a) i.closed (sender_acts l (without_answers y) j [] j.way.back a (quiet j.core) j.ends.valid j.back)
+        early (sender_acted y ws a) i.closed (sender_acts_lem l (without_answers y) j [] j.way.back a (quiet j.core) j.ends.valid j.back)
 
     off_circuit : (ws : List Judged) (a : Acted) → Early l (sender_acted y ws (cond (on_circuit s) a (no_state s)))
     off_circuit ws a =
@@ -209,7 +209,7 @@ module _ (l : Link) (rd : Ready l) where
     request_early a (w ∷ ws) e = decided_early a ws w.content w.verdict (request_one l rd a (without_answers y) i.rest w ws e)
 
     -- a decision is reported, and an N block given: its reply is pending, and is left out too
-    stored_early : Early l (after_act every l receiverPersists y)
+    stored_early : Early l (after_act every l receiver_persists y)
     stored_early =
         let e = y.receiving in
         let bare = without_answers y in
@@ -242,7 +242,7 @@ module _ (l : Link) (rd : Ready l) where
     reply_early [] = i
     reply_early (b ∷ bs) = early _ i.closed i.rest
 
-    damages_forward_early : (xs : List ℕ) → Early l (after_act every l (damagesForward xs) y)
+    damages_forward_early : (xs : List ℕ) → Early l (after_act every l (damages_forward xs) y)
     damages_forward_early xs =
         let bare = without_answers y in
         let then = link bare.sending bare.receiving (line y.forward.reader xs) bare.back in
@@ -251,7 +251,7 @@ module _ (l : Link) (rd : Ready l) where
         (subst (λ (k : Bool). Inv l (cond k then bare)) z (damages_forward_keeps l rd bare i.rest xs)))
         (λ z. i)
 
-    damages_back_early : (xs : List ℕ) → Early l (after_act every l (damagesBack xs) y)
+    damages_back_early : (xs : List ℕ) → Early l (after_act every l (damages_back xs) y)
     damages_back_early xs =
         cond_ind (Early l) (disorders l.settings y.back xs) _ _
         (λ z. early (link y.sending y.receiving y.forward (line y.back.reader xs)) i.closed i.rest) (λ z. i)
@@ -264,33 +264,33 @@ module _ (l : Link) (rd : Ready l) where
     early_acts timer = inl timer_early
     early_acts (submits limit d) =
         inl (early (after_act every l (submits limit d) y) (submit_closed s i.closed limit d) (submits_keeps l rd (without_answers y) i.rest limit d))
-    early_acts senderPersists = inl (early (after_act every l senderPersists y) i.closed (sender_persists_keeps l rd (without_answers y) i.rest))
-    early_acts senderReads = inl (answer_read_early y.back.bytes)
-    early_acts senderRestores = inl (early (after_act every l senderRestores y) refl (sender_restores_keeps l rd (without_answers y) i.rest))
-    early_acts senderCrashes = inl (early (after_act every l senderCrashes y) refl (sender_crashes_keeps l rd (without_answers y) i.rest))
-    early_acts receiverReads = inl (request_read_early y.forward.bytes refl)
-    early_acts receiverPersists = inl stored_early
-    early_acts receiverWrites = inl (reply_early y.receiving.pending)
-    early_acts receiverRestores = inl (early (after_act every l receiverRestores y) i.closed (receiver_restores_keeps l rd (without_answers y) i.rest))
+    early_acts sender_persists = inl (early (after_act every l sender_persists y) i.closed (sender_persists_keeps l rd (without_answers y) i.rest))
+    early_acts sender_reads = inl (answer_read_early y.back.bytes)
+    early_acts sender_restores = inl (early (after_act every l sender_restores y) refl (sender_restores_keeps l rd (without_answers y) i.rest))
+    early_acts sender_crashes = inl (early (after_act every l sender_crashes y) refl (sender_crashes_keeps l rd (without_answers y) i.rest))
+    early_acts receiver_reads = inl (request_read_early y.forward.bytes refl)
+    early_acts receiver_persists = inl stored_early
+    early_acts receiver_writes = inl (reply_early y.receiving.pending)
+    early_acts receiver_restores = inl (early (after_act every l receiver_restores y) i.closed (receiver_restores_keeps l rd (without_answers y) i.rest))
     early_acts receiver_crashes = inl (early (after_act every l receiver_crashes y) i.closed (receiver_crashes_keeps l rd (without_answers y) i.rest))
-    early_acts (senderWrites n) = inl (written_early y.sending.named refl)
-    early_acts (senderForgets n) = inl (early (after_act every l (senderForgets n) y) i.closed (sender_forgets_keeps l rd (without_answers y) i.rest n))
-    early_acts (senderActs n) = inl (answer_early (one_at n y.sending.arrived) (others_at n y.sending.arrived))
-    early_acts (senderDiscards n) = inl (early (after_act every l (senderDiscards n) y) i.closed i.rest)
-    early_acts (receiverDiscards n) = inl (early (after_act every l (receiverDiscards n) y) i.closed (receiver_discards_keeps l rd (without_answers y) i.rest n))
+    early_acts (sender_writes n) = inl (written_early y.sending.named refl)
+    early_acts (sender_forgets n) = inl (early (after_act every l (sender_forgets n) y) i.closed (sender_forgets_keeps l rd (without_answers y) i.rest n))
+    early_acts (sender_acts n) = inl (answer_early (one_at n y.sending.arrived) (others_at n y.sending.arrived))
+    early_acts (sender_discards n) = inl (early (after_act every l (sender_discards n) y) i.closed i.rest)
+    early_acts (receiver_discards n) = inl (early (after_act every l (receiver_discards n) y) i.closed (receiver_discards_keeps l rd (without_answers y) i.rest n))
     early_acts (receiver_decides n a) = inl (request_early a y.receiving.arrived refl)
     early_acts (receiver_reports success start b) = inl (reported_early success start b)
     early_acts (receiver_naks n start b) = inl (nak_early n start b)
-    early_acts (damagesForward b) = inl (damages_forward_early b)
-    early_acts (damagesBack b) = inl (damages_back_early b)
+    early_acts (damages_forward b) = inl (damages_forward_early b)
+    early_acts (damages_back b) = inl (damages_back_early b)
     -- a host that keeps its duties does none of these
-    early_acts persistsNumber = inl i
-    early_acts persistsTransaction = inl i
-    early_acts (landsLate p) = inl i
-    early_acts (revertsTo p) = inl i
+    early_acts persists_number = inl i
+    early_acts persists_transaction = inl i
+    early_acts (lands_late p) = inl i
+    early_acts (reverts_to p) = inl i
     early_acts (sender_reverts_to p) = inl i
-    early_acts (bringsLate b) = inl i
-    early_acts (bringsLateRequest b) = inl i
+    early_acts (brings_late b) = inl i
+    early_acts (brings_late_request b) = inl i
 
 -- ---- what holds before the first circuit and after it: the numbers, the stored transactions and the open decision
 pub record Standing (l : Link) (y : System) : Type 0 where

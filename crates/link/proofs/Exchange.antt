@@ -39,7 +39,7 @@ use Rattle.link.specs.SenderHistory.{Entry, reported}
 use Rattle.link.specs.Line.{Reader, Line, line, new_reader}
 use Rattle.link.specs.Duties.{every, one_at, others_at}
 use Rattle.link.specs.System.{Link, System, SendingEnd, Stored, stored, sending, ReceivingEnd, receiving, link, request_of, named_after, acted_end, same_flag, same_persisted}
-use Rattle.link.specs.System.{has_with, request_decided, reported_end, decision_reported, senderPersists, senderWrites, senderActs, receiver_decides, receiverPersists, receiver_reports, receiverWrites}
+use Rattle.link.specs.System.{has_with, request_decided, reported_end, decision_reported, sender_persists, sender_writes, sender_acts, receiver_decides, receiver_persists, receiver_reports, receiver_writes}
 use Rattle.link.specs.Promise.{Ready}
 use Rattle.link.proofs.Messages.{Nameable, SayableAnswer, request_reads, request_control, request_writable, answer_writable, data_read}
 use Rattle.link.proofs.Receiving.{decided, holding_valid, answer_is}
@@ -144,10 +144,10 @@ module _ (l : Link) (rd : Ready l) where
         (to l (read_answers l (block_of l.settings (code "D") answer) [] own.reader s s.persisted [] [] h e b)
         (ap (λ (ws : List Judged). link (heard ws h) e b end) (block_says answer answer_able own))))
         (join l
-        (to l (act l (senderActs 0) (link (heard (one ∷ []) h) e b end))
+        (to l (act l (sender_acts 0) (link (heard (one ∷ []) h) e b end))
         (ap (λ (z : Acted). link (acted_end (heard (one ∷ []) h) [] z) e b end)
         (read_own l.resends s answer v d m (answer_reads_back (text_of v) d m y.control y.number) rd.resends valid on names (length answer) ∙ takes)))
-        (act l senderPersists (link (acted_end (heard (one ∷ []) h) [] k) e b end)))
+        (act l sender_persists (link (acted_end (heard (one ∷ []) h) [] k) e b end)))
 
   -- the message v is named and all else is quiet: it is written, read, stored, and answered by the row that it meets; and the answer is taken
   module _ (a : Application) (s : Sender) (v : SequenceNumber) (valid : valid_sender s ≡ true) (on : is_open s.waiting ≡ true)
@@ -196,7 +196,7 @@ module _ (l : Link) (rd : Ready l) where
     unfolding one_at others_at
     step_1 =
         let z = quiet_at (sending_at s (v ∷ []) h) x before far own in
-        to l (act l (senderWrites 0) z)
+        to l (act l (sender_writes 0) z)
         (ap (λ (b : Bool). cond b (at (receiving_at x before []) request_block far.reader []) z) (persisted_same s.persisted))
 
     -- read
@@ -227,7 +227,7 @@ module _ (l : Link) (rd : Ready l) where
 
     -- stored
     step_4 : Reaches l (at (held x false) [] far'.reader []) (at (held x' true) [] far'.reader [])
-    step_4 = act l receiverPersists (at (held x false) [] far'.reader [])
+    step_4 = act l receiver_persists (at (held x false) [] far'.reader [])
 
     -- reported, and answered
     reply_given_lem : Outcome Answered
@@ -252,7 +252,7 @@ module _ (l : Link) (rd : Ready l) where
         (reply_is l.settings (code "D") (answer_message (text_of v) r.code r.number) 0 (reply_buffer l) reply_given_lem (omega arith) refl refl))
 
     step_6 : Reaches l (at (receiving (closed r.persisted.expected) x' request false (reply ∷ []) []) [] far'.reader []) (at (receiving_at x' request []) [] far'.reader reply)
-    step_6 = act l receiverWrites (at (receiving (closed r.persisted.expected) x' request false (reply ∷ []) []) [] far'.reader [])
+    step_6 = act l receiver_writes (at (receiving (closed r.persisted.expected) x' request false (reply ∷ []) []) [] far'.reader [])
 
     pub exchange : Comes l y (sending_at k.sender (named_after [] k) (reported k ∷ h)) x'
     exchange =

@@ -123,10 +123,10 @@ abbrev pub with_back : Transit → List Answer → Transit
 with_back t bs = transit t.forward bs t.pending t.opening t.volatile t.persisted
 
 -- the sender acted: ws are the verdicts left, and bs the replies of these and of those on the line
-pub sender_acts : (l : Link) (y : System) (i : Inv l y) (ws : List Judged) (bs : List Answer) (a : Acted)
+pub sender_acts_lem : (l : Link) (y : System) (i : Inv l y) (ws : List Judged) (bs : List Answer) (a : Acted)
     → After l.first (books_of l y (with_back i.way bs)) a → valid_sender a.sender ≡ true
     → Each IsReply (accepted_of ws ++ arriving l.settings y.back) bs → Inv l (sender_acted y ws a)
-sender_acts l y i ws bs a c v e =
+sender_acts_lem l y i ws bs a c v e =
     let n = i.ends in
     record {
       way = with_back i.way bs;
@@ -155,7 +155,7 @@ module _ (l : Link) (y : System) (i : Inv l y) (n : ℕ) where
 
     by_verdict : (bs : List Answer) → After l.first (books_of l y (with_back i.way bs)) (acts w.verdict w.content) → Each IsReply (accepted_of left ++ line) bs → Then
     by_verdict bs c e =
-        sender_acts l y i left bs (acts w.verdict w.content) c (act_valid (block l.resends w.verdict w.content) y.sending.sender i.ends.valid) e
+        sender_acts_lem l y i left bs (acts w.verdict w.content) c (act_valid (block l.resends w.verdict w.content) y.sending.sender i.ends.valid) e
 
     refused_read : (zs : List Answer) → Sub zs i.way.back → Each IsReply (accepted_of left ++ line) zs → accepts w.verdict w.content ≡ [] → Then
     refused_read zs s e z =

@@ -42,7 +42,7 @@ use Rattle.link.specs.SenderActs.{sender_at, after_crash}
 use Rattle.link.specs.Duties.{every}
 use Rattle.link.specs.SenderHistory.{Entry, reported}
 use Rattle.link.specs.Line.{empty_line}
-use Rattle.link.specs.System.{Link, System, Stored, stored, link, start_of, request_of, named_after, circuit_opened, has_with, opens, submits, senderPersists, after_act}
+use Rattle.link.specs.System.{Link, System, Stored, stored, link, start_of, request_of, named_after, circuit_opened, has_with, opens, submits, sender_persists, after_act}
 use Rattle.link.specs.Promise.{Logged, Ready}
 use Rattle.link.proofs.Facts.{not_both}
 use Rattle.link.proofs.SenderValid.{numbers_of_lem, WaitsRight, right_from, right_valid}
@@ -122,7 +122,7 @@ module _ (l : Link) (rd : Ready l) where
         run =
             join l t.run
             (join l (act l next y)
-            (to l (act l senderPersists (after_act every l next y)) (ap (λ (x : Acted). quiet_at (sending_at x.sender (named_after [] x) (reported x ∷ t.history)) (stored e []) [] resting resting) k)));
+            (to l (act l sender_persists (after_act every l next y)) (ap (λ (x : Acted). quiet_at (sending_at x.sender (named_after [] x) (reported x ∷ t.history)) (stored e []) [] resting resting) k)));
       }
 
   -- ---- a stage: so many are delivered, and the next waits, or nothing does

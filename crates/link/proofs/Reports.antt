@@ -35,9 +35,9 @@ use Rattle.link.proofs.SenderDue.{only_due, due_as_timer, timer_abandons}
 use Rattle.link.specs.Duties.{every, one_at, others_at}
 use Rattle.link.specs.Line.{damages, disorders}
 use Rattle.link.specs.System.{Link, System, SendingEnd, Remains, beginning, same_persisted, request_written, is_true, reply_written, sender_read, answer_taken, receiver_read, verdict_decided, request_taken}
-use Rattle.link.specs.System.{SystemAct, opens, ends, resets, submits, timer as timerRuns, senderPersists, senderWrites, senderForgets, senderReads, senderActs, senderDiscards, senderRestores, senderCrashes}
-use Rattle.link.specs.System.{receiverReads, receiver_decides, receiver_reports, receiver_naks, receiverDiscards, receiverPersists, receiverWrites, receiverRestores, receiver_crashes, damagesForward, damagesBack}
-use Rattle.link.specs.System.{persistsNumber, persistsTransaction, landsLate, revertsTo, sender_reverts_to, bringsLate, bringsLateRequest, after_act, run_of}
+use Rattle.link.specs.System.{SystemAct, opens, ends, resets, submits, timer as timer_runs, sender_persists, sender_writes, sender_forgets, sender_reads, sender_acts, sender_discards, sender_restores, sender_crashes}
+use Rattle.link.specs.System.{receiver_reads, receiver_decides, receiver_reports, receiver_naks, receiver_discards, receiver_persists, receiver_writes, receiver_restores, receiver_crashes, damages_forward, damages_back}
+use Rattle.link.specs.System.{persists_number, persists_transaction, lands_late, reverts_to, sender_reverts_to, brings_late, brings_late_request, after_act, run_of}
 use Rattle.link.specs.Promise.{Ready, OnlyAnswers}
 use Rattle.link.proofs.Safety.{run_stands}
 
@@ -102,35 +102,35 @@ module _ (l : Link) (P : Sender → Persisted → List Entry → Type 0)
     at_after opens = cond_ind (λ (z : System). At z.sending) (eqb (open_of y.sending.sender).refusal 0) _ _ (λ z. by opened (omega arith)) (λ z. by opened (omega arith))
     at_after ends = by ended (omega arith)
     at_after resets = by reset (omega arith)
-    at_after timerRuns = by (timer l.resends) (omega arith)
+    at_after timer_runs = by (timer l.resends) (omega arith)
     at_after (submits limit d) = by (submit limit d) (omega arith)
-    at_after senderPersists = persists
-    at_after senderReads = answer_read_lem y.back.bytes
-    at_after senderRestores = crashes
-    at_after senderCrashes = crashes
-    at_after receiverReads = request_read_lem y.forward.bytes
-    at_after receiverPersists = either_way (not (is_closed y.receiving.receiver.decision) && not y.receiving.reports) _ refl
-    at_after receiverWrites = replied y.receiving.pending
-    at_after receiverRestores = now
+    at_after sender_persists = persists
+    at_after sender_reads = answer_read_lem y.back.bytes
+    at_after sender_restores = crashes
+    at_after sender_crashes = crashes
+    at_after receiver_reads = request_read_lem y.forward.bytes
+    at_after receiver_persists = either_way (not (is_closed y.receiving.receiver.decision) && not y.receiving.reports) _ refl
+    at_after receiver_writes = replied y.receiving.pending
+    at_after receiver_restores = now
     at_after receiver_crashes = now
-    at_after (senderWrites n) = written (one_at 0 y.sending.named) (others_at 0 y.sending.named)
-    at_after (senderForgets n) = now
-    at_after (senderActs n) = answer_taken_lem (one_at n y.sending.arrived) (others_at n y.sending.arrived)
-    at_after (senderDiscards n) = now
-    at_after (receiverDiscards n) = now
+    at_after (sender_writes n) = written (one_at 0 y.sending.named) (others_at 0 y.sending.named)
+    at_after (sender_forgets n) = now
+    at_after (sender_acts n) = answer_taken_lem (one_at n y.sending.arrived) (others_at n y.sending.arrived)
+    at_after (sender_discards n) = now
+    at_after (receiver_discards n) = now
     at_after (receiver_decides n a) = request_taken_lem a (one_at 0 y.receiving.arrived) (others_at 0 y.receiving.arrived)
     at_after (receiver_reports success start b) =
         either_way (is_true every success y.receiving.reports && eqb (answer_of l.settings success y.receiving.receiver start b).answer.refusal 0) _ refl
     at_after (receiver_naks n start b) = either_way (eqb (nak_of l.settings n y.receiving.receiver start b).answer.refusal 0) _ refl
-    at_after (damagesForward b) = cond_ind (λ (z : System). At z.sending) (damages l.settings y.forward b) _ _ (λ z. now) (λ z. now)
-    at_after (damagesBack b) = cond_ind (λ (z : System). At z.sending) (disorders l.settings y.back b) _ _ (λ z. now) (λ z. now)
-    at_after persistsNumber = now
-    at_after persistsTransaction = now
-    at_after (landsLate p) = now
-    at_after (revertsTo p) = now
+    at_after (damages_forward b) = cond_ind (λ (z : System). At z.sending) (damages l.settings y.forward b) _ _ (λ z. now) (λ z. now)
+    at_after (damages_back b) = cond_ind (λ (z : System). At z.sending) (disorders l.settings y.back b) _ _ (λ z. now) (λ z. now)
+    at_after persists_number = now
+    at_after persists_transaction = now
+    at_after (lands_late p) = now
+    at_after (reverts_to p) = now
     at_after (sender_reverts_to p) = now
-    at_after (bringsLate b) = now
-    at_after (bringsLateRequest b) = now
+    at_after (brings_late b) = now
+    at_after (brings_late_request b) = now
 
 module _ (l : Link) (rd : Ready l) (remains : Remains) (only : OnlyAnswers remains) (e : Expected) (v : valid_expected e ≡ true) where
   abbrev at : List SystemAct → System

@@ -26,7 +26,7 @@ use Rattle.link.specs.SenderActs.{sender_at, after_crash}
 use Rattle.link.specs.Duties.{every}
 use Rattle.link.specs.SenderHistory.{crashed}
 use Rattle.link.specs.Line.{empty_line}
-use Rattle.link.specs.System.{Link, System, Stored, stored, receiving, link, Remains, nothing_left, beginning, start_of, request_of, SystemAct, senderCrashes, receiver_crashes, after_act, run_of}
+use Rattle.link.specs.System.{Link, System, Stored, stored, receiving, link, Remains, nothing_left, beginning, start_of, request_of, SystemAct, sender_crashes, receiver_crashes, after_act, run_of}
 use Rattle.link.specs.Promise.{Ready, OnlyAnswers, transactions}
 use Rattle.link.proofs.ReceiverInvariant.{expects_none, expects_next}
 use Rattle.link.proofs.Facts.{not_both, either}
@@ -102,7 +102,7 @@ module _ (l : Link) (rd : Ready l) (a : Application) (y : System) where
     core = crash_sender (crash_receiver i.core)
 
     here : Reaches l y (link (sending_at (after_crash y.sending.persisted) [] (crashed ∷ y.sending.history)) (receiving_at y.receiving.persisted [] []) empty_line empty_line)
-    here = join l (act l receiver_crashes y) (act l senderCrashes (after_act every l receiver_crashes y))
+    here = join l (act l receiver_crashes y) (act l sender_crashes (after_act every l receiver_crashes y))
 
     total_is : l.first + (y.sending.persisted.last + 1 - l.first) ≡ y.sending.persisted.last + 1
     total_is = let n = core.numbers in omega arith

@@ -11,7 +11,7 @@ use Rattle.link.specs.Duties.{every}
 use Rattle.link.specs.SenderHistory.{Entry}
 use Rattle.link.specs.Line.{Reader, Line, line, reads_byte, reader_after}
 use Rattle.receiver.specs.declared.Receiver.{Receiver}
-use Rattle.link.specs.System.{Link, System, SendingEnd, sending, Stored, ReceivingEnd, receiving, link, SystemAct, senderReads, receiverReads, after_act, run_of}
+use Rattle.link.specs.System.{Link, System, SendingEnd, sending, Stored, ReceivingEnd, receiving, link, SystemAct, sender_reads, receiver_reads, after_act, run_of}
 
 pub record Reaches (l : Link) (y z : System) : Type 0 where
   pub acts : List SystemAct
@@ -59,7 +59,7 @@ module _ (l : Link) where
   read_requests (x ∷ xs) ys r s v p d t bs ws b =
       let us = (reads_byte l.settings r x).says in
       let k = reader_after l.settings r x in
-      join (act receiverReads (link s (receiving v p d t bs ws) (line r (x ∷ xs ++ ys)) b))
+      join (act receiver_reads (link s (receiving v p d t bs ws) (line r (x ∷ xs ++ ys)) b))
       (to (read_requests xs ys k s v p d t bs (ws ++ us) b) (ap (λ (z : List Judged). link s (receiving v p d t bs z) (line (reader_through k xs) ys) b) (append_assoc ws us (verdicts_of k xs))))
 
   -- the sender reads the first bytes on its line
@@ -70,7 +70,7 @@ module _ (l : Link) where
   read_answers (x ∷ xs) ys r s p ns ws h e b =
       let us = (reads_byte l.settings r x).says in
       let k = reader_after l.settings r x in
-      join (act senderReads (link (sending s p ns ws h) e b (line r (x ∷ xs ++ ys))))
+      join (act sender_reads (link (sending s p ns ws h) e b (line r (x ∷ xs ++ ys))))
       (to (read_answers xs ys k s p ns (ws ++ us) h e b) (ap (λ (z : List Judged). link (sending s p ns z h) e b (line (reader_through k xs) ys)) (append_assoc ws us (verdicts_of k xs))))
 
   -- a line that is written otherwise

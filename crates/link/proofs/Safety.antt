@@ -10,9 +10,9 @@ use Rattle.receiver.specs.declared.Expected.{Expected}
 use Rattle.receiver.specs.declared.Open.TheVariants.{NoDecision}
 use Rattle.sender.specs.Sender.{fresh_sender, open_of}
 use Rattle.link.specs.Duties.{Duty, every, one_at}
-use Rattle.link.specs.System.{Link, System, Remains, beginning, start_of, nothing_left, new_circuit, sender_acted, SystemAct, opens, ends, resets, timer, submits, senderPersists, senderWrites, senderForgets, senderReads, senderActs, senderDiscards, senderRestores}
-use Rattle.link.specs.System.{senderCrashes, receiverReads, receiver_decides, receiver_reports, receiver_naks, receiverDiscards, receiverPersists, receiverWrites, receiverRestores, receiver_crashes}
-use Rattle.link.specs.System.{damagesForward, damagesBack, persistsNumber, persistsTransaction, landsLate, revertsTo, sender_reverts_to, bringsLate, bringsLateRequest, after_act, run_of}
+use Rattle.link.specs.System.{Link, System, Remains, beginning, start_of, nothing_left, new_circuit, sender_acted, SystemAct, opens, ends, resets, timer, submits, sender_persists, sender_writes, sender_forgets, sender_reads, sender_acts, sender_discards, sender_restores}
+use Rattle.link.specs.System.{sender_crashes, receiver_reads, receiver_decides, receiver_reports, receiver_naks, receiver_discards, receiver_persists, receiver_writes, receiver_restores, receiver_crashes}
+use Rattle.link.specs.System.{damages_forward, damages_back, persists_number, persists_transaction, lands_late, reverts_to, sender_reverts_to, brings_late, brings_late_request, after_act, run_of}
 use Rattle.link.specs.Promise.{Ready, Safe, OnlyAnswers}
 use Rattle.link.specs.Needed.{Needed}
 use Rattle.link.proofs.SenderInvariant.{fresh-valid}
@@ -34,33 +34,33 @@ module _ (l : Link) (rd : Ready l) where
   act_keeps resets y i = resets_keeps l rd y i
   act_keeps timer y i = timer_keeps l rd y i
   act_keeps (submits limit d) y i = submits_keeps l rd y i limit d
-  act_keeps senderPersists y i = sender_persists_keeps l rd y i
-  act_keeps senderReads y i = sender_reads_keeps l rd y i y.back.bytes refl
-  act_keeps senderRestores y i = sender_restores_keeps l rd y i
-  act_keeps senderCrashes y i = sender_crashes_keeps l rd y i
-  act_keeps receiverReads y i = receiver_reads_keeps l rd y i y.forward.bytes refl
-  act_keeps receiverPersists y i = receiver_persists_keeps l rd y i
-  act_keeps receiverWrites y i = receiver_writes_keeps l rd y i y.receiving.pending refl
-  act_keeps receiverRestores y i = receiver_restores_keeps l rd y i
+  act_keeps sender_persists y i = sender_persists_keeps l rd y i
+  act_keeps sender_reads y i = sender_reads_keeps l rd y i y.back.bytes refl
+  act_keeps sender_restores y i = sender_restores_keeps l rd y i
+  act_keeps sender_crashes y i = sender_crashes_keeps l rd y i
+  act_keeps receiver_reads y i = receiver_reads_keeps l rd y i y.forward.bytes refl
+  act_keeps receiver_persists y i = receiver_persists_keeps l rd y i
+  act_keeps receiver_writes y i = receiver_writes_keeps l rd y i y.receiving.pending refl
+  act_keeps receiver_restores y i = receiver_restores_keeps l rd y i
   act_keeps receiver_crashes y i = receiver_crashes_keeps l rd y i
-  act_keeps (senderWrites n) y i = sender_writes_keeps l rd y i y.sending.named refl
-  act_keeps (senderForgets n) y i = sender_forgets_keeps l rd y i n
-  act_keeps (senderActs n) y i = sender_acts_keeps l rd y i n (one_at n y.sending.arrived) refl
-  act_keeps (senderDiscards n) y i = sender_discards_keeps l rd y i n
-  act_keeps (receiverDiscards n) y i = receiver_discards_keeps l rd y i n
+  act_keeps (sender_writes n) y i = sender_writes_keeps l rd y i y.sending.named refl
+  act_keeps (sender_forgets n) y i = sender_forgets_keeps l rd y i n
+  act_keeps (sender_acts n) y i = sender_acts_keeps l rd y i n (one_at n y.sending.arrived) refl
+  act_keeps (sender_discards n) y i = sender_discards_keeps l rd y i n
+  act_keeps (receiver_discards n) y i = receiver_discards_keeps l rd y i n
   act_keeps (receiver_decides n a) y i = receiver_decides_keeps l rd y i a y.receiving.arrived refl
   act_keeps (receiver_reports success start b) y i = receiver_reports_keeps l rd y i success start b
   act_keeps (receiver_naks n start b) y i = receiver_naks_keeps l rd y i n start b
-  act_keeps (damagesForward b) y i = damages_forward_keeps l rd y i b
-  act_keeps (damagesBack b) y i = damages_back_keeps l rd y i b
+  act_keeps (damages_forward b) y i = damages_forward_keeps l rd y i b
+  act_keeps (damages_back b) y i = damages_back_keeps l rd y i b
   -- a host that keeps its duties does none of these
-  act_keeps persistsNumber y i = i
-  act_keeps persistsTransaction y i = i
-  act_keeps (landsLate p) y i = i
-  act_keeps (revertsTo p) y i = i
+  act_keeps persists_number y i = i
+  act_keeps persists_transaction y i = i
+  act_keeps (lands_late p) y i = i
+  act_keeps (reverts_to p) y i = i
   act_keeps (sender_reverts_to p) y i = i
-  act_keeps (bringsLate b) y i = i
-  act_keeps (bringsLateRequest b) y i = i
+  act_keeps (brings_late b) y i = i
+  act_keeps (brings_late_request b) y i = i
 
   pub run_keeps : (e : Expected) → valid_expected e ≡ true → (ds : List SystemAct) → Inv l (run_of every l (start_of l e) ds)
   unfolding run_of

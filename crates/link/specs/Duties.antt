@@ -7,19 +7,19 @@ pub data Duty : Type 0 where
   -- "at each new circuit, the line is empty"
   empties_lines : Duty
   -- "a new circuit .. finds at neither end an answer still to be sent", nor a block that was read and not yet acted on
-  dropsReplies dropsVerdicts : Duty
+  drops_replies drops_verdicts : Duty
   -- nothing of an earlier circuit comes in later
   brings_nothing_late : Duty
   -- messages are written in the order in which they were named, blocks offered to the receiver in the order in which they were read
-  writesInOrder offersInOrder : Duty
+  writes_in_order offers_in_order : Duty
   -- "each end stores what changed as one act before its next block goes out"
-  senderPersistsFirst persistsAsOne : Duty
+  sender_persists_first persists_as_one : Duty
   -- 02, §1, "if reports are true": a decision is reported stored once it is, and failed where nothing of it is stored
-  reportsPersisted reportsFailed : Duty
+  reports_persisted reports_failed : Duty
   -- and what was not stored when its decision was reported failed, or when the host started again, is never stored
   settles_writes : Duty
   -- "A cut loses what isn't stored": what was named; and every report that is under way
-  dropsNamed dropsReports : Duty
+  drops_named drops_reports : Duty
   -- a tenancy finds no decision open that an earlier one left
   drops_decision : Duty
   -- "stored things survive"

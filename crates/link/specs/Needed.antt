@@ -2,26 +2,26 @@
 use Rattle.std.specs.Prelude.{◌≡◌, List, Bool, true, not, ℕ, eqb}
 use Rattle.receiver.specs.Receiver.{valid_expected}
 use Rattle.receiver.specs.declared.Expected.{Expected}
-use Rattle.link.specs.Duties.{Duty, exchanges, empties_lines, dropsReplies, dropsVerdicts, brings_nothing_late, writesInOrder, offersInOrder, senderPersistsFirst, persistsAsOne}
-use Rattle.link.specs.Duties.{reportsPersisted, reportsFailed, settles_writes, dropsNamed, dropsReports, drops_decision, survives}
+use Rattle.link.specs.Duties.{Duty, exchanges, empties_lines, drops_replies, drops_verdicts, brings_nothing_late, writes_in_order, offers_in_order, sender_persists_first, persists_as_one}
+use Rattle.link.specs.Duties.{reports_persisted, reports_failed, settles_writes, drops_named, drops_reports, drops_decision, survives}
 use Rattle.link.specs.System.{Link, Remains, SystemAct, beginning, run_of}
 use Rattle.link.specs.Promise.{Safe, OnlyAnswers}
 
 abbrev pub index_of : Duty → ℕ
 index_of exchanges = 0
 index_of empties_lines = 1
-index_of dropsReplies = 2
-index_of dropsVerdicts = 3
+index_of drops_replies = 2
+index_of drops_verdicts = 3
 index_of brings_nothing_late = 4
-index_of writesInOrder = 5
-index_of offersInOrder = 6
-index_of senderPersistsFirst = 7
-index_of persistsAsOne = 8
-index_of reportsPersisted = 9
-index_of reportsFailed = 10
+index_of writes_in_order = 5
+index_of offers_in_order = 6
+index_of sender_persists_first = 7
+index_of persists_as_one = 8
+index_of reports_persisted = 9
+index_of reports_failed = 10
 index_of settles_writes = 11
-index_of dropsNamed = 12
-index_of dropsReports = 13
+index_of drops_named = 12
+index_of drops_reports = 13
 index_of drops_decision = 14
 index_of survives = 15
 

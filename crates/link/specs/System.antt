@@ -32,8 +32,8 @@ use Rattle.sender.specs.declared.Acted.{Acted}
 use Rattle.link.specs.SenderActs.{after_crash}
 use Rattle.link.specs.SenderHistory.{Entry, reported, crashed}
 use Rattle.link.specs.Line.{Line, line, new_reader, empty_line, reads_byte, reader_after, damages, disorders}
-use Rattle.link.specs.Duties.{Duty, exchanges, empties_lines, dropsReplies, dropsVerdicts, brings_nothing_late, writesInOrder, offersInOrder}
-use Rattle.link.specs.Duties.{senderPersistsFirst, persistsAsOne, reportsPersisted, reportsFailed, settles_writes, dropsNamed, dropsReports, drops_decision, survives}
+use Rattle.link.specs.Duties.{Duty, exchanges, empties_lines, drops_replies, drops_verdicts, brings_nothing_late, writes_in_order, offers_in_order}
+use Rattle.link.specs.Duties.{sender_persists_first, persists_as_one, reports_persisted, reports_failed, settles_writes, drops_named, drops_reports, drops_decision, survives}
 use Rattle.link.specs.Duties.{every, dropped, index_taken, one_at, others_at}
 
 -- what stands fixed: the block settings of both ends, f, r, the type of control messages, and the numbered log
@@ -150,8 +150,8 @@ emptied b x = cond b empty_line x
 -- "at each new circuit, the line is empty, and a new circuit .. finds at neither end an answer still to be sent or a block half read"
 abbrev pub new_circuit : (Duty → Bool) → System → Acted → System
 new_circuit h y a =
-    link (sending a.sender y.sending.persisted (sends_of a.send) (dropped (h dropsVerdicts) y.sending.arrived) (reported a ∷ y.sending.history))
-    (let e = y.receiving in receiving e.receiver e.persisted e.message e.reports (dropped (h dropsReplies) e.pending) (dropped (h dropsVerdicts) e.arrived))
+    link (sending a.sender y.sending.persisted (sends_of a.send) (dropped (h drops_verdicts) y.sending.arrived) (reported a ∷ y.sending.history))
+    (let e = y.receiving in receiving e.receiver e.persisted e.message e.reports (dropped (h drops_replies) e.pending) (dropped (h drops_verdicts) e.arrived))
     (emptied (h empties_lines) y.forward) (emptied (h empties_lines) y.back)
 
 abbrev pub circuit_opened : (Duty → Bool) → System → Acted → System
@@ -170,7 +170,7 @@ same_persisted p q =
 abbrev pub request_written : (Duty → Bool) → Link → System → List SequenceNumber → List SequenceNumber → System
 request_written h l y [] vs = y
 request_written h l y (v ∷ none) vs =
-    cond (not (h senderPersistsFirst) || same_persisted y.sending.sender.persisted y.sending.persisted)
+    cond (not (h sender_persists_first) || same_persisted y.sending.sender.persisted y.sending.persisted)
     (link (sending y.sending.sender y.sending.persisted vs y.sending.arrived y.sending.history) y.receiving
     (line y.forward.reader (y.forward.bytes ++ block_of l.settings (code "D") (request_of l v))) y.back) y
 
@@ -189,7 +189,7 @@ answer_taken l y (w ∷ none) ws = sender_acted y ws (block_read_of l.resends y.
 
 -- it goes on from what is persisted
 abbrev pub sender_restored : (Duty → Bool) → SendingEnd → List Judged → SendingEnd
-sender_restored h e ws = sending (after_crash e.persisted) e.persisted (dropped (h dropsNamed) e.named) ws (crashed ∷ e.history)
+sender_restored h e ws = sending (after_crash e.persisted) e.persisted (dropped (h drops_named) e.named) ws (crashed ∷ e.history)
 
 -- ---- the receiver's end
 abbrev pub has_with : Transaction → List ℕ → List (List ℕ) → List (List ℕ)
@@ -251,8 +251,8 @@ decision_persisted y =
 
 -- "if reports are true": success once the open decision is stored, failure where it is not
 abbrev pub is_true : (Duty → Bool) → Bool → Bool → Bool
-is_true h true persisted = not (h reportsPersisted) || persisted
-is_true h false persisted = not (h reportsFailed) || not persisted
+is_true h true persisted = not (h reports_persisted) || persisted
+is_true h false persisted = not (h reports_failed) || not persisted
 
 -- the report on the open decision, with a buffer for the answer
 abbrev pub reported_end : System → ℕ → Outcome Answered → System
@@ -275,20 +275,20 @@ pub data SystemAct : Type 0 where
   opens ends resets timer : SystemAct
   -- any bytes, under any limit
   submits : ℕ → List ℕ → SystemAct
-  senderPersists senderReads senderRestores senderCrashes : SystemAct
-  receiverReads receiverPersists receiverWrites receiverRestores receiver_crashes : SystemAct
+  sender_persists sender_reads sender_restores sender_crashes : SystemAct
+  receiver_reads receiver_persists receiver_writes receiver_restores receiver_crashes : SystemAct
   -- which of those named, or of the verdicts read; answers may be taken in any order
-  senderWrites senderForgets senderActs senderDiscards receiverDiscards : ℕ → SystemAct
+  sender_writes sender_forgets sender_acts sender_discards receiver_discards : ℕ → SystemAct
   receiver_decides : ℕ → Application → SystemAct
   -- stored or failed; the number of a refused block; the offset, and the buffer
   receiver_reports : Bool → ℕ → List ℕ → SystemAct
   receiver_naks : ℕ → ℕ → List ℕ → SystemAct
-  damagesForward damagesBack : List ℕ → SystemAct
+  damages_forward damages_back : List ℕ → SystemAct
   -- what only a host that neglects a duty does
-  persistsNumber persistsTransaction : SystemAct
-  landsLate revertsTo : Stored → SystemAct
+  persists_number persists_transaction : SystemAct
+  lands_late reverts_to : Stored → SystemAct
   sender_reverts_to : Persisted → SystemAct
-  bringsLate bringsLateRequest : List ℕ → SystemAct
+  brings_late brings_late_request : List ℕ → SystemAct
 
 abbrev pub after_act : (Duty → Bool) → Link → SystemAct → System → System
 after_act h l opens y = circuit_opened h y (open_of y.sending.sender)
@@ -296,60 +296,60 @@ after_act h l ends y = sender_acted y y.sending.arrived (ended_of y.sending.send
 after_act h l resets y = sender_acted y y.sending.arrived (reset_of y.sending.sender)
 after_act h l timer y = sender_acted y y.sending.arrived (timer_of l.resends y.sending.sender)
 after_act h l (submits limit d) y = sender_acted y y.sending.arrived (submit_of limit y.sending.sender d)
-after_act h l senderPersists y =
+after_act h l sender_persists y =
     let e = y.sending in
     link (sending e.sender e.sender.persisted e.named e.arrived e.history) y.receiving y.forward y.back
-after_act h l (senderWrites n) y =
-    let k = index_taken (h writesInOrder) n in
+after_act h l (sender_writes n) y =
+    let k = index_taken (h writes_in_order) n in
     request_written h l y (one_at k y.sending.named) (others_at k y.sending.named)
 -- a message named is dropped, as one that was lost
-after_act h l (senderForgets n) y =
+after_act h l (sender_forgets n) y =
     let e = y.sending in
     link (sending e.sender e.persisted (others_at n e.named) e.arrived e.history) y.receiving y.forward y.back
-after_act h l senderReads y = sender_read l y y.back.bytes
-after_act h l (senderActs n) y = answer_taken l y (one_at n y.sending.arrived) (others_at n y.sending.arrived)
-after_act h l (senderDiscards n) y =
+after_act h l sender_reads y = sender_read l y y.back.bytes
+after_act h l (sender_acts n) y = answer_taken l y (one_at n y.sending.arrived) (others_at n y.sending.arrived)
+after_act h l (sender_discards n) y =
     let e = y.sending in
     link (sending e.sender e.persisted e.named (others_at n e.arrived) e.history) y.receiving y.forward y.back
 -- storing failed: the circuit is over, the lines are as they were
-after_act h l senderRestores y = link (sender_restored h y.sending y.sending.arrived) y.receiving y.forward y.back
+after_act h l sender_restores y = link (sender_restored h y.sending y.sending.arrived) y.receiving y.forward y.back
 -- "A cut loses what isn't stored; after it .. the line is empty"
-after_act h l senderCrashes y = link (sender_restored h y.sending []) y.receiving (line y.forward.reader []) empty_line
-after_act h l receiverReads y = receiver_read l y y.forward.bytes
+after_act h l sender_crashes y = link (sender_restored h y.sending []) y.receiving (line y.forward.reader []) empty_line
+after_act h l receiver_reads y = receiver_read l y y.forward.bytes
 after_act h l (receiver_decides n a) y =
-    let k = index_taken (h offersInOrder) n in
+    let k = index_taken (h offers_in_order) n in
     request_taken a y (one_at k y.receiving.arrived) (others_at k y.receiving.arrived)
 after_act h l (receiver_naks n start b) y = nak_taken y start (nak_of l.settings n y.receiving.receiver start b)
-after_act h l (receiverDiscards n) y =
+after_act h l (receiver_discards n) y =
     let e = y.receiving in
     link y.sending (receiving e.receiver e.persisted e.message e.reports e.pending (others_at n e.arrived)) y.forward y.back
 -- "the receiver a transaction with its new expected number", as one act
-after_act h l receiverPersists y = decision_persisted y
+after_act h l receiver_persists y = decision_persisted y
 after_act h l (receiver_reports success start b) y = decision_reported h y success start (answer_of l.settings success y.receiving.receiver start b)
-after_act h l receiverWrites y = reply_written y y.receiving.pending
+after_act h l receiver_writes y = reply_written y y.receiving.pending
 -- the host cannot tell whether it stored: it reports nothing, and goes on from what is stored, on the same circuit
-after_act h l receiverRestores y =
+after_act h l receiver_restores y =
     let e = y.receiving in
-    link y.sending (receiving (closed e.persisted.expected) e.persisted [] (not (h dropsReports) && e.reports) e.pending e.arrived) y.forward y.back
+    link y.sending (receiving (closed e.persisted.expected) e.persisted [] (not (h drops_reports) && e.reports) e.pending e.arrived) y.forward y.back
 -- "A cut drops an open decision; what was stored stands."
 after_act h l receiver_crashes y =
     let e = y.receiving in
-    link y.sending (receiving (closed e.persisted.expected) e.persisted [] (not (h dropsReports) && e.reports) [] []) empty_line (line y.back.reader [])
-after_act h l (damagesForward xs) y = cond (damages l.settings y.forward xs) (link y.sending y.receiving (line y.forward.reader xs) y.back) y
-after_act h l (damagesBack xs) y = cond (disorders l.settings y.back xs) (link y.sending y.receiving y.forward (line y.back.reader xs)) y
-after_act h l persistsNumber y =
+    link y.sending (receiving (closed e.persisted.expected) e.persisted [] (not (h drops_reports) && e.reports) [] []) empty_line (line y.back.reader [])
+after_act h l (damages_forward xs) y = cond (damages l.settings y.forward xs) (link y.sending y.receiving (line y.forward.reader xs) y.back) y
+after_act h l (damages_back xs) y = cond (disorders l.settings y.back xs) (link y.sending y.receiving y.forward (line y.back.reader xs)) y
+after_act h l persists_number y =
     let e = y.receiving in
-    cond (h persistsAsOne) y (receiver_persisted y (stored (to_persist e).expected e.persisted.has) e.reports)
-after_act h l persistsTransaction y =
+    cond (h persists_as_one) y (receiver_persisted y (stored (to_persist e).expected e.persisted.has) e.reports)
+after_act h l persists_transaction y =
     let e = y.receiving in
-    cond (h persistsAsOne) y (receiver_persisted y (stored e.persisted.expected (to_persist e).has) e.reports)
-after_act h l (landsLate p) y = cond (h settles_writes) y (receiver_persisted y p y.receiving.reports)
-after_act h l (revertsTo p) y = cond (h survives) y (receiver_persisted y p y.receiving.reports)
+    cond (h persists_as_one) y (receiver_persisted y (stored e.persisted.expected (to_persist e).has) e.reports)
+after_act h l (lands_late p) y = cond (h settles_writes) y (receiver_persisted y p y.receiving.reports)
+after_act h l (reverts_to p) y = cond (h survives) y (receiver_persisted y p y.receiving.reports)
 after_act h l (sender_reverts_to p) y =
     let e = y.sending in
     cond (h survives) y (link (sending e.sender p e.named e.arrived e.history) y.receiving y.forward y.back)
-after_act h l (bringsLate xs) y = cond (h brings_nothing_late) y (link y.sending y.receiving y.forward (line y.back.reader (y.back.bytes ++ xs)))
-after_act h l (bringsLateRequest xs) y = cond (h brings_nothing_late) y (link y.sending y.receiving (line y.forward.reader (y.forward.bytes ++ xs)) y.back)
+after_act h l (brings_late xs) y = cond (h brings_nothing_late) y (link y.sending y.receiving y.forward (line y.back.reader (y.back.bytes ++ xs)))
+after_act h l (brings_late_request xs) y = cond (h brings_nothing_late) y (link y.sending y.receiving (line y.forward.reader (y.forward.bytes ++ xs)) y.back)
 
 -- a run, the newest act first
 unfoldable pub run_of : (Duty → Bool) → Link → System → List SystemAct → System

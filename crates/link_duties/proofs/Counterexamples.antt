@@ -30,11 +30,11 @@ use Rattle.receiver.specs.declared.Expected.TheVariants.{Unknown, Next}
 use Rattle.receiver.specs.declared.Open.{Open}
 use Rattle.receiver.specs.declared.Open.TheVariants.{NoDecision, Decision}
 use Rattle.sender.specs.Sender.{valid_sender, submit_of, open_of, timer_of, block_read_of}
-use Rattle.link.specs.Duties.{Duty, exchanges, empties_lines, dropsReplies, dropsVerdicts, brings_nothing_late, writesInOrder, offersInOrder, senderPersistsFirst, persistsAsOne}
-use Rattle.link.specs.Duties.{reportsPersisted, reportsFailed, settles_writes, dropsNamed, dropsReports, drops_decision, survives, every, one_at, others_at}
+use Rattle.link.specs.Duties.{Duty, exchanges, empties_lines, drops_replies, drops_verdicts, brings_nothing_late, writes_in_order, offers_in_order, sender_persists_first, persists_as_one}
+use Rattle.link.specs.Duties.{reports_persisted, reports_failed, settles_writes, drops_named, drops_reports, drops_decision, survives, every, one_at, others_at}
 use Rattle.link.specs.Line.{accepted_of, some_of}
-use Rattle.link.specs.System.{System, Remains, nothing_left, stored, beginning, run_of, SystemAct, opens, timer, submits, senderPersists, senderWrites, senderReads, senderActs, senderCrashes}
-use Rattle.link.specs.System.{receiverReads, receiver_decides, receiverPersists, receiver_reports, receiverWrites, receiver_crashes, damagesForward, persistsTransaction, landsLate, revertsTo, bringsLate}
+use Rattle.link.specs.System.{System, Remains, nothing_left, stored, beginning, run_of, SystemAct, opens, timer, submits, sender_persists, sender_writes, sender_reads, sender_acts, sender_crashes}
+use Rattle.link.specs.System.{receiver_reads, receiver_decides, receiver_persists, receiver_reports, receiver_writes, receiver_crashes, damages_forward, persists_transaction, lands_late, reverts_to, brings_late}
 use Rattle.link.specs.Promise.{Safe, transactions}
 use Rattle.link.specs.Needed.{every_but}
 use Rattle.link.specs.Example.{example_log, example_link}
@@ -54,11 +54,11 @@ reversed (a ∷ more) ds = reversed more (a ∷ ds)
 
 -- the oldest message named is persisted and written
 unfoldable pub sends : List SystemAct
-sends = senderPersists ∷ senderWrites 0 ∷ []
+sends = sender_persists ∷ sender_writes 0 ∷ []
 
 -- a block is read at the far end; it is decided on, that is stored, and reported; the answer is read and acted on
 unfoldable pub reads : List SystemAct
-reads = times 64 receiverReads
+reads = times 64 receiver_reads
 
 unfoldable pub decides : SystemAct
 decides = receiver_decides 0 Accepts
@@ -70,13 +70,13 @@ unfoldable pub reports_failure : SystemAct
 reports_failure = receiver_reports false 0 (blank 143)
 
 unfoldable pub receives : List SystemAct
-receives = decides ∷ receiverPersists ∷ reports_stored ∷ []
+receives = decides ∷ receiver_persists ∷ reports_stored ∷ []
 
 unfoldable pub answered : List SystemAct
-answered = times 64 senderReads ++ senderActs 0 ∷ []
+answered = times 64 sender_reads ++ sender_acts 0 ∷ []
 
 unfoldable pub exchanged : List SystemAct
-exchanged = sends ++ (reads ++ (receives ++ receiverWrites ∷ answered))
+exchanged = sends ++ (reads ++ (receives ++ receiver_writes ∷ answered))
 
 unfoldable pub submitted : ℕ → SystemAct
 submitted n = submits 128 (example_log n)
@@ -87,11 +87,11 @@ begun = submitted 1 ∷ submitted 2 ∷ opens ∷ exchanged
 
 -- the next message named is lost
 unfoldable pub loses : List SystemAct
-loses = senderPersists ∷ senderWrites 0 ∷ damagesForward [] ∷ []
+loses = sender_persists ∷ sender_writes 0 ∷ damages_forward [] ∷ []
 
 -- what the decision on 1 said is stored after all
 unfoldable pub landed : SystemAct
-landed = landsLate (stored (Next 2) (example_log 1 ∷ []))
+landed = lands_late (stored (Next 2) (example_log 1 ∷ []))
 
 -- ---- what an earlier tenant left: its answers, as bytes on the line back, as a reply not yet sent, as a verdict not yet acted on; and a decision on its 1, still open
 unfoldable pub old_answer : Kind → SequenceNumber → List ℕ
@@ -126,51 +126,51 @@ case e m ds = record { expected = e; remains = m; acts = reversed ds [] }
 
 unfoldable pub case_of : Kind → Duty → Case
 -- 0 is answered by the number that the earlier tenant left: taken for a delivery
-case_of k exchanges = case (Next 2) nothing_left (submitted 1 ∷ opens ∷ (exchanged ++ senderPersists ∷ []))
+case_of k exchanges = case (Next 2) nothing_left (submitted 1 ∷ opens ∷ (exchanged ++ sender_persists ∷ []))
 -- the night of slot 7: -1 and then 1 are lost, and the earlier tenant's answers to both come out
 case_of k empties_lines =
-    case Unknown (left (old_answer k MinusOne ++ old_answer k (Number 1))) (submitted 1 ∷ opens ∷ (loses ++ (answered ++ (loses ++ (answered ++ senderPersists ∷ [])))))
+    case Unknown (left (old_answer k MinusOne ++ old_answer k (Number 1))) (submitted 1 ∷ opens ∷ (loses ++ (answered ++ (loses ++ (answered ++ sender_persists ∷ [])))))
 -- -1 is lost, and the earlier tenant's answer to it is still to be sent. The receiver, which expects 2, answers 1 by AR 2: taken for a delivery
-case_of k dropsReplies = case (Next 2) (left_pending (old_answer k MinusOne)) (submitted 1 ∷ opens ∷ (loses ++ receiverWrites ∷ (answered ++ (exchanged ++ senderPersists ∷ []))))
+case_of k drops_replies = case (Next 2) (left_pending (old_answer k MinusOne)) (submitted 1 ∷ opens ∷ (loses ++ receiver_writes ∷ (answered ++ (exchanged ++ sender_persists ∷ []))))
 -- the same with one that was read and not yet acted on
-case_of k dropsVerdicts = case (Next 2) (left_read k (old_answer k MinusOne)) (submitted 1 ∷ opens ∷ (loses ++ senderActs 0 ∷ (exchanged ++ senderPersists ∷ [])))
+case_of k drops_verdicts = case (Next 2) (left_read k (old_answer k MinusOne)) (submitted 1 ∷ opens ∷ (loses ++ sender_acts 0 ∷ (exchanged ++ sender_persists ∷ [])))
 -- 1 is lost, and an answer to the earlier tenant's 1 comes late
-case_of k brings_nothing_late = case Unknown nothing_left (begun ++ (loses ++ bringsLate (old_answer k (Number 1)) ∷ (answered ++ senderPersists ∷ [])))
+case_of k brings_nothing_late = case Unknown nothing_left (begun ++ (loses ++ brings_late (old_answer k (Number 1)) ∷ (answered ++ sender_persists ∷ [])))
 -- -1 was named twice, and the second is written behind 1: the receiver forgets, and stores 1 again
-case_of k writesInOrder =
+case_of k writes_in_order =
     case Unknown nothing_left
-    (submitted 1 ∷ opens ∷ timer ∷ (exchanged ++ senderPersists ∷ senderWrites 1 ∷ senderWrites 0 ∷ (reads ++ (reads ++ (receives ++ (receives ++ timer ∷ (sends
-    ++ (reads ++ decides ∷ receiverPersists ∷ []))))))))
+    (submitted 1 ∷ opens ∷ timer ∷ (exchanged ++ sender_persists ∷ sender_writes 1 ∷ sender_writes 0 ∷ (reads ++ (reads ++ (receives ++ (receives ++ timer ∷ (sends
+    ++ (reads ++ decides ∷ receiver_persists ∷ []))))))))
 -- the second -1 is refused while the first is open, held, and offered behind 1
-case_of k offersInOrder =
+case_of k offers_in_order =
     case Unknown nothing_left
-    (submitted 1 ∷ opens ∷ timer ∷ (sends ++ (sends ++ (reads ++ (reads ++ decides ∷ decides ∷ receiverPersists ∷ reports_stored ∷ receiverWrites ∷ (answered ++ (sends ++ (reads
-    ++ receiver_decides 1 Accepts ∷ receiverPersists ∷ reports_stored ∷ (receives ++ timer ∷ (sends ++ (reads ++ decides ∷ receiverPersists ∷ [])))))))))))
+    (submitted 1 ∷ opens ∷ timer ∷ (sends ++ (sends ++ (reads ++ (reads ++ decides ∷ decides ∷ receiver_persists ∷ reports_stored ∷ receiver_writes ∷ (answered ++ (sends ++ (reads
+    ++ receiver_decides 1 Accepts ∷ receiver_persists ∷ reports_stored ∷ (receives ++ timer ∷ (sends ++ (reads ++ decides ∷ receiver_persists ∷ [])))))))))))
 -- 2 goes out while the delivery of 1 is not persisted
-case_of k senderPersistsFirst = case Unknown nothing_left (begun ++ (exchanged ++ senderWrites 0 ∷ (reads ++ decides ∷ receiverPersists ∷ [])))
+case_of k sender_persists_first = case Unknown nothing_left (begun ++ (exchanged ++ sender_writes 0 ∷ (reads ++ decides ∷ receiver_persists ∷ [])))
 -- 1 is persisted, a crash comes before its number is, and 1 is sent again
-case_of k persistsAsOne =
-    case Unknown nothing_left (begun ++ (sends ++ (reads ++ decides ∷ persistsTransaction ∷ receiver_crashes ∷ timer ∷ (sends ++ (reads ++ decides ∷ receiverPersists ∷ [])))))
+case_of k persists_as_one =
+    case Unknown nothing_left (begun ++ (sends ++ (reads ++ decides ∷ persists_transaction ∷ receiver_crashes ∷ timer ∷ (sends ++ (reads ++ decides ∷ receiver_persists ∷ [])))))
 -- 1 is reported stored before it is, its answer goes out, and a crash comes
-case_of k reportsPersisted =
-    case Unknown nothing_left (begun ++ (sends ++ (reads ++ decides ∷ reports_stored ∷ receiverWrites ∷ (answered ++ senderPersists ∷ receiver_crashes ∷ []))))
+case_of k reports_persisted =
+    case Unknown nothing_left (begun ++ (sends ++ (reads ++ decides ∷ reports_stored ∷ receiver_writes ∷ (answered ++ sender_persists ∷ receiver_crashes ∷ []))))
 -- 1 is stored and reported as failed, so that it is still expected; it is sent again
-case_of k reportsFailed =
-    case Unknown nothing_left (begun ++ (sends ++ (reads ++ decides ∷ receiverPersists ∷ reports_failure ∷ timer ∷ (sends ++ (reads ++ decides ∷ receiverPersists ∷ [])))))
+case_of k reports_failed =
+    case Unknown nothing_left (begun ++ (sends ++ (reads ++ decides ∷ receiver_persists ∷ reports_failure ∷ timer ∷ (sends ++ (reads ++ decides ∷ receiver_persists ∷ [])))))
 -- 1 is reported as failed, and what was to be stored lands after that; it is sent again
 case_of k settles_writes =
-    case Unknown nothing_left (begun ++ (sends ++ (reads ++ decides ∷ reports_failure ∷ landed ∷ timer ∷ (sends ++ (reads ++ decides ∷ receiverPersists ∷ [])))))
+    case Unknown nothing_left (begun ++ (sends ++ (reads ++ decides ∷ reports_failure ∷ landed ∷ timer ∷ (sends ++ (reads ++ decides ∷ receiver_persists ∷ [])))))
 -- 2 was named, a crash takes the delivery of 1 back, and 2 is written after it
-case_of k dropsNamed = case Unknown nothing_left (begun ++ (exchanged ++ senderCrashes ∷ senderWrites 0 ∷ (reads ++ decides ∷ receiverPersists ∷ [])))
+case_of k drops_named = case Unknown nothing_left (begun ++ (exchanged ++ sender_crashes ∷ sender_writes 0 ∷ (reads ++ decides ∷ receiver_persists ∷ [])))
 -- -1 was named twice. The second is stored, a crash comes, and the report on it comes when 1 is open
-case_of k dropsReports =
+case_of k drops_reports =
     case Unknown nothing_left
-    (submitted 1 ∷ opens ∷ timer ∷ (exchanged ++ (sends ++ (reads ++ decides ∷ receiverPersists ∷ receiver_crashes ∷ (sends ++ (reads ++ decides ∷ reports_stored ∷ receiverWrites ∷ (answered
-    ++ senderPersists ∷ [])))))))
+    (submitted 1 ∷ opens ∷ timer ∷ (exchanged ++ (sends ++ (reads ++ decides ∷ receiver_persists ∷ receiver_crashes ∷ (sends ++ (reads ++ decides ∷ reports_stored ∷ receiver_writes ∷ (answered
+    ++ sender_persists ∷ [])))))))
 -- the earlier tenant's 1 was decided on, and is stored for the new one, whose own 1 comes behind it
-case_of k drops_decision = case Unknown left_open (receiverPersists ∷ reports_stored ∷ (begun ++ (sends ++ (reads ++ decides ∷ receiverPersists ∷ []))))
+case_of k drops_decision = case Unknown left_open (receiver_persists ∷ reports_stored ∷ (begun ++ (sends ++ (reads ++ decides ∷ receiver_persists ∷ []))))
 -- 1 was stored and answered, and the disk has the older state again
-case_of k survives = case Unknown nothing_left (begun ++ (exchanged ++ revertsTo (stored Unknown []) ∷ []))
+case_of k survives = case Unknown nothing_left (begun ++ (exchanged ++ reverts_to (stored Unknown []) ∷ []))
 
 unfoldable pub end_of : Kind → Duty → System
 end_of k d =
@@ -186,18 +186,18 @@ seen y = length y.receiving.persisted.has ∷ y.sending.sender.persisted.deliver
 abbrev pub ends : Duty → List ℕ
 ends exchanges = 0 ∷ 1 ∷ 1 ∷ []
 ends empties_lines = 0 ∷ 1 ∷ 1 ∷ []
-ends dropsReplies = 0 ∷ 1 ∷ 1 ∷ []
-ends dropsVerdicts = 0 ∷ 1 ∷ 1 ∷ []
+ends drops_replies = 0 ∷ 1 ∷ 1 ∷ []
+ends drops_verdicts = 0 ∷ 1 ∷ 1 ∷ []
 ends brings_nothing_late = 0 ∷ 1 ∷ 1 ∷ []
-ends writesInOrder = 2 ∷ 0 ∷ 0 ∷ []
-ends offersInOrder = 2 ∷ 0 ∷ 0 ∷ []
-ends senderPersistsFirst = 2 ∷ 1 ∷ 0 ∷ []
-ends persistsAsOne = 2 ∷ 0 ∷ 0 ∷ []
-ends reportsPersisted = 0 ∷ 1 ∷ 1 ∷ []
-ends reportsFailed = 2 ∷ 0 ∷ 0 ∷ []
+ends writes_in_order = 2 ∷ 0 ∷ 0 ∷ []
+ends offers_in_order = 2 ∷ 0 ∷ 0 ∷ []
+ends sender_persists_first = 2 ∷ 1 ∷ 0 ∷ []
+ends persists_as_one = 2 ∷ 0 ∷ 0 ∷ []
+ends reports_persisted = 0 ∷ 1 ∷ 1 ∷ []
+ends reports_failed = 2 ∷ 0 ∷ 0 ∷ []
 ends settles_writes = 2 ∷ 0 ∷ 0 ∷ []
-ends dropsNamed = 2 ∷ 0 ∷ 0 ∷ []
-ends dropsReports = 0 ∷ 1 ∷ 1 ∷ []
+ends drops_named = 2 ∷ 0 ∷ 0 ∷ []
+ends drops_reports = 0 ∷ 1 ∷ 1 ∷ []
 ends drops_decision = 2 ∷ 0 ∷ 0 ∷ []
 ends survives = 0 ∷ 1 ∷ 0 ∷ []
 
@@ -207,7 +207,7 @@ Ends k d = seen (end_of k d) ≡ ends d
 
 abbrev All : Kind → Type 0
 All k =
-    Ends k exchanges × Ends k empties_lines × Ends k dropsReplies × Ends k dropsVerdicts × Ends k brings_nothing_late × Ends k writesInOrder × Ends k offersInOrder × Ends k senderPersistsFirst × Ends k persistsAsOne × Ends k reportsPersisted × Ends k reportsFailed × Ends k settles_writes × Ends k dropsNamed × Ends k dropsReports × Ends k drops_decision × Ends k survives
+    Ends k exchanges × Ends k empties_lines × Ends k drops_replies × Ends k drops_verdicts × Ends k brings_nothing_late × Ends k writes_in_order × Ends k offers_in_order × Ends k sender_persists_first × Ends k persists_as_one × Ends k reports_persisted × Ends k reports_failed × Ends k settles_writes × Ends k drops_named × Ends k drops_reports × Ends k drops_decision × Ends k survives
 
 computed_hybrid : All Hybrid
 unfolding times reversed sends reads decides reports_stored reports_failure receives answered exchanged submitted begun loses landed old_answer left left_pending left_read foreign open_decision left_open case case_of end_of five_digits three_digits count_field checksum_of hybrid_body hybrid_block minimal_block block_of type_matches header_ok checksum_matches judge_parts data_of judge_hybrid judge_minimal judge content_of same put valid valid_link end_verdict move run field_start field_of bytes_of number_field decimal begins readable_header header_of readable_answer acknowledgment_of code_field answer_message control_message packed unpacked in_words word_bytes bytes_in valid_control_id valid_expected row_of is_row carried valid_receiver decide_of answer_of valid_sender submit_of open_of timer_of block_read_of one_at others_at accepted_of some_of run_of blank
@@ -224,18 +224,18 @@ both Minimal = computed_minimal
 pub computed : (k : Kind) (d : Duty) → Ends k d
 computed k exchanges = (both k).0
 computed k empties_lines = (both k).1
-computed k dropsReplies = (both k).2
-computed k dropsVerdicts = (both k).3
+computed k drops_replies = (both k).2
+computed k drops_verdicts = (both k).3
 computed k brings_nothing_late = (both k).4
-computed k writesInOrder = (both k).5
-computed k offersInOrder = (both k).6
-computed k senderPersistsFirst = (both k).7
-computed k persistsAsOne = (both k).8
-computed k reportsPersisted = (both k).9
-computed k reportsFailed = (both k).10
+computed k writes_in_order = (both k).5
+computed k offers_in_order = (both k).6
+computed k sender_persists_first = (both k).7
+computed k persists_as_one = (both k).8
+computed k reports_persisted = (both k).9
+computed k reports_failed = (both k).10
 computed k settles_writes = (both k).11
-computed k dropsNamed = (both k).12
-computed k dropsReports = (both k).13
+computed k drops_named = (both k).12
+computed k drops_reports = (both k).13
 computed k drops_decision = (both k).14
 computed k survives = (both k).15
 
@@ -253,7 +253,7 @@ answer_to k v n = block_of (example_link k).settings (code "D") (answer_message 
 -- the new answer to -1 is taken before an old one to 1, 1 is lost, and then the old one is taken
 unfoldable pub disordered : List SystemAct
 disordered =
-    submitted 1 ∷ opens ∷ (sends ++ (reads ++ (receives ++ receiverWrites ∷ (times 128 senderReads ++ senderActs 1 ∷ (loses ++ senderActs 0 ∷ senderPersists ∷ [])))))
+    submitted 1 ∷ opens ∷ (sends ++ (reads ++ (receives ++ receiver_writes ∷ (times 128 sender_reads ++ sender_acts 1 ∷ (loses ++ sender_acts 0 ∷ sender_persists ∷ [])))))
 
 -- One old answer, to 1, is dropped where order is kept, since the opening message waits: 1 is delivered only when it is stored.
 -- Where answers come in another order, which the statement allows, it is enough.
@@ -287,9 +287,9 @@ left_forward bs = record { forward = bs; back = []; pending = []; requests = [];
 pub with_request : Kind → System
 with_request k =
     let l = example_link k in
-    run_of every l (beginning every l (Next 1) (left_forward (block_of (example_link k).settings (code "D") foreign))) (reversed (reads ++ decides ∷ receiverPersists ∷ []) [])
+    run_of every l (beginning every l (Next 1) (left_forward (block_of (example_link k).settings (code "D") foreign))) (reversed (reads ++ decides ∷ receiver_persists ∷ []) [])
 
--- the same request, which was read before: the circuit is opened first, and without dropsVerdicts it is decided on after that
+-- the same request, which was read before: the circuit is opened first, and without drops_verdicts it is decided on after that
 left_request : Kind → Remains
 left_request k =
     let g = (example_link k).settings in
@@ -298,17 +298,17 @@ left_request k =
 pub with_kept : (Duty → Bool) → Kind → System
 with_kept h k =
     let l = example_link k in
-    run_of h l (beginning h l Unknown (left_request k)) (reversed (submitted 1 ∷ opens ∷ decides ∷ receiverPersists ∷ []) [])
+    run_of h l (beginning h l Unknown (left_request k)) (reversed (submitted 1 ∷ opens ∷ decides ∷ receiver_persists ∷ []) [])
 
 -- a decision on it is open, and without drops_decision is stored for the new tenant
 pub with_open : (Duty → Bool) → Kind → System
 with_open h k =
     let l = example_link k in
-    run_of h l (beginning h l Unknown left_open) (reversed (submitted 1 ∷ senderPersists ∷ receiverPersists ∷ []) [])
+    run_of h l (beginning h l Unknown left_open) (reversed (submitted 1 ∷ sender_persists ∷ receiver_persists ∷ []) [])
 
 abbrev Stores : Kind → Type 0
 Stores k =
-    ((with_request k).receiving.persisted.has ≡ foreign ∷ []) × (same foreign (example_log 1) ≡ false) × ((with_kept (every_but dropsVerdicts) k).receiving.persisted.has ≡ foreign ∷ [])
+    ((with_request k).receiving.persisted.has ≡ foreign ∷ []) × (same foreign (example_log 1) ≡ false) × ((with_kept (every_but drops_verdicts) k).receiving.persisted.has ≡ foreign ∷ [])
     × ((with_kept every k).receiving.persisted.has ≡ []) × ((with_open (every_but drops_decision) k).receiving.persisted.has ≡ foreign ∷ []) × ((with_open every k).receiving.persisted.has ≡ [])
 
 stores_hybrid : Stores Hybrid
@@ -338,8 +338,8 @@ pub with_old_request : (k : Kind) → Safe (example_link k) (with_request k) →
 with_old_request k f = no_foreign k (with_request k) (stores k).0 f
 
 -- and where it was read before, and kept over the first circuit: with the duty nothing is stored
-pub with_kept_request : (k : Kind) → (Safe (example_link k) (with_kept (every_but dropsVerdicts) k) → ⊥) × ((with_kept every k).receiving.persisted.has ≡ [])
-with_kept_request k = (λ f. no_foreign k (with_kept (every_but dropsVerdicts) k) (stores k).2 f, (stores k).3)
+pub with_kept_request : (k : Kind) → (Safe (example_link k) (with_kept (every_but drops_verdicts) k) → ⊥) × ((with_kept every k).receiving.persisted.has ≡ [])
+with_kept_request k = (λ f. no_foreign k (with_kept (every_but drops_verdicts) k) (stores k).2 f, (stores k).3)
 
 -- and where a decision on it was open
 pub with_open_decision : (k : Kind) → (Safe (example_link k) (with_open (every_but drops_decision) k) → ⊥) × ((with_open every k).receiving.persisted.has ≡ [])

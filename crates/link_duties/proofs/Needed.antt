@@ -20,8 +20,8 @@ use Rattle.receiver.specs.declared.Row.{Row}
 use Rattle.receiver.specs.declared.Open.{Open}
 use Rattle.receiver.specs.declared.Open.TheVariants.{Decision}
 use Rattle.receiver.specs.declared.Receiver.{Receiver}
-use Rattle.link.specs.Duties.{Duty, exchanges, empties_lines, dropsReplies, dropsVerdicts, brings_nothing_late, writesInOrder, offersInOrder, senderPersistsFirst, persistsAsOne}
-use Rattle.link.specs.Duties.{reportsPersisted, reportsFailed, settles_writes, dropsNamed, dropsReports, drops_decision, survives}
+use Rattle.link.specs.Duties.{Duty, exchanges, empties_lines, drops_replies, drops_verdicts, brings_nothing_late, writes_in_order, offers_in_order, sender_persists_first, persists_as_one}
+use Rattle.link.specs.Duties.{reports_persisted, reports_failed, settles_writes, drops_named, drops_reports, drops_decision, survives}
 use Rattle.link.specs.Duties.{index_taken, one_at, others_at}
 use Rattle.link.specs.System.{Link, System, request_decided, verdict_decided, request_taken, receiver_decides, after_act}
 use Rattle.link.specs.Promise.{Safe, OnlyAnswers}
@@ -29,24 +29,24 @@ use Rattle.link.specs.Needed.{every_but, Needed}
 use Rattle.link.specs.Example.{example_link}
 use Rattle.link.proofs.Safety.{none_left_lem}
 use Rattle.link_duties.proofs.Counterexamples.{reversed, old_answer, left, left_pending, left_read, left_open, case, case_of, end_of, computed, disordered, slot_seven_of, slot_seven_runs, unstored, ahead}
-use Rattle.link_duties.proofs.Further.{Further, number_alone, sender_reverts, request_late, restored_named, lands_restarted, restored_report, lineLater, verdictLater, duty_of, further_case_of, further_end_of, further_broken}
+use Rattle.link_duties.proofs.Further.{Further, number_alone, sender_reverts, request_late, restored_named, lands_restarted, restored_report, line_later, verdict_later, duty_of, further_case_of, further_end_of, further_broken}
 
 module _ (k : Kind) where
   broken : (d : Duty) → Safe (example_link k) (end_of k d) → ⊥
   broken exchanges = unstored k (end_of k exchanges) 1 (computed k exchanges)
   broken empties_lines = unstored k (end_of k empties_lines) 1 (computed k empties_lines)
-  broken dropsReplies = unstored k (end_of k dropsReplies) 1 (computed k dropsReplies)
-  broken dropsVerdicts = unstored k (end_of k dropsVerdicts) 1 (computed k dropsVerdicts)
+  broken drops_replies = unstored k (end_of k drops_replies) 1 (computed k drops_replies)
+  broken drops_verdicts = unstored k (end_of k drops_verdicts) 1 (computed k drops_verdicts)
   broken brings_nothing_late = unstored k (end_of k brings_nothing_late) 1 (computed k brings_nothing_late)
-  broken writesInOrder = ahead k (end_of k writesInOrder) 0 (computed k writesInOrder)
-  broken offersInOrder = ahead k (end_of k offersInOrder) 0 (computed k offersInOrder)
-  broken senderPersistsFirst = ahead k (end_of k senderPersistsFirst) 1 (computed k senderPersistsFirst)
-  broken persistsAsOne = ahead k (end_of k persistsAsOne) 0 (computed k persistsAsOne)
-  broken reportsPersisted = unstored k (end_of k reportsPersisted) 1 (computed k reportsPersisted)
-  broken reportsFailed = ahead k (end_of k reportsFailed) 0 (computed k reportsFailed)
+  broken writes_in_order = ahead k (end_of k writes_in_order) 0 (computed k writes_in_order)
+  broken offers_in_order = ahead k (end_of k offers_in_order) 0 (computed k offers_in_order)
+  broken sender_persists_first = ahead k (end_of k sender_persists_first) 1 (computed k sender_persists_first)
+  broken persists_as_one = ahead k (end_of k persists_as_one) 0 (computed k persists_as_one)
+  broken reports_persisted = unstored k (end_of k reports_persisted) 1 (computed k reports_persisted)
+  broken reports_failed = ahead k (end_of k reports_failed) 0 (computed k reports_failed)
   broken settles_writes = ahead k (end_of k settles_writes) 0 (computed k settles_writes)
-  broken dropsNamed = ahead k (end_of k dropsNamed) 0 (computed k dropsNamed)
-  broken dropsReports = unstored k (end_of k dropsReports) 1 (computed k dropsReports)
+  broken drops_named = ahead k (end_of k drops_named) 0 (computed k drops_named)
+  broken drops_reports = unstored k (end_of k drops_reports) 1 (computed k drops_reports)
   broken drops_decision = ahead k (end_of k drops_decision) 0 (computed k drops_decision)
   broken survives = unstored k (end_of k survives) 0 (computed k survives)
 
@@ -54,18 +54,18 @@ module _ (k : Kind) where
   unfolding valid_expected case_of case
   is_state exchanges = refl
   is_state empties_lines = refl
-  is_state dropsReplies = refl
-  is_state dropsVerdicts = refl
+  is_state drops_replies = refl
+  is_state drops_verdicts = refl
   is_state brings_nothing_late = refl
-  is_state writesInOrder = refl
-  is_state offersInOrder = refl
-  is_state senderPersistsFirst = refl
-  is_state persistsAsOne = refl
-  is_state reportsPersisted = refl
-  is_state reportsFailed = refl
+  is_state writes_in_order = refl
+  is_state offers_in_order = refl
+  is_state sender_persists_first = refl
+  is_state persists_as_one = refl
+  is_state reports_persisted = refl
+  is_state reports_failed = refl
   is_state settles_writes = refl
-  is_state dropsNamed = refl
-  is_state dropsReports = refl
+  is_state drops_named = refl
+  is_state drops_reports = refl
   is_state drops_decision = refl
   is_state survives = refl
 
@@ -74,18 +74,18 @@ module _ (k : Kind) where
   unfolding case_of case left left_pending left_read left_open
   leaves_answers exchanges = none_left_lem
   leaves_answers empties_lines = record { forward = refl; requests = refl }
-  leaves_answers dropsReplies = record { forward = refl; requests = refl }
-  leaves_answers dropsVerdicts = record { forward = refl; requests = refl }
+  leaves_answers drops_replies = record { forward = refl; requests = refl }
+  leaves_answers drops_verdicts = record { forward = refl; requests = refl }
   leaves_answers brings_nothing_late = none_left_lem
-  leaves_answers writesInOrder = none_left_lem
-  leaves_answers offersInOrder = none_left_lem
-  leaves_answers senderPersistsFirst = none_left_lem
-  leaves_answers persistsAsOne = none_left_lem
-  leaves_answers reportsPersisted = none_left_lem
-  leaves_answers reportsFailed = none_left_lem
+  leaves_answers writes_in_order = none_left_lem
+  leaves_answers offers_in_order = none_left_lem
+  leaves_answers sender_persists_first = none_left_lem
+  leaves_answers persists_as_one = none_left_lem
+  leaves_answers reports_persisted = none_left_lem
+  leaves_answers reports_failed = none_left_lem
   leaves_answers settles_writes = none_left_lem
-  leaves_answers dropsNamed = none_left_lem
-  leaves_answers dropsReports = none_left_lem
+  leaves_answers drops_named = none_left_lem
+  leaves_answers drops_reports = none_left_lem
   leaves_answers drops_decision = record { forward = refl; requests = refl }
   leaves_answers survives = none_left_lem
 
@@ -102,8 +102,8 @@ module _ (k : Kind) where
   further_state restored_named = refl
   further_state lands_restarted = refl
   further_state restored_report = refl
-  further_state lineLater = refl
-  further_state verdictLater = refl
+  further_state line_later = refl
+  further_state verdict_later = refl
 
   further_leaves : (x : Further) → OnlyAnswers (further_case_of k x).remains
   unfolding further_case_of case
@@ -113,8 +113,8 @@ module _ (k : Kind) where
   further_leaves restored_named = none_left_lem
   further_leaves lands_restarted = none_left_lem
   further_leaves restored_report = none_left_lem
-  further_leaves lineLater = none_left_lem
-  further_leaves verdictLater = none_left_lem
+  further_leaves line_later = none_left_lem
+  further_leaves verdict_later = none_left_lem
 
   pub needed_further : (x : Further) → Needed (example_link k) (duty_of x)
   unfolding further_end_of
@@ -153,31 +153,31 @@ module _ (k : Kind) where
   pub without_exchange : Needed (example_link k) exchanges
   without_exchange = needed exchanges
 
-  pub with_old_reply : Needed (example_link k) dropsReplies
-  with_old_reply = needed dropsReplies
+  pub with_old_reply : Needed (example_link k) drops_replies
+  with_old_reply = needed drops_replies
 
-  pub with_old_verdict : Needed (example_link k) dropsVerdicts
-  with_old_verdict = needed dropsVerdicts
+  pub with_old_verdict : Needed (example_link k) drops_verdicts
+  with_old_verdict = needed drops_verdicts
 
   -- messages out of order on the line, or blocks out of order at the receiver
-  pub out_of_order : Needed (example_link k) writesInOrder
-  out_of_order = needed writesInOrder
+  pub out_of_order : Needed (example_link k) writes_in_order
+  out_of_order = needed writes_in_order
 
-  pub offered_out_of_order : Needed (example_link k) offersInOrder
-  offered_out_of_order = needed offersInOrder
+  pub offered_out_of_order : Needed (example_link k) offers_in_order
+  offered_out_of_order = needed offers_in_order
 
   -- 02, §1: stored is reported before it is so; failed, where it was stored, or is so later; a true report outlives a crash; an earlier tenant's decision is still open
-  pub reported_before : Needed (example_link k) reportsPersisted
-  reported_before = needed reportsPersisted
+  pub reported_before : Needed (example_link k) reports_persisted
+  reported_before = needed reports_persisted
 
-  pub failed_stored : Needed (example_link k) reportsFailed
-  failed_stored = needed reportsFailed
+  pub failed_stored : Needed (example_link k) reports_failed
+  failed_stored = needed reports_failed
 
   pub failed_lands : Needed (example_link k) settles_writes
   failed_lands = needed settles_writes
 
-  pub report_outlives : Needed (example_link k) dropsReports
-  report_outlives = needed dropsReports
+  pub report_outlives : Needed (example_link k) drops_reports
+  report_outlives = needed drops_reports
 
   pub decision_left : Needed (example_link k) drops_decision
   decision_left = needed drops_decision
@@ -207,4 +207,4 @@ module _ (a : Application) (y : System) (id : ControlId) (r : Row) (e : y.receiv
 
   -- whichever of the blocks that were read is offered, it stays as it was read, and so does all else
   pub second_refused : (h : Duty → Bool) (l : Link) (n : ℕ) → after_act h l (receiver_decides n a) y ≡ y
-  second_refused h l n = let k = index_taken (h offersInOrder) n in offered (one_at k y.receiving.arrived) (others_at k y.receiving.arrived)
+  second_refused h l n = let k = index_taken (h offers_in_order) n in offered (one_at k y.receiving.arrived) (others_at k y.receiving.arrived)

@@ -13,7 +13,7 @@ use Rattle.station.specs.declared.ReplyKind.TheVariants.{NoneYet, Ack as AckKind
 use Rattle.master.proofs.Valid.{fits_after}
 use Rattle.master.proofs.History.{reachable}
 use Rattle.master.proofs.Reversing.{is_open}
-use Rattle.master.specs.Master.{block_number, valid_master, is_last, resend_of, acknowledged_of, accepted_of, ack_of, waiting_reply, start_now, start_of, master_reply_of, timer_aOf, close_of}
+use Rattle.master.specs.Master.{block_number, valid_master, is_last, resend_of, acknowledged_of, accepted_of, ack_of, waiting_reply, start_now, start_of, master_reply_of, timer_a_of, close_of}
 use Rattle.master.specs.Reversal.{reversal, master_state, refuses_by, refuses_rint, noted, enq_last, kept, answer_of, is_acknowledged, reversed_of, enquire_of, may_receive_now, may_receive_of, is_none_yet, heard, reversal_fits}
 use Rattle.master.specs.declared.Outstanding.{Outstanding}
 use Rattle.master.specs.declared.Master.{Master}
@@ -26,7 +26,7 @@ use Rattle.master.specs.declared.Reversal.{Reversal}
 use Rattle.master.specs.declared.MasterState.{MasterState}
 use Rattle.master.specs.declared.MasterActed.{MasterActed}
 use Rattle.master.specs.declared.MasterAnswer.{MasterAnswer}
-use Rattle.master.specs.MasterHistory.{MasterAct, start, reply, timer, close, enquire, mayReceive, master_act_of, master_after, answers_of, is_out, heard_of, last_heard, is_nak_kind, is_rint_kind, rint_heard, is_nothing, is_enq, enq_sent_last, rint_refused, is_leave, leave_given}
+use Rattle.master.specs.MasterHistory.{MasterAct, start, reply, timer, close, enquire, may_receive, master_act_of, master_after, answers_of, is_out, heard_of, last_heard, is_nak_kind, is_rint_kind, rint_heard, is_nothing, is_enq, enq_sent_last, rint_refused, is_leave, leave_given}
 
 -- ---- which master comes after which: closed it stays closed; a block comes out by being sent; after leave it is no other block
 abbrev follows : Bool → Master → Transmission → Master → Bool
@@ -107,7 +107,7 @@ module _ (m : Master) (v : Reversal) where
   noted_noting Damaged = refl
   noted_noting Rint = refl
 
-  leave_noting : (b : Bool) → v.interrupted ≡ b → reversal v.last v.interrupted v.enquired (b || v.may_receive) ≡ noting mayReceive v
+  leave_noting : (b : Bool) → v.interrupted ≡ b → reversal v.last v.interrupted v.enquired (b || v.may_receive) ≡ noting may_receive v
   leave_noting b e = ap (λ (i : Bool). reversal v.last v.interrupted v.enquired (i || v.may_receive)) (sym e)
 
 start_follows : (may : Bool) (n size : ℕ) (m : Master) → follows may m (start_of n size m).send (start_of n size m).master ≡ true
@@ -121,7 +121,7 @@ start_follows may n size m =
     now (Waiting o) = same may (Waiting o) Nothing
 
 act_answers : (x : MasterAct) (m : Master) (v : Reversal) → valid_master m ≡ true → Answers x m v (master_act_of x (master_state m v))
-unfolding timer_aOf close_of enquire_of may_receive_of reversed_of answer_of Follows
+unfolding timer_a_of close_of enquire_of may_receive_of reversed_of answer_of Follows
 act_answers (start n size) m v h = answered m v (start n size) v _ refl (start_follows v.may_receive n size m)
 act_answers (reply r) m v h =
     let may = v.may_receive in
@@ -131,7 +131,7 @@ act_answers (reply r) m v h =
     (reply_follows may (refuses_rint v) r m h))
 act_answers timer m v h = answered m v timer v _ refl (again m h)
   where
-    again : (m : Master) → valid_master m ≡ true → follows v.may_receive m (timer_aOf m).send (timer_aOf m).master ≡ true
+    again : (m : Master) → valid_master m ≡ true → follows v.may_receive m (timer_a_of m).send (timer_a_of m).master ≡ true
     again (Closed c) e = refl
     again (Idle c) e = refl
     again (Waiting o) e = rw e (resend_follows v.may_receive o)
@@ -141,14 +141,14 @@ act_answers close (Waiting o) v h = answered (Waiting o) v close v _ refl (same 
 act_answers enquire (Closed c) v h = answered (Closed c) v enquire v _ refl refl
 act_answers enquire (Idle c) v h = answered (Idle c) v enquire v _ refl refl
 act_answers enquire (Waiting o) v h = answered (Waiting o) v enquire v _ refl (rw h (same v.may_receive (Waiting o) SendEnq))
-act_answers mayReceive m v h =
-    cond_ind (Answers mayReceive m v) v.interrupted _ _ (λ e. leaves m h e)
-    (λ e. answered m v mayReceive v _ (leave_noting m v false e) (same v.may_receive m Nothing))
+act_answers may_receive m v h =
+    cond_ind (Answers may_receive m v) v.interrupted _ _ (λ e. leaves m h e)
+    (λ e. answered m v may_receive v _ (leave_noting m v false e) (same v.may_receive m Nothing))
   where
-    leaves : (m : Master) → valid_master m ≡ true → v.interrupted ≡ true → Answers mayReceive m v (may_receive_now m v)
+    leaves : (m : Master) → valid_master m ≡ true → v.interrupted ≡ true → Answers may_receive m v (may_receive_now m v)
     leaves (Closed c) f e = record { order = refl; stays = refl }
     leaves (Idle c) f e = record { order = refl; stays = refl }
-    leaves (Waiting o) f e = rw f (answered (Waiting o) v mayReceive _ _ (leave_noting (Waiting o) v true e) (same v.may_receive (Waiting o) Nothing))
+    leaves (Waiting o) f e = rw f (answered (Waiting o) v may_receive _ _ (leave_noting (Waiting o) v true e) (same v.may_receive (Waiting o) Nothing))
 
 -- ---- what was heard, while the master is open
 open_before : (may : Bool) (m : Master) (t : Transmission) (n : Master) → follows may m t n ≡ true → is_open n ≡ true → is_open m ≡ true

@@ -12,7 +12,7 @@ use Rattle.station.specs.Station.{precedes}
 use Rattle.station.specs.declared.Ending.TheVariants.{Etb, Etx}
 use Rattle.station.proofs.Duplicates.{next_differs, precedes_next}
 use Rattle.master.proofs.Valid.{again_valid, next_valid}
-use Rattle.master.specs.Master.{outstanding, block_number, valid_outstanding, valid_master, is_last, block_out, master_acted, unchanged, refused_master, sends_out, resent, resend_of, next_out, acknowledged_of, accepted_of, ack_of, waiting_reply, idle_reply, start_now, start_of, master_reply_of, timer_aOf, close_of}
+use Rattle.master.specs.Master.{outstanding, block_number, valid_outstanding, valid_master, is_last, block_out, master_acted, unchanged, refused_master, sends_out, resent, resend_of, next_out, acknowledged_of, accepted_of, ack_of, waiting_reply, idle_reply, start_now, start_of, master_reply_of, timer_a_of, close_of}
 use Rattle.master.specs.Reversal.{refuses_rint, master_state, answer_of, is_acknowledged, reversed_of, reply_answer, enquire_of, may_receive_now, may_receive_of}
 use Rattle.master.specs.declared.Outstanding.{Outstanding}
 use Rattle.master.specs.declared.Master.{Master}
@@ -29,7 +29,7 @@ use Rattle.master.specs.declared.Reversal.{Reversal}
 use Rattle.master.specs.declared.MasterState.{MasterState}
 use Rattle.master.specs.declared.MasterActed.{MasterActed}
 use Rattle.master.specs.declared.MasterAnswer.{MasterAnswer}
-use Rattle.master.specs.MasterHistory.{MasterAct, start, reply, timer, close, enquire, mayReceive, master_act_of, master_after, answers_of, is_out, plus_send, sends_of, SendsOfOut, fails_by, is_failed}
+use Rattle.master.specs.MasterHistory.{MasterAct, start, reply, timer, close, enquire, may_receive, master_act_of, master_after, answers_of, is_out, plus_send, sends_of, SendsOfOut, fails_by, is_failed}
 
 data NoClaim : Type 0 where
   no_claim : NoClaim
@@ -174,7 +174,7 @@ module _ (h : List MasterActed) where
       cond_ind (λ (a : MasterAnswer). After a.acted) (valid_outstanding o) _ _ (λ f. same_kept o k) (λ f. refused-kept o 11 k)
 
   act_kept : (x : MasterAct) (m : Master) (v : Reversal) → Kept m h → After (master_act_of x (master_state m v)).acted
-  unfolding start_of timer_aOf close_of enquire_of may_receive_of answer_of After
+  unfolding start_of timer_a_of close_of enquire_of may_receive_of answer_of After
   act_kept (start n size) m v k = cond_ind After (leb 1 size) _ _ (λ f. start_kept n size m f k) (λ f. refused-same 1 m k)
   act_kept (reply r) m v k = reversed_kept v (master_reply_of (refuses_rint v) r m) (reply_kept (refuses_rint v) r m k)
   act_kept timer (Closed count) v k = closed
@@ -186,7 +186,7 @@ module _ (h : List MasterActed) where
   act_kept enquire (Closed count) v k = closed
   act_kept enquire (Idle count) v k = idle
   act_kept enquire (Waiting o) v k = cond_ind After (valid_outstanding o) _ _ (λ f. enquired_kept o k) (λ f. refused-kept o 11 k)
-  act_kept mayReceive m v k =
+  act_kept may_receive m v k =
       cond_ind (λ (a : MasterAnswer). After a.acted) v.interrupted _ _ (λ f. leave_kept m v k) (λ f. refused-same 11 m k)
 
 run-kept : (xs : List MasterAct) → Kept (master_after xs).master (answers_of xs)
@@ -274,7 +274,7 @@ reply_fails Rint (Waiting o) v h = rw h (rint_fails o (refuses_rint v))
 
 -- an act ends an opening by failure exactly if it is a cause for a resend and five were made
 pub fails_exactly : (x : MasterAct) (s : MasterState) → valid_master s.master ≡ true → is_failed (master_act_of x s).acted.end ≡ fails_by x s.master s.reversal
-unfolding start_of timer_aOf close_of enquire_of may_receive_of answer_of
+unfolding start_of timer_a_of close_of enquire_of may_receive_of answer_of
 fails_exactly x s valid = go x s.master s.reversal valid
   where
     -- both ways of a test name no failure
@@ -296,9 +296,9 @@ fails_exactly x s valid = go x s.master s.reversal valid
     go enquire (Closed c) v h = refl
     go enquire (Idle c) v h = refl
     go enquire (Waiting o) v h = rw h
-    go mayReceive (Closed c) v h = either v.interrupted _ _ refl refl
-    go mayReceive (Idle c) v h = either v.interrupted _ _ refl refl
-    go mayReceive (Waiting o) v h = either v.interrupted _ _ (either (valid_outstanding o) _ _ refl refl) refl
+    go may_receive (Closed c) v h = either v.interrupted _ _ refl refl
+    go may_receive (Idle c) v h = either v.interrupted _ _ refl refl
+    go may_receive (Waiting o) v h = either v.interrupted _ _ (either (valid_outstanding o) _ _ refl refl) refl
 
 -- ---- "ETB on all but the last"
 pub last_ends : (o : Outstanding) → is_last o ≡ true → (block_out o).ending ≡ Etx

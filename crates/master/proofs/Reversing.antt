@@ -9,7 +9,7 @@ use Rattle.lists.proofs.Tests.{cond_ind, and_left, and_right}
 use Rattle.station.specs.Station.{precedes}
 use Rattle.station.specs.declared.ReplyKind.{ReplyKind}
 use Rattle.station.specs.declared.ReplyKind.TheVariants.{NoneYet, Ack as AckKind, Nak as NakKind, Rint as RintKind}
-use Rattle.master.specs.Master.{block_number, valid_outstanding, valid_master, is_last, master_acted, unchanged, refused_master, resend_of, acknowledged_of, accepted_of, ack_of, waiting_reply, start_now, start_of, master_reply_of, timer_aOf, close_of}
+use Rattle.master.specs.Master.{block_number, valid_outstanding, valid_master, is_last, master_acted, unchanged, refused_master, resend_of, acknowledged_of, accepted_of, ack_of, waiting_reply, start_now, start_of, master_reply_of, timer_a_of, close_of}
 use Rattle.master.specs.Reversal.{reversal, fresh_reversal, master_state, refuses_rint, noted, kept, answer_of, is_acknowledged, count_in, reversed_of, reply_answer, enquire_of, enquire_answer, allowed, may_receive_now, may_receive_of, is_none_yet, heard, reversal_fits}
 use Rattle.master.specs.declared.Outstanding.{Outstanding}
 use Rattle.master.specs.declared.Master.{Master}
@@ -24,7 +24,7 @@ use Rattle.master.specs.declared.Reversal.{Reversal}
 use Rattle.master.specs.declared.MasterState.{MasterState}
 use Rattle.master.specs.declared.MasterActed.{MasterActed}
 use Rattle.master.specs.declared.MasterAnswer.{MasterAnswer}
-use Rattle.master.specs.MasterHistory.{MasterAct, start, reply, timer, close, enquire, mayReceive, master_act_of, state_then}
+use Rattle.master.specs.MasterHistory.{MasterAct, start, reply, timer, close, enquire, may_receive, master_act_of, state_then}
 
 -- ---- "when its driver says it may receive, ends with EOT when the block out is accepted"
 abbrev pub is_reversed : End → Bool
@@ -207,7 +207,7 @@ started n size (Idle count) v h = taken (Idle count) v _ refl
 started n size (Waiting o) v h = refused 11 (Waiting o) v h
 
 act_same : (x : MasterAct) (m : Master) (v : Reversal) → valid_master m ≡ true → reversal_fits m v ≡ true → Same m v (master_act_of x (master_state m v))
-unfolding start_of timer_aOf close_of enquire_of may_receive_of reversed_of answer_of
+unfolding start_of timer_a_of close_of enquire_of may_receive_of reversed_of answer_of
 act_same (start n size) m v f h =
     cond_ind (λ (a : MasterActed). Same m v (answer_of v a)) (leb 1 size) _ _ (λ e. started n size m v h) (λ e. refused 1 m v h)
 act_same (reply r) m v f h =
@@ -222,7 +222,7 @@ act_same close (Waiting o) v f h = refused 11 (Waiting o) v h
 act_same enquire (Closed count) v f h = refused 11 (Closed count) v h
 act_same enquire (Idle count) v f h = refused 11 (Idle count) v h
 act_same enquire (Waiting o) v f h = taken (Waiting o) v _ (rw f)
-act_same mayReceive m v f h = cond_ind (Same m v) v.interrupted _ _ (λ e. leaves m f h) (λ e. refused 11 m v h)
+act_same may_receive m v f h = cond_ind (Same m v) v.interrupted _ _ (λ e. leaves m f h) (λ e. refused 11 m v h)
   where
     leaves : (m : Master) → valid_master m ≡ true → reversal_fits m v ≡ true → Same m v (may_receive_now m v)
     leaves (Closed count) f h = refused 11 (Closed count) v h

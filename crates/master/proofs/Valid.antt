@@ -8,7 +8,7 @@ use lib.Dec.{leb, eqb}
 use borrow.Author.Tests.{leb-false, le-leb, lt-ltb}
 use Rattle.lists.proofs.Tests.{cond_ind, or_true, and_left, and_right}
 use Rattle.fragments.proofs.Fragments.{ends_before}
-use Rattle.master.specs.Master.{valid_outstanding, is_last, master_acted, unchanged, refused_master, resent, resend_of, next_out, start_now, start_of, master_reply_of, timer_aOf, close_of}
+use Rattle.master.specs.Master.{valid_outstanding, is_last, master_acted, unchanged, refused_master, resent, resend_of, next_out, start_now, start_of, master_reply_of, timer_a_of, close_of}
 use Rattle.master.specs.Reversal.{master_state, refuses_rint, noted, kept, answer_of, is_acknowledged, reversed_of, enquire_of, allowed, may_receive_now, may_receive_of, heard, is_none_yet, reversal_fits}
 use Rattle.master.specs.declared.Outstanding.{Outstanding}
 use Rattle.master.specs.declared.Master.{Master}
@@ -23,7 +23,7 @@ use Rattle.master.specs.declared.Reversal.{Reversal}
 use Rattle.master.specs.declared.MasterState.{MasterState}
 use Rattle.master.specs.declared.MasterActed.{MasterActed}
 use Rattle.master.specs.declared.MasterAnswer.{MasterAnswer}
-use Rattle.master.specs.MasterHistory.{MasterAct, start, reply, timer, close, enquire, mayReceive, master_act_of, master_after}
+use Rattle.master.specs.MasterHistory.{MasterAct, start, reply, timer, close, enquire, may_receive, master_act_of, master_after}
 
 module _ (o : Outstanding) (v : valid_outstanding o ≡ true) where
   pub again_valid : leb 5 o.resends ≡ false → valid_outstanding (resent o) ≡ true
@@ -117,12 +117,12 @@ leave_fits (Waiting o) v e h =
     (λ f. answer_fits v (refused_master 11 (Waiting o)) h)
 
 act_goes : (x : MasterAct) (m : Master) (v : Reversal) → reversal_fits m v ≡ true → Fits (master_act_of x (master_state m v))
-unfolding start_of timer_aOf close_of enquire_of may_receive_of resend_of Goes
+unfolding start_of timer_a_of close_of enquire_of may_receive_of resend_of Goes
 act_goes (start n size) m v h = answer_fits v (start_of n size m) (cond_ind (Goes v) (leb 1 size) _ _ (λ f. start_goes n size m v h) (λ f. goes_on_lem m v h))
 act_goes (reply r) m v h = answer_fits (noted r v) _ (reversed_goes v (noted r v) (master_reply_of (refuses_rint v) r m) (reply_goes r m v h))
-act_goes timer m v h = answer_fits v (timer_aOf m) (again m h)
+act_goes timer m v h = answer_fits v (timer_a_of m) (again m h)
   where
-    again : (m : Master) → reversal_fits m v ≡ true → Goes v (timer_aOf m)
+    again : (m : Master) → reversal_fits m v ≡ true → Goes v (timer_a_of m)
     again (Closed count) e = refl
     again (Idle count) e = goes_on_lem (Idle count) v e
     again (Waiting o) e = cond_ind (Goes v) (valid_outstanding o) _ _ (λ f. cond_ind (Goes v) (leb 5 o.resends) _ _ (λ g. refl) (λ g. e)) (λ f. e)
@@ -138,7 +138,7 @@ act_goes enquire m v h = answer_fits v (enquire_of m) (enquires m h)
     enquires (Closed count) e = refl
     enquires (Idle count) e = goes_on_lem (Idle count) v e
     enquires (Waiting o) e = cond_ind (Goes v) (valid_outstanding o) _ _ (λ f. e) (λ f. e)
-act_goes mayReceive m v h =
+act_goes may_receive m v h =
     cond_ind Fits v.interrupted _ _ (λ e. leave_fits m v e h) (λ e. answer_fits v (refused_master 11 m) (goes_on_lem m v h))
 
 -- after every act from a state whose parts go together they go together

@@ -137,10 +137,10 @@ master_reply_of refuses r (Idle count) = idle_reply r count
 master_reply_of refuses r (Waiting o) = need (valid_outstanding o) (refused_master STATE (Waiting o)) (waiting_reply refuses r o)
 
 -- "or on Timer A"
-unfoldable pub timer_aOf : Master → MasterActed
-timer_aOf (Closed count) = unchanged (Closed count)
-timer_aOf (Idle count) = unchanged (Idle count)
-timer_aOf (Waiting o) = need (valid_outstanding o) (refused_master STATE (Waiting o)) (resend_of o)
+unfoldable pub timer_a_of : Master → MasterActed
+timer_a_of (Closed count) = unchanged (Closed count)
+timer_a_of (Idle count) = unchanged (Idle count)
+timer_a_of (Waiting o) = need (valid_outstanding o) (refused_master STATE (Waiting o)) (resend_of o)
 
 -- "After the last ACK the driver .. closes with EOT"
 unfoldable pub close_of : Master → MasterActed

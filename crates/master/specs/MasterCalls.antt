@@ -163,8 +163,8 @@ unfoldable pub master_reply_call : ℕ → ℕ → List ℕ → List ℕ → Cal
 master_reply_call code n st p = replied_with (response_of code n) st p
 
 -- gmv_master_timer
-unfoldable pub timer_aCall : List ℕ → List ℕ → Called
-timer_aCall st p = master_call timer_answer st p
+unfoldable pub timer_a_call : List ℕ → List ℕ → Called
+timer_a_call st p = master_call timer_answer st p
 
 -- gmv_master_close
 unfoldable pub close_call : List ℕ → List ℕ → Called

@@ -23,7 +23,7 @@ use Rattle.master.specs.declared.MasterAnswer.{MasterAnswer}
 pub data MasterAct : Type 0 where
   start : ℕ → ℕ → MasterAct
   reply : Response → MasterAct
-  timer close enquire mayReceive : MasterAct
+  timer close enquire may_receive : MasterAct
 
 abbrev pub master_act_of : MasterAct → MasterState → MasterAnswer
 master_act_of (start n size) s = start_answer n size s
@@ -31,7 +31,7 @@ master_act_of (reply r) s = reply_answer r s
 master_act_of timer s = timer_answer s
 master_act_of close s = close_answer s
 master_act_of enquire s = enquire_answer s
-master_act_of mayReceive s = may_receive_of s
+master_act_of may_receive s = may_receive_of s
 
 -- the master after a run, and the answers; the newest first
 abbrev pub state_then : MasterAnswer → MasterState
@@ -77,7 +77,7 @@ is_cause (reply Rint) v number = refuses_rint v
 is_cause timer v number = true
 is_cause close v number = false
 is_cause enquire v number = false
-is_cause mayReceive v number = false
+is_cause may_receive v number = false
 
 abbrev pub fails_by : MasterAct → Master → Reversal → Bool
 fails_by x (Closed count) v = false
@@ -102,7 +102,7 @@ heard_of (reply Rint) = RintKind
 heard_of timer = NoneYet
 heard_of close = NoneYet
 heard_of enquire = NoneYet
-heard_of mayReceive = NoneYet
+heard_of may_receive = NoneYet
 
 unfoldable pub last_heard : List MasterAct → ReplyKind
 last_heard [] = NoneYet
@@ -152,7 +152,7 @@ is_leave (reply r) = false
 is_leave timer = false
 is_leave close = false
 is_leave enquire = false
-is_leave mayReceive = true
+is_leave may_receive = true
 
 unfoldable pub leave_given : ℕ → List MasterAct → Bool
 leave_given count [] = false

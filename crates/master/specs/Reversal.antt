@@ -4,7 +4,7 @@ use Rattle.lists.specs.Outcome.{need}
 use Rattle.refusal.specs.Refusal.{STATE}
 use Rattle.station.specs.declared.ReplyKind.{ReplyKind}
 use Rattle.station.specs.declared.ReplyKind.TheVariants.{NoneYet, Ack as AckKind, Nak as NakKind, Rint as RintKind}
-use Rattle.master.specs.Master.{valid_outstanding, master_acted, unchanged, refused_master, opened_master, start_of, master_reply_of, timer_aOf, close_of}
+use Rattle.master.specs.Master.{valid_outstanding, master_acted, unchanged, refused_master, opened_master, start_of, master_reply_of, timer_a_of, close_of}
 use Rattle.master.specs.declared.Master.{Master}
 use Rattle.master.specs.declared.Master.TheVariants.{Closed, Idle, Waiting}
 use Rattle.master.specs.declared.Response.{Response}
@@ -88,7 +88,7 @@ abbrev pub reply_answer : Response → MasterState → MasterAnswer
 reply_answer r s = answer_of (noted r s.reversal) (reversed_of s.reversal (master_reply_of (refuses_rint s.reversal) r s.master))
 
 abbrev pub timer_answer : MasterState → MasterAnswer
-timer_answer s = answer_of s.reversal (timer_aOf s.master)
+timer_answer s = answer_of s.reversal (timer_a_of s.master)
 
 abbrev pub close_answer : MasterState → MasterAnswer
 close_answer s = answer_of s.reversal (close_of s.master)

@@ -1,7 +1,7 @@
 // What the driver wishes and reports.
 ghost use Rattle.std.specs.Prelude.{◌≡◌, cond};
 ghost use Rattle.master.specs.declared.Progress.TheVariants.{NoProgress};
-ghost use Rattle.master.specs.Master.{outstanding, valid_outstanding, sends_out, resend_of, accepted_of, waiting_reply, idle_reply, ended_by_slave, opened_master, start_of, master_reply_of, timer_aOf, close_of};
+ghost use Rattle.master.specs.Master.{outstanding, valid_outstanding, sends_out, resend_of, accepted_of, waiting_reply, idle_reply, ended_by_slave, opened_master, start_of, master_reply_of, timer_a_of, close_of};
 
 use crate::blocks::{accept, answer, nothing_changes, refuse, resend, send_out, take_ack};
 use master::{End, Master, MasterActed, Outstanding, Progress, Response, Transmission};
@@ -106,7 +106,7 @@ pub(crate) fn reply(refuses: bool, response: Response, master: Master) -> Master
 
 // Timer A ran out.
 pub(crate) fn timer(master: Master) -> MasterActed
-    ensures { result ≡ timer_aOf master }
+    ensures { result ≡ timer_a_of master }
 {
     match master {
         Master::Closed(_) => nothing_changes(master),

@@ -1,7 +1,7 @@
 // The master's acts on words.
 ghost use Rattle.std.specs.Prelude.{◌≡◌, [], ◌≤◌, length};
 ghost use Rattle.lists.specs.Outcome.{called};
-ghost use Rattle.master.specs.MasterCalls.{enough_master_words, master_written, fresh_master_call, open_master_call, start_call, master_reply_call, timer_aCall, close_call, enquire_call, may_receive_call};
+ghost use Rattle.master.specs.MasterCalls.{enough_master_words, master_written, fresh_master_call, open_master_call, start_call, master_reply_call, timer_a_call, close_call, enquire_call, may_receive_call};
 
 use crate::reversals::{
     close_answer, enquire_answer, fresh_reversal, may_receive, opened_answer, reply_answer,
@@ -103,7 +103,7 @@ pub fn reply_words(code: u64, number: u64, state: &mut [u64], report: &mut [u64]
 
 // Timer A ran out.
 pub fn timer_words(state: &mut [u64], report: &mut [u64]) -> u64
-    ensures { called result state.new [] report.new ≡ timer_aCall state.old report.old }
+    ensures { called result state.new [] report.new ≡ timer_a_call state.old report.old }
 {
     if !enough_words(state.len(), report.len()) {
         return refusal::TOO_SHORT;

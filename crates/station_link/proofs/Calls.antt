@@ -41,8 +41,8 @@ use Rattle.master.specs.declared.Reversal.{Reversal}
 use Rattle.master.specs.declared.MasterState.{MasterState}
 use Rattle.master.specs.declared.MasterAnswer.{MasterAnswer}
 use Rattle.master.specs.declared.DecodedMaster.{DecodedMaster}
-use Rattle.master.specs.MasterCalls.{state_words, ending_word, master_report, master_written, enough_master_words, master_act_on, master_call, open_master_call, start_call, master_reply_call, timer_aCall, close_call, enquire_call, may_receive_call}
-use Rattle.master.specs.MasterHistory.{MasterAct, start, reply, timer, close, enquire, mayReceive, master_act_of, state_then, master_after}
+use Rattle.master.specs.MasterCalls.{state_words, ending_word, master_report, master_written, enough_master_words, master_act_on, master_call, open_master_call, start_call, master_reply_call, timer_a_call, close_call, enquire_call, may_receive_call}
+use Rattle.master.specs.MasterHistory.{MasterAct, start, reply, timer, close, enquire, may_receive, master_act_of, state_then, master_after}
 use Rattle.master.proofs.ReadBack.{words_back}
 use Rattle.master.proofs.Valid.{fits_after}
 use Rattle.master.proofs.History.{reachable}
@@ -92,7 +92,7 @@ module _ (st : List ℕ) (enough : 10 ≤ length st) where
 
       -- each call is its act
       pub call_is_act : (x : MasterAct) → master_call_of x (words s) p ≡ master_written (words s) p (master_act_of x s)
-      unfolding master_reply_call timer_aCall close_call enquire_call may_receive_call
+      unfolding master_reply_call timer_a_call close_call enquire_call may_receive_call
       call_is_act (start n size) = start_is n size
       call_is_act (reply (Ack n)) = call_is (reply_answer (Ack n))
       call_is_act (reply Nak) = call_is (reply_answer Nak)
@@ -102,7 +102,7 @@ module _ (st : List ℕ) (enough : 10 ≤ length st) where
       call_is_act timer = call_is timer_answer
       call_is_act close = call_is close_answer
       call_is_act enquire = call_is enquire_answer
-      call_is_act mayReceive = call_is may_receive_of
+      call_is_act may_receive = call_is may_receive_of
 
     -- the words after an act; a refused one leaves the master as it is
     written_words : (s : MasterState) (a : MasterAnswer) → ((a.acted.refusal ≡ 0 → ⊥) → state_then a ≡ s) → (master_written (words s) p a).state ≡ words (state_then a)

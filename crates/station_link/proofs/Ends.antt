@@ -10,7 +10,7 @@ use Rattle.lists.specs.Bytes.{greatest_word}
 use Rattle.lists.proofs.Tests.{cond_ind}
 use Rattle.station.specs.Station.{precedes}
 use Rattle.station.specs.History.{Block, messages_of}
-use Rattle.master.specs.Master.{outstanding, block_number, valid_outstanding, is_last, unchanged, refused_master, resent, resend_of, next_out, acknowledged_of, accepted_of, ack_of, waiting_reply, idle_reply, start_now, start_of, master_reply_of, timer_aOf, close_of}
+use Rattle.master.specs.Master.{outstanding, block_number, valid_outstanding, is_last, unchanged, refused_master, resent, resend_of, next_out, acknowledged_of, accepted_of, ack_of, waiting_reply, idle_reply, start_now, start_of, master_reply_of, timer_a_of, close_of}
 use Rattle.master.specs.Reversal.{answer_of, is_acknowledged, reversed_of, enquire_of, may_receive_now, may_receive_of, master_state, count_in}
 use Rattle.master.specs.declared.Reversal.{Reversal}
 use Rattle.master.specs.declared.MasterAnswer.{MasterAnswer}
@@ -104,8 +104,8 @@ module _ (message : List ℕ) (e : End) (sent : List Block) (d : ℕ) (eots : Bo
     waiting_told true Rint f = resend_then_told
     waiting_told false Rint f = accept_told
 
-  pub timer_told : (m : Master) → Told e m sent d eots → ToldAfter (timer_aOf m)
-  unfolding timer_aOf
+  pub timer_told : (m : Master) → Told e m sent d eots → ToldAfter (timer_a_of m)
+  unfolding timer_a_of
   timer_told (Closed a) t = t
   timer_told (Idle a) t = t
   timer_told (Waiting o) t =
@@ -234,8 +234,8 @@ pub may_grows : (m : Master) (v : Reversal) → Grows (count_in m) (may_receive_
 unfolding may_receive_of answer_of
 may_grows m v = cond_ind (λ (x : MasterAnswer). Grows (count_in m) x.acted) v.interrupted _ _ (λ h. may_grows_now m v) (λ h. omega arith)
 
-pub timer_grows : (m : Master) → Grows (count_in m) (timer_aOf m)
-unfolding timer_aOf
+pub timer_grows : (m : Master) → Grows (count_in m) (timer_a_of m)
+unfolding timer_a_of
 timer_grows (Closed a) = omega arith
 timer_grows (Idle a) = omega arith
 timer_grows (Waiting o) = cond_ind (Grows o.count) (valid_outstanding o) _ _ (λ h. resend_grows o) (λ h. omega arith)
@@ -323,8 +323,8 @@ module _ (ms : List Started) (d : ℕ) where
     as_open : (m : Master) → Told e m sent d eots → is_closed m ≡ false → (a : MasterActed) → Unclosed a → FinishedAfter a
     as_open m t h a u = subst (λ (z : End). Finished (end_after a.end z) ms (done_after a.progress d)) (sym (open_not-ended e m sent d eots t h)) u
 
-    pub timer_finished : (m : Master) → Told e m sent d eots → Finished e ms d → FinishedAfter (timer_aOf m)
-    unfolding timer_aOf
+    pub timer_finished : (m : Master) → Told e m sent d eots → Finished e ms d → FinishedAfter (timer_a_of m)
+    unfolding timer_a_of
     timer_finished (Closed a) t f = f
     timer_finished (Idle a) t f = f
     timer_finished (Waiting o) t f = cond_ind FinishedAfter (valid_outstanding o) _ _ (λ h. as_open (Waiting o) t refl (resend_of o) (resend_unclosed o)) (λ h. f)

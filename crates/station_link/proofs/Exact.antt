@@ -33,12 +33,12 @@ use Rattle.master.specs.declared.Response.TheVariants.{Ack, Nak, Eot, Damaged, R
 use Rattle.master.specs.declared.End.{End}
 use Rattle.master.specs.declared.End.TheVariants.{NotEnded, Failed, BySlave, ByDriver, Reversed}
 use Rattle.station_link.specs.System.{damaged_reply, Started, Receiving, System, system, beginning, message_out, done_after, end_after, master_did, state_in, responses_of, is_eot, is_rint, refused_reply, is_replaced, receiving_after, opened_receiving}
-use Rattle.station_link.specs.System.{LinkAct, starts, timerRuns, closes, masterEot, enquires, mayReceive, slave_opens, grants, asks_rint, slave_ends, arrives, arrivesUnstored, reply_arrives, loses, losesReply, repeats, repeatsReply, damages, damagesReply, disturbs, disturbsReply}
+use Rattle.station_link.specs.System.{LinkAct, starts, timer_runs, closes, master_eot, enquires, may_receive, slave_opens, grants, asks_rint, slave_ends, arrives, arrives_unstored, reply_arrives, loses, loses_reply, repeats, repeats_reply, damages, damages_reply, disturbs, disturbs_reply}
 use Rattle.station_link.specs.System.{station_reply, stored_after, arrived, arrived_unstored, reply_arrived, may_grant, link_act, link_run}
 use Rattle.station_link.specs.Promise.{accepted, handed, Exact, OneShort, failed, refused, Ends, OneOfTwo, expected_one, one_before, Numbered}
 use Rattle.station_link.proofs.Queues.{Fine, fine, All, none, also, all-appended, all_as, all_lost, all-repeated, all_replaced, all_inserted}
 use Rattle.station_link.proofs.Content.{AllSent, Partly, started_length, last_complete, whole_messages}
-use Rattle.station_link.proofs.Stretches.{Stretch, oldRints, oldOthers, newRints, newOthers, old_ack_lem, new_ack, Between, next as then}
+use Rattle.station_link.proofs.Stretches.{Stretch, old_rints, old_others, new_rints, new_others, old_ack_lem, new_ack, Between, next as then}
 use Rattle.station_link.proofs.Invariant.{from, even_end, out_end, Stand, StandOf, idle, pending, taken}
 use Rattle.station_link.proofs.SlaveSteps.{Arriving, duplicate, next, arriving, dup_reply}
 use Rattle.station_link.proofs.Quiet.{run_quiet}
@@ -432,7 +432,7 @@ module _ (b : List ℕ) where
   act_ends : (x : LinkAct) (y : System) → EndsKept y → StandOf b (link_act b x y) → EndsKept (link_act b x y)
   unfolding link_act answer_of
   act_ends (starts t size) y k s = start_ends y k t size s
-  act_ends timerRuns y k s =
+  act_ends timer_runs y k s =
       master_kept y k (timer_answer (state_in y)) y.sending.started y.backward (timer_grows y.sending.master) k.known
       (timer_told (message_out y.sending.started) y.sending.ended y.sending.sent y.sending.done (eots y) y.sending.master k.told)
       (timer_finished y.sending.started y.sending.done y.sending.ended y.sending.sent (eots y) y.sending.master k.told k.finished) s
@@ -440,12 +440,12 @@ module _ (b : List ℕ) where
       master_kept y k (close_answer (state_in y)) y.sending.started y.backward (close_grows y.sending.master) k.known
       (close_told (message_out y.sending.started) y.sending.ended y.sending.sent y.sending.done (eots y) y.sending.master (idled y k.stand) k.told)
       (close_finished y.sending.started y.sending.done y.sending.ended y.sending.sent (eots y) y.sending.master (idle_done_all y k.stand) k.finished) s
-  act_ends masterEot y k s = line_kept y k _ y.backward k.known s
+  act_ends master_eot y k s = line_kept y k _ y.backward k.known s
   act_ends enquires y k s =
       master_kept y k (enquire_answer (state_in y)) y.sending.started y.backward (enquire_grows y.sending.master) k.known
       (enquire_told (message_out y.sending.started) y.sending.ended y.sending.sent y.sending.done (eots y) y.sending.master k.told)
       (enquire_finished y.sending.started y.sending.done y.sending.ended y.sending.sent (eots y) y.sending.master k.finished) s
-  act_ends mayReceive y k s =
+  act_ends may_receive y k s =
       master_kept y k (may_receive_of (state_in y)) y.sending.started y.backward (may_grows y.sending.master y.sending.reversal) k.known
       (may_told (message_out y.sending.started) y.sending.ended y.sending.sent y.sending.done (eots y) y.sending.master y.sending.reversal (idled y k.stand) k.told)
       (may_finished y.sending.started y.sending.done y.sending.ended y.sending.sent (eots y) y.sending.master y.sending.reversal k.finished) s
@@ -454,17 +454,17 @@ module _ (b : List ℕ) where
   act_ends asks_rint y k s = asked_ends y k s
   act_ends (slave_ends sends) y k s = ended_ends y k sends s
   act_ends (repeats n) y k s = line_kept y k _ y.backward k.known s
-  act_ends (repeatsReply n) y k s = line_kept y k y.forward _ (all-repeated (EotKnown (eots y)) n y.backward k.known) s
+  act_ends (repeats_reply n) y k s = line_kept y k y.forward _ (all-repeated (EotKnown (eots y)) n y.backward k.known) s
   act_ends arrives y k s = arrives_ends y y.forward refl k s
-  act_ends arrivesUnstored y k s = unstored_all y y.forward refl k s
+  act_ends arrives_unstored y k s = unstored_all y y.forward refl k s
   act_ends reply_arrives y k s = reply_ends y y.backward refl k s
   act_ends (loses n) y k s = line_kept y k _ y.backward k.known s
-  act_ends (losesReply n) y k s = line_kept y k y.forward _ (all_lost (EotKnown (eots y)) n y.backward k.known) s
+  act_ends (loses_reply n) y k s = line_kept y k y.forward _ (all_lost (EotKnown (eots y)) n y.backward k.known) s
   act_ends (damages n v) y k s = line_kept y k _ y.backward k.known s
-  act_ends (damagesReply n v) y k s =
+  act_ends (damages_reply n v) y k s =
       line_kept y k y.forward _ (all_replaced (EotKnown (eots y)) (damaged_reply v y.receiving.gave_rint) (harmless_known v y.receiving.gave_rint (eots y)) n y.backward k.known) s
   act_ends (disturbs n v) y k s = line_kept y k _ y.backward k.known s
-  act_ends (disturbsReply n v) y k s =
+  act_ends (disturbs_reply n v) y k s =
       line_kept y k y.forward _ (all_inserted (EotKnown (eots y)) (damaged_reply v y.receiving.gave_rint) (harmless_known v y.receiving.gave_rint (eots y)) n y.backward k.known) s
 
   run_ends : (xs : List LinkAct) → EndsKept (link_run b beginning xs)
@@ -564,10 +564,10 @@ module _ (b : List ℕ) where
       go (next z q s2) = expected_one (numbered z q)
 
   ack_head : (n m : ℕ) (hi lo : Stretch) (rs : List Response) → Between m hi lo (Ack n ∷ rs) → OneOfTwo n m
-  ack_head n m hi lo rs (then {p = oldOthers} l (old_ack_lem q) i) = one_before q
-  ack_head n m hi lo rs (then {p = newOthers} l (new_ack q) i) = expected_one q
-  ack_head n m hi lo rs (then {p = oldRints} l a i) = elim a [ ]
-  ack_head n m hi lo rs (then {p = newRints} l a i) = elim a [ ]
+  ack_head n m hi lo rs (then {p = old_others} l (old_ack_lem q) i) = one_before q
+  ack_head n m hi lo rs (then {p = new_others} l (new_ack q) i) = expected_one q
+  ack_head n m hi lo rs (then {p = old_rints} l a i) = elim a [ ]
+  ack_head n m hi lo rs (then {p = new_rints} l a i) = elim a [ ]
 
   out_or_before : (y : System) → StandOf b y → (n : ℕ) (rs : List Response) (o : Outstanding) → y.backward ≡ Ack n ∷ rs → y.sending.master ≡ Waiting o → OneOfTwo n (block_number o.count)
   out_or_before y s n rs o e f =

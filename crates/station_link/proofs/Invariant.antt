@@ -16,7 +16,7 @@ use Rattle.master.specs.declared.Response.{Response}
 use Rattle.station_link.specs.System.{Started, System}
 use Rattle.station_link.specs.Promise.{accepted}
 use Rattle.station_link.proofs.Queues.{Fine, All, Phases}
-use Rattle.station_link.proofs.Stretches.{Stretch, oldRints, oldOthers, newRints, newOthers, Between}
+use Rattle.station_link.proofs.Stretches.{Stretch, old_rints, old_others, new_rints, new_others, Between}
 use Rattle.station_link.proofs.Content.{out_of, AllSent, Partly, Good}
 
 -- ---- units and replies
@@ -46,13 +46,13 @@ Ahead bs k us = Phases (Duplicate (expected_after bs)) (Copy (in_order bs k)) us
 
 -- the replies. r: the last one that the master took is a RINT; z: the last one that the slave gave is. Where the block with the number n is not accepted, and where it is
 abbrev pub from : Bool → Stretch
-from r = cond r oldRints oldOthers
+from r = cond r old_rints old_others
 
 abbrev pub even_end : Bool → Stretch
-even_end z = cond z oldRints oldOthers
+even_end z = cond z old_rints old_others
 
 abbrev pub out_end : Bool → Stretch
-out_end z = cond z newRints newOthers
+out_end z = cond z new_rints new_others
 
 abbrev pub Behind : ℕ → Bool → Bool → List Response → Type 0
 Behind n r z rs = Between n (even_end z) (from r) rs

@@ -17,7 +17,7 @@ use Rattle.station.specs.History.{Unit, good, eot, bare_enq, Block, block, expec
 use Rattle.station.specs.Retransmission.{in_order}
 use Rattle.station.proofs.Duplicates.{next_preceded}
 use Rattle.master.proofs.Valid.{again_valid, next_valid}
-use Rattle.master.specs.Master.{outstanding, block_number, valid_outstanding, is_last, ending_of_part, block_out, master_acted, unchanged, refused_master, sends_out, resent, resend_of, next_out, acknowledged_of, accepted_of, ack_of, ended_by_slave, waiting_reply, idle_reply, start_now, start_of, master_reply_of, timer_aOf, close_of}
+use Rattle.master.specs.Master.{outstanding, block_number, valid_outstanding, is_last, ending_of_part, block_out, master_acted, unchanged, refused_master, sends_out, resent, resend_of, next_out, acknowledged_of, accepted_of, ack_of, ended_by_slave, waiting_reply, idle_reply, start_now, start_of, master_reply_of, timer_a_of, close_of}
 use Rattle.master.specs.Reversal.{refuses_by, refuses_rint, noted, kept, answer_of, is_acknowledged, count_in, reversed_of, enquire_of, allowed, may_receive_now, may_receive_of, master_state, start_answer, reply_answer, timer_answer, close_answer, enquire_answer}
 use Rattle.master.specs.declared.Outstanding.{Outstanding}
 use Rattle.master.specs.declared.Master.{Master}
@@ -34,7 +34,7 @@ use Rattle.master.specs.declared.MasterAnswer.{MasterAnswer}
 use Rattle.master.specs.MasterHistory.{is_rint_kind}
 use Rattle.station_link.specs.System.{Started, message_out, text_of, units_of, resends_told, first_sent, done_after}
 use Rattle.station_link.proofs.Queues.{fine, all-appended, all_older, new_behind}
-use Rattle.station_link.proofs.Stretches.{Stretch, oldRints, oldOthers, newRints, newOthers, rank, old_rint, old_ack_lem, old_nak, new_rint, new_ack, new_nak, Between, next, skip, bounded, sooner, aged, all_aged}
+use Rattle.station_link.proofs.Stretches.{Stretch, old_rints, old_others, new_rints, new_others, rank, old_rint, old_ack_lem, old_nak, new_rint, new_ack, new_nak, Between, next, skip, bounded, sooner, aged, all_aged}
 use Rattle.station_link.proofs.Numbers.{block_number_next, expected_number_lem, not_itself}
 use Rattle.station_link.proofs.Content.{out_of, AllSent, Partly, Good, complete_good, acknowledged_good, out_good, last_complete, goes_on_lem, begins}
 use Rattle.station_link.proofs.Invariant.{Duplicate, Copy, Even, from, even_end, out_end, Behind, Stand, idle, pending, taken, over_even, over_ahead, forward_kept, backward_kept}
@@ -50,21 +50,21 @@ noted_rint Rint r = true
 
 -- what stands behind a reply that is taken
 pub stretch_tail : (n : ℕ) (hi : Stretch) (rs : List Response) (q : Response) (r : Bool) → Between n hi (from r) (q ∷ rs) → Between n hi (from (noted_rint q r)) rs
-stretch_tail n hi rs (Ack m) r (next {p = oldOthers} l (old_ack_lem e) j) = j
-stretch_tail n hi rs (Ack m) r (next {p = newOthers} l (new_ack e) j) = sooner n hi oldOthers newOthers rs (omega arith) j
-stretch_tail n hi rs (Ack m) r (next {p = oldRints} l a j) = elim a [ ]
-stretch_tail n hi rs (Ack m) r (next {p = newRints} l a j) = elim a [ ]
-stretch_tail n hi rs Nak r (next {p = oldOthers} l old_nak j) = j
-stretch_tail n hi rs Nak r (next {p = newOthers} l new_nak j) = sooner n hi oldOthers newOthers rs (omega arith) j
-stretch_tail n hi rs Nak r (next {p = oldRints} l a j) = elim a [ ]
-stretch_tail n hi rs Nak r (next {p = newRints} l a j) = elim a [ ]
+stretch_tail n hi rs (Ack m) r (next {p = old_others} l (old_ack_lem e) j) = j
+stretch_tail n hi rs (Ack m) r (next {p = new_others} l (new_ack e) j) = sooner n hi old_others new_others rs (omega arith) j
+stretch_tail n hi rs (Ack m) r (next {p = old_rints} l a j) = elim a [ ]
+stretch_tail n hi rs (Ack m) r (next {p = new_rints} l a j) = elim a [ ]
+stretch_tail n hi rs Nak r (next {p = old_others} l old_nak j) = j
+stretch_tail n hi rs Nak r (next {p = new_others} l new_nak j) = sooner n hi old_others new_others rs (omega arith) j
+stretch_tail n hi rs Nak r (next {p = old_rints} l a j) = elim a [ ]
+stretch_tail n hi rs Nak r (next {p = new_rints} l a j) = elim a [ ]
 stretch_tail n hi rs Eot r (next {p = p} l a j) = sooner n hi (from r) p rs l j
 stretch_tail n hi rs Damaged r (skip j) = j
 stretch_tail n hi rs Damaged r (next {p = p} l a j) = elim a [ ]
-stretch_tail n hi rs Rint r (next {p = oldRints} l old_rint j) = j
-stretch_tail n hi rs Rint r (next {p = newRints} l new_rint j) = sooner n hi oldRints newRints rs (omega arith) j
-stretch_tail n hi rs Rint r (next {p = oldOthers} l a j) = elim a [ ]
-stretch_tail n hi rs Rint r (next {p = newOthers} l a j) = elim a [ ]
+stretch_tail n hi rs Rint r (next {p = old_rints} l old_rint j) = j
+stretch_tail n hi rs Rint r (next {p = new_rints} l new_rint j) = sooner n hi old_rints new_rints rs (omega arith) j
+stretch_tail n hi rs Rint r (next {p = old_others} l a j) = elim a [ ]
+stretch_tail n hi rs Rint r (next {p = new_others} l a j) = elim a [ ]
 
 -- after a RINT a RINT is refused, whatever was sent last
 pub last_refused : (k : ReplyKind) (enq : Bool) → is_rint_kind k ≡ true → refuses_by k enq ≡ true
@@ -192,8 +192,8 @@ module _ (ms : List Started) (d : ℕ) (bs sent : List Block) (us : List Unit) (
         (λ (v : Bool). Stand ms d bs (cond v (block (ending_of_part (is_last o)) (text_of (message_out ms) (block_out o)) ∷ []) [] ++ sent) (us ++ good (block_number o.count) (ending_of_part (is_last o)) (text_of (message_out ms) (block_out o)) ∷ []) rs r z (Waiting (resent o)))
         (sym (ne_eqb (o.resends + 1) 0 (λ e. omega (arith, e)))) (goes_again o h s))
 
-    timer_kept : (m : Master) → Stand ms d bs sent us rs r z m → After rs r (timer_aOf m)
-    unfolding timer_aOf
+    timer_kept : (m : Master) → Stand ms d bs sent us rs r z m → After rs r (timer_a_of m)
+    unfolding timer_a_of
     timer_kept (Closed a) s = nothing_changed (Closed a) s
     timer_kept (Idle a) s = nothing_changed (Idle a) s
     timer_kept (Waiting o) s = cond_ind (After rs r) (valid_outstanding o) _ _ (λ h. resend_kept o s) (λ h. nothing_refused 11 (Waiting o) s)
@@ -233,7 +233,7 @@ module _ (ms : List Started) (d : ℕ) (bs sent : List Block) (us : List Unit) (
 
   module _ (rs : List Response) (v : Reversal) (m : Master) (s : Stand ms d bs sent us rs (is_rint_kind v.last) z m) where
     pub timer_stands : AfterAnswer rs (timer_answer (master_state m v))
-    timer_stands = answer_kept rs v (timer_aOf m) (timer_kept rs (is_rint_kind v.last) m s)
+    timer_stands = answer_kept rs v (timer_a_of m) (timer_kept rs (is_rint_kind v.last) m s)
 
     pub close_stands : AfterAnswer rs (close_answer (master_state m v))
     close_stands = answer_kept rs v (close_of m) (close_kept rs (is_rint_kind v.last) m s)
@@ -321,27 +321,27 @@ module _ (ms : List Started) (d : ℕ) (bs sent : List Block) (us : List Unit) (
   too_new n lo rs l i = let most = even_most z in let least = bounded n (even_end z) lo rs i in omega (arith, most, least, l)
 
   matched : (o : Outstanding) (n : ℕ) (rs : List Response) (r : Bool) → n ≡ block_number o.count → Stand ms d bs sent us (Ack n ∷ rs) r z (Waiting o) → Acknowledgment o rs false
-  matched o n rs r x (pending p v e l h u (next {p = oldOthers} k (old_ack_lem q) i)) = absurd (not_itself n (block_number o.count) q x)
-  matched o n rs r x (pending p v e l h u (next {p = newOthers} k (new_ack q) i)) = absurd (too_new (block_number o.count) newOthers rs (omega arith) i)
-  matched o n rs r x (taken p v e l h u (next {p = oldOthers} k (old_ack_lem q) i)) = absurd (not_itself n (block_number o.count) q x)
-  matched o n rs r x (taken p v e l h u (next {p = newOthers} k (new_ack q) i)) =
-      record { partly = p; valid = v; all = e; counted = l; earlier_done = h; even = u; replies = now_old o.count newOthers rs (omega arith) i }
-  matched o n rs r x (pending p v e l h u (next {p = oldRints} k a i)) = elim a [ ]
-  matched o n rs r x (pending p v e l h u (next {p = newRints} k a i)) = elim a [ ]
-  matched o n rs r x (taken p v e l h u (next {p = oldRints} k a i)) = elim a [ ]
-  matched o n rs r x (taken p v e l h u (next {p = newRints} k a i)) = elim a [ ]
+  matched o n rs r x (pending p v e l h u (next {p = old_others} k (old_ack_lem q) i)) = absurd (not_itself n (block_number o.count) q x)
+  matched o n rs r x (pending p v e l h u (next {p = new_others} k (new_ack q) i)) = absurd (too_new (block_number o.count) new_others rs (omega arith) i)
+  matched o n rs r x (taken p v e l h u (next {p = old_others} k (old_ack_lem q) i)) = absurd (not_itself n (block_number o.count) q x)
+  matched o n rs r x (taken p v e l h u (next {p = new_others} k (new_ack q) i)) =
+      record { partly = p; valid = v; all = e; counted = l; earlier_done = h; even = u; replies = now_old o.count new_others rs (omega arith) i }
+  matched o n rs r x (pending p v e l h u (next {p = old_rints} k a i)) = elim a [ ]
+  matched o n rs r x (pending p v e l h u (next {p = new_rints} k a i)) = elim a [ ]
+  matched o n rs r x (taken p v e l h u (next {p = old_rints} k a i)) = elim a [ ]
+  matched o n rs r x (taken p v e l h u (next {p = new_rints} k a i)) = elim a [ ]
 
   -- a RINT right after another reply is one to the block out
   rint_matched : (o : Outstanding) (rs : List Response) → Stand ms d bs sent us (Rint ∷ rs) false z (Waiting o) → Acknowledgment o rs true
-  rint_matched o rs (pending p v e l h u (next {p = oldRints} k old_rint i)) = absurd (omega (arith, k))
-  rint_matched o rs (pending p v e l h u (next {p = newRints} k new_rint i)) = absurd (too_new (block_number o.count) newRints rs (omega arith) i)
-  rint_matched o rs (taken p v e l h u (next {p = oldRints} k old_rint i)) = absurd (omega (arith, k))
-  rint_matched o rs (taken p v e l h u (next {p = newRints} k new_rint i)) =
-      record { partly = p; valid = v; all = e; counted = l; earlier_done = h; even = u; replies = now_old o.count newRints rs (omega arith) i }
-  rint_matched o rs (pending p v e l h u (next {p = oldOthers} k a i)) = elim a [ ]
-  rint_matched o rs (pending p v e l h u (next {p = newOthers} k a i)) = elim a [ ]
-  rint_matched o rs (taken p v e l h u (next {p = oldOthers} k a i)) = elim a [ ]
-  rint_matched o rs (taken p v e l h u (next {p = newOthers} k a i)) = elim a [ ]
+  rint_matched o rs (pending p v e l h u (next {p = old_rints} k old_rint i)) = absurd (omega (arith, k))
+  rint_matched o rs (pending p v e l h u (next {p = new_rints} k new_rint i)) = absurd (too_new (block_number o.count) new_rints rs (omega arith) i)
+  rint_matched o rs (taken p v e l h u (next {p = old_rints} k old_rint i)) = absurd (omega (arith, k))
+  rint_matched o rs (taken p v e l h u (next {p = new_rints} k new_rint i)) =
+      record { partly = p; valid = v; all = e; counted = l; earlier_done = h; even = u; replies = now_old o.count new_rints rs (omega arith) i }
+  rint_matched o rs (pending p v e l h u (next {p = old_others} k a i)) = elim a [ ]
+  rint_matched o rs (pending p v e l h u (next {p = new_others} k a i)) = elim a [ ]
+  rint_matched o rs (taken p v e l h u (next {p = old_others} k a i)) = elim a [ ]
+  rint_matched o rs (taken p v e l h u (next {p = new_others} k a i)) = elim a [ ]
 
   module _ (o : Outstanding) (rs : List Response) (r : Bool) (k : Acknowledgment o rs r) where
     accepted-length : length bs ≡ o.count + 1

@@ -22,7 +22,7 @@ use Rattle.master.specs.declared.MasterActed.{MasterActed}
 use Rattle.master.specs.declared.MasterAnswer.{MasterAnswer}
 use Rattle.master.specs.MasterHistory.{is_rint_kind}
 use Rattle.station_link.specs.System.{damaged_reply, Started, System, system, beginning, master_did, state_in, responses_of, is_rint, refused_reply}
-use Rattle.station_link.specs.System.{LinkAct, starts, timerRuns, closes, masterEot, enquires, mayReceive, slave_opens, grants, asks_rint, slave_ends, arrives, arrivesUnstored, reply_arrives, loses, losesReply, repeats, repeatsReply, damages, damagesReply, disturbs, disturbsReply}
+use Rattle.station_link.specs.System.{LinkAct, starts, timer_runs, closes, master_eot, enquires, may_receive, slave_opens, grants, asks_rint, slave_ends, arrives, arrives_unstored, reply_arrives, loses, loses_reply, repeats, repeats_reply, damages, damages_reply, disturbs, disturbs_reply}
 use Rattle.station_link.specs.System.{station_reply, arrived, arrived_unstored, reply_arrived, may_grant, link_act, link_run}
 use Rattle.station_link.proofs.Queues.{fine, All, none, also, all-appended, all_lost, all-repeated, all_replaced, all_inserted}
 use Rattle.station_link.proofs.Stretches.{NoRint}
@@ -124,27 +124,27 @@ module _ (b : List ℕ) where
   unfolding link_act
   act_quiet (starts t size) y q =
       cond_ind Quiet (eqb (start_answer (length t) size (state_in y)).acted.refusal 0) _ _ (λ h. master_quiet y (start_answer (length t) size (state_in y)) (record { message = t; size = size } ∷ y.sending.started) (answer_none _ _) q) (λ h. q)
-  act_quiet timerRuns y q = master_quiet y (timer_answer (state_in y)) y.sending.started (answer_none _ _) q
+  act_quiet timer_runs y q = master_quiet y (timer_answer (state_in y)) y.sending.started (answer_none _ _) q
   act_quiet closes y q = master_quiet y (close_answer (state_in y)) y.sending.started (answer_none _ _) q
-  act_quiet masterEot y q = q
+  act_quiet master_eot y q = q
   act_quiet enquires y q = master_quiet y (enquire_answer (state_in y)) y.sending.started (answer_none _ _) q
-  act_quiet mayReceive y q = master_quiet y (may_receive_of (state_in y)) y.sending.started (may_none y.sending.master y.sending.reversal) q
+  act_quiet may_receive y q = master_quiet y (may_receive_of (state_in y)) y.sending.started (may_none y.sending.master y.sending.reversal) q
   act_quiet slave_opens y q = q
   act_quiet (grants anew) y q =
       cond_ind Quiet (may_grant b y.receiving) _ _ (λ g h. (all-appended NoRint y.backward (Ack 0) (q h).0 fine, (q h).1)) (λ g. q)
   act_quiet asks_rint y q = cond_ind Quiet y.receiving.opened _ _ (λ g. q) (λ g. q)
   act_quiet (slave_ends sends) y q = ended_quiet y sends q
   act_quiet arrives y q = arrives_quiet y y.forward q
-  act_quiet arrivesUnstored y q = unstored_quiet y y.forward q
+  act_quiet arrives_unstored y q = unstored_quiet y y.forward q
   act_quiet reply_arrives y q = reply_quiet y y.backward refl q
   act_quiet (loses n) y q = q
-  act_quiet (losesReply n) y q = line_quiet y y.forward _ (all_lost NoRint n y.backward) q
+  act_quiet (loses_reply n) y q = line_quiet y y.forward _ (all_lost NoRint n y.backward) q
   act_quiet (repeats n) y q = q
-  act_quiet (repeatsReply n) y q = line_quiet y y.forward _ (all-repeated NoRint n y.backward) q
+  act_quiet (repeats_reply n) y q = line_quiet y y.forward _ (all-repeated NoRint n y.backward) q
   act_quiet (damages n v) y q = q
-  act_quiet (damagesReply n v) y q = line_quiet y y.forward _ (all_replaced NoRint _ (damaged_none v y.receiving.gave_rint) n y.backward) q
+  act_quiet (damages_reply n v) y q = line_quiet y y.forward _ (all_replaced NoRint _ (damaged_none v y.receiving.gave_rint) n y.backward) q
   act_quiet (disturbs n v) y q = q
-  act_quiet (disturbsReply n v) y q = line_quiet y y.forward _ (all_inserted NoRint _ (damaged_none v y.receiving.gave_rint) n y.backward) q
+  act_quiet (disturbs_reply n v) y q = line_quiet y y.forward _ (all_inserted NoRint _ (damaged_none v y.receiving.gave_rint) n y.backward) q
 
   pub run_quiet : (xs : List LinkAct) → Quiet (link_run b beginning xs)
   unfolding link_run answer_of

@@ -27,12 +27,12 @@ use Rattle.master.specs.declared.Master.TheVariants.{Closed, Idle, Waiting}
 use Rattle.master.specs.declared.Response.{Response}
 use Rattle.master.specs.declared.Response.TheVariants.{Ack, Nak, Eot, Damaged}
 use Rattle.master.specs.MasterHistory.{is_rint_kind}
-use Rattle.station_link.specs.System.{lost_at, replaced_at, inserted_at, repeated_at, Noise, asBad, asEnquiry, asBareEnq, damaged_unit, damaged_reply, Started, System, system, beginning, refused_reply}
-use Rattle.station_link.specs.System.{LinkAct, starts, timerRuns, closes, masterEot, enquires, mayReceive, slave_opens, grants, asks_rint, slave_ends, arrives, arrivesUnstored, reply_arrives, loses, losesReply, repeats, repeatsReply, damages, damagesReply, disturbs, disturbsReply}
+use Rattle.station_link.specs.System.{lost_at, replaced_at, inserted_at, repeated_at, Noise, as_bad, as_enquiry, as_bare_enq, damaged_unit, damaged_reply, Started, System, system, beginning, refused_reply}
+use Rattle.station_link.specs.System.{LinkAct, starts, timer_runs, closes, master_eot, enquires, may_receive, slave_opens, grants, asks_rint, slave_ends, arrives, arrives_unstored, reply_arrives, loses, loses_reply, repeats, repeats_reply, damages, damages_reply, disturbs, disturbs_reply}
 use Rattle.station_link.specs.System.{station_reply, arrived, arrived_unstored, reply_arrived, may_grant, link_act, link_run}
 use Rattle.station_link.specs.Promise.{oldest_first, started_blocks, messages_started, accepted, handed, FirstOf}
 use Rattle.station_link.proofs.Queues.{fine, All, none, Phases, all-appended, all_lost, all-repeated, all_replaced, all_inserted, new_behind, phases_lost, phases_repeated, phases_replaced, phases_inserted}
-use Rattle.station_link.proofs.Stretches.{oldOthers, end, Other, in_old, between_lost, between_repeated, between_damaged, between_disturbed, nak_replaced, nak_inserted}
+use Rattle.station_link.proofs.Stretches.{old_others, end, Other, in_old, between_lost, between_repeated, between_damaged, between_disturbed, nak_replaced, nak_inserted}
 use Rattle.station_link.proofs.Content.{first_of, out_of, Good, complete_good, acknowledged_good, out_good}
 use Rattle.station_link.proofs.Invariant.{Duplicate, Copy, from, even_end, out_end, Behind, Level, Stand, StandOf, idle, pending, taken, over_even, over_ahead, rint_given, forward_kept, backward_kept}
 use Rattle.station_link.proofs.MasterSteps.{timer_stands, close_stands, enquire_stands, may_receive_stands, start_stands, reply_stands}
@@ -113,14 +113,14 @@ basis b y s =
 
 -- ---- the acts
 harmless_unit : (v : Noise) (e : ℕ) → Duplicate e (damaged_unit v)
-harmless_unit asBad e = fine
-harmless_unit asEnquiry e = fine
-harmless_unit asBareEnq e = fine
+harmless_unit as_bad e = fine
+harmless_unit as_enquiry e = fine
+harmless_unit as_bare_enq e = fine
 
 harmless_copy : (v : Noise) (u : Unit) → Copy u (damaged_unit v)
-harmless_copy asBad u = fine
-harmless_copy asEnquiry u = fine
-harmless_copy asBareEnq u = fine
+harmless_copy as_bad u = fine
+harmless_copy as_enquiry u = fine
+harmless_copy as_bare_enq u = fine
 
 pub no_blocks : (bs : List Block) → length bs ≡ 0 → bs ≡ []
 no_blocks [] h = refl
@@ -366,45 +366,45 @@ module _ (b : List ℕ) where
   pub act_kept : (x : LinkAct) (y : System) → Quiet y → StandOf b y → StandOf b (link_act b x y)
   unfolding link_act
   act_kept (starts t size) y q s = start_act y s t size
-  act_kept timerRuns y q s =
+  act_kept timer_runs y q s =
       timer_stands y.sending.started y.sending.done (accepted b y) y.sending.sent y.forward (given_in b y) y.backward y.sending.reversal y.sending.master s
   act_kept closes y q s =
       close_stands y.sending.started y.sending.done (accepted b y) y.sending.sent y.forward (given_in b y) y.backward y.sending.reversal y.sending.master s
-  act_kept masterEot y q s =
+  act_kept master_eot y q s =
       forward_changed y s (y.forward ++ eot ∷ []) (λ e u. all-appended (Duplicate e) y.forward eot u fine) (λ e v u. new_behind (Duplicate e) (Copy v) y.forward eot u fine)
   act_kept enquires y q s =
       enquire_stands y.sending.started y.sending.done (accepted b y) y.sending.sent y.forward (given_in b y) y.backward y.sending.reversal y.sending.master s
-  act_kept mayReceive y q s =
+  act_kept may_receive y q s =
       may_receive_stands y.sending.started y.sending.done (accepted b y) y.sending.sent y.forward (given_in b y) y.backward y.sending.reversal y.sending.master s
   act_kept slave_opens y q s = s
   act_kept (grants anew) y q s = granted_kept y s anew
   act_kept asks_rint y q s = asked-kept y s
   act_kept (slave_ends sends) y q s = ended-kept y s sends
   act_kept arrives y q s = arrives_act y y.forward s refl
-  act_kept arrivesUnstored y q s = unstored_act y y.forward s refl
+  act_kept arrives_unstored y q s = unstored_act y y.forward s refl
   act_kept reply_arrives y q s = reply_act y y.backward s refl
   act_kept (loses n) y q s =
       forward_changed y s (lost_at n y.forward) (λ e u. all_lost (Duplicate e) n y.forward u) (λ e v u. phases_lost (Duplicate e) (Copy v) n y.forward u)
-  act_kept (losesReply n) y q s =
+  act_kept (loses_reply n) y q s =
       backward_changed y s (lost_at n y.backward) (λ k i. between_lost k (even_end (given_in b y)) n (from (taken_in y)) y.backward i)
       (λ k i. between_lost k (out_end (given_in b y)) n (from (taken_in y)) y.backward i)
   act_kept (damages n v) y q s =
       forward_changed y s (replaced_at n (damaged_unit v) y.forward) (λ e u. all_replaced (Duplicate e) (damaged_unit v) (harmless_unit v e) n y.forward u)
       (λ e w u. phases_replaced (Duplicate e) (Copy w) (damaged_unit v) (harmless_unit v e) (harmless_copy v w) n y.forward u)
-  act_kept (damagesReply n v) y q s = damaged_kept y s q n v y.receiving.gave_rint refl
+  act_kept (damages_reply n v) y q s = damaged_kept y s q n v y.receiving.gave_rint refl
   act_kept (disturbs n v) y q s =
       forward_changed y s (inserted_at n (damaged_unit v) y.forward) (λ e u. all_inserted (Duplicate e) (damaged_unit v) (harmless_unit v e) n y.forward u)
       (λ e w u. phases_inserted (Duplicate e) (Copy w) (damaged_unit v) (harmless_unit v e) (harmless_copy v w) n y.forward u)
-  act_kept (disturbsReply n v) y q s = disturbed_kept y s q n v y.receiving.gave_rint refl
+  act_kept (disturbs_reply n v) y q s = disturbed_kept y s q n v y.receiving.gave_rint refl
   act_kept (repeats n) y q s =
       forward_changed y s (repeated_at n y.forward) (λ e u. all-repeated (Duplicate e) n y.forward u) (λ e v u. phases_repeated (Duplicate e) (Copy v) n y.forward u)
-  act_kept (repeatsReply n) y q s =
+  act_kept (repeats_reply n) y q s =
       backward_changed y s (repeated_at n y.backward) (λ k i. between_repeated k (even_end (given_in b y)) n (from (taken_in y)) y.backward i)
       (λ k i. between_repeated k (out_end (given_in b y)) n (from (taken_in y)) y.backward i)
 
   begins_so : StandOf b beginning
   unfolding past_of turn_of answer_of oldest_first started_blocks messages_started text_held messages_of
-  begins_so = idle refl refl (record { blocks = refl; held = refl; messages = refl }) refl none (end {lo = oldOthers} (omega arith))
+  begins_so = idle refl refl (record { blocks = refl; held = refl; messages = refl }) refl none (end {lo = old_others} (omega arith))
 
   pub run_stands : (xs : List LinkAct) → StandOf b (link_run b beginning xs)
   unfolding link_run

@@ -29,7 +29,7 @@ use Rattle.master.specs.declared.Response.TheVariants.{Ack, Nak, Eot, Rint}
 use Rattle.master.specs.MasterHistory.{is_rint_kind}
 use Rattle.station_link.specs.System.{Started, responses_of, refused_reply}
 use Rattle.station_link.proofs.Queues.{fine, All, also, Phases, only, older, all_as}
-use Rattle.station_link.proofs.Stretches.{oldRints, oldOthers, newRints, newOthers, rank, old_rint, old_ack_lem, old_nak, old_eot, new_rint, new_ack, new_nak, new_eot, behind, later}
+use Rattle.station_link.proofs.Stretches.{old_rints, old_others, new_rints, new_others, rank, old_rint, old_ack_lem, old_nak, old_eot, new_rint, new_ack, new_nak, new_eot, behind, later}
 use Rattle.station_link.proofs.Numbers.{block_number_next, expected_number_lem, expected_small, not_itself, before_next}
 use Rattle.station_link.proofs.Content.{out_of, Good}
 use Rattle.station_link.proofs.Invariant.{Duplicate, Copy, Even, from, even_end, out_end, Stand, idle, pending, taken, over_even, over_ahead, forward_kept, backward_kept}
@@ -50,35 +50,35 @@ out_least false = omega arith
 module _ (ms : List Started) (d : ℕ) (bs sent : List Block) (us : List Unit) (rs : List Response) (r z : Bool) where
   pub nak_added : (m : Master) → Stand ms d bs sent us rs r z m → Stand ms d bs sent us (rs ++ Nak ∷ []) r false m
   nak_added m s =
-      backward_kept ms d bs sent us rs r z (rs ++ Nak ∷ []) r false (λ n i. behind n (even_end z) oldOthers (from r) Nak rs (even_most z) old_nak i)
-      (λ n i. behind n (out_end z) newOthers (from r) Nak rs (out_most z) new_nak i) m s
+      backward_kept ms d bs sent us rs r z (rs ++ Nak ∷ []) r false (λ n i. behind n (even_end z) old_others (from r) Nak rs (even_most z) old_nak i)
+      (λ n i. behind n (out_end z) new_others (from r) Nak rs (out_most z) new_nak i) m s
 
   pub eot_added : (m : Master) → Stand ms d bs sent us rs r z m → Stand ms d bs sent us (rs ++ Eot ∷ []) r false m
   eot_added m s =
-      backward_kept ms d bs sent us rs r z (rs ++ Eot ∷ []) r false (λ n i. behind n (even_end z) oldOthers (from r) Eot rs (even_most z) old_eot i)
-      (λ n i. behind n (out_end z) newOthers (from r) Eot rs (out_most z) new_eot i) m s
+      backward_kept ms d bs sent us rs r z (rs ++ Eot ∷ []) r false (λ n i. behind n (even_end z) old_others (from r) Eot rs (even_most z) old_eot i)
+      (λ n i. behind n (out_end z) new_others (from r) Eot rs (out_most z) new_eot i) m s
 
   -- the slave forgets that it gave a RINT
   pub forgotten : (m : Master) → Stand ms d bs sent us rs r z m → Stand ms d bs sent us rs r false m
   forgotten m s =
-      backward_kept ms d bs sent us rs r z rs r false (λ n i. later n (even_end z) oldOthers (from r) rs (even_most z) i)
-      (λ n i. later n (out_end z) newOthers (from r) rs (out_most z) i) m s
+      backward_kept ms d bs sent us rs r z rs r false (λ n i. later n (even_end z) old_others (from r) rs (even_most z) i)
+      (λ n i. later n (out_end z) new_others (from r) rs (out_most z) i) m s
 
   -- an ACK has the number just before the expected one: that of a duplicate, that of a block that was just accepted, and one that is given again
   pub ack_added : (n : ℕ) → precedes n (expected_after bs) ≡ true → (m : Master) → Stand ms d bs sent us rs r z m → Stand ms d bs sent us (rs ++ Ack n ∷ []) r false m
   ack_added n q (Idle a) (idle e l c h u w) =
       idle e l c h u
-      (behind (block_number a) (even_end z) oldOthers (from r) (Ack n) rs (even_most z) (old_ack_lem (subst (λ (x : ℕ). precedes n x ≡ true) (expected_number_lem bs ∙ ap block_number l) q)) w)
+      (behind (block_number a) (even_end z) old_others (from r) (Ack n) rs (even_most z) (old_ack_lem (subst (λ (x : ℕ). precedes n x ≡ true) (expected_number_lem bs ∙ ap block_number l) q)) w)
   ack_added n q (Waiting o) (pending p v e l h u w) =
       pending p v e l h u
-      (behind (block_number o.count) (even_end z) oldOthers (from r) (Ack n) rs (even_most z) (old_ack_lem (subst (λ (x : ℕ). precedes n x ≡ true) (expected_number_lem bs ∙ ap block_number l) q)) w)
+      (behind (block_number o.count) (even_end z) old_others (from r) (Ack n) rs (even_most z) (old_ack_lem (subst (λ (x : ℕ). precedes n x ≡ true) (expected_number_lem bs ∙ ap block_number l) q)) w)
   ack_added n q (Waiting o) (taken p v e l h u w) =
       let next : expected_after bs ≡ next_number (block_number o.count) =
       expected_number_lem bs ∙ ap (λ (x : List Block). block_number (length x)) (sym e ∙ p.out) ∙ block_number_next (length p.acknowledged) ∙ ap (λ (x : ℕ). next_number (block_number x)) l in
       let small : next_number (block_number o.count) ≤ 7 = subst (λ (x : ℕ). x ≤ 7) next (expected_small bs) in
       let own : block_number o.count ≤ 7 = subst (λ (x : ℕ). x ≤ 7) (expected_number_lem p.acknowledged ∙ ap block_number l) (expected_small p.acknowledged) in
       taken p v e l h u
-      (behind (block_number o.count) (out_end z) newOthers (from r) (Ack n) rs (out_most z)
+      (behind (block_number o.count) (out_end z) new_others (from r) (Ack n) rs (out_most z)
       (new_ack (before_next n (block_number o.count) own small (subst (λ (x : ℕ). precedes n x ≡ true) next q))) w)
   ack_added n q (Closed a) (over_even e l k c u) = over_even e l k c u
   ack_added n q (Closed a) (over_ahead k e l c i u) = over_ahead k e l c i u
@@ -87,8 +87,8 @@ module _ (ms : List Started) (d : ℕ) (bs sent : List Block) (us : List Unit) (
 pub rint_added : (ms : List Started) (d : ℕ) (bs sent : List Block) (us : List Unit) (rs : List Response) (r : Bool) (m : Master)
     → Stand ms d bs sent us rs r true m → Stand ms d bs sent us (rs ++ Rint ∷ []) r true m
 rint_added ms d bs sent us rs r m s =
-    backward_kept ms d bs sent us rs r true (rs ++ Rint ∷ []) r true (λ n i. behind n oldRints oldRints (from r) Rint rs (omega arith) old_rint i)
-    (λ n i. behind n newRints newRints (from r) Rint rs (omega arith) new_rint i) m s
+    backward_kept ms d bs sent us rs r true (rs ++ Rint ∷ []) r true (λ n i. behind n old_rints old_rints (from r) Rint rs (omega arith) old_rint i)
+    (λ n i. behind n new_rints new_rints (from r) Rint rs (omega arith) new_rint i) m s
 
 -- ---- the unit that stood first is gone
 module _ (ms : List Started) (d : ℕ) (bs sent : List Block) (v : Unit) (us : List Unit) (rs : List Response) (r z : Bool) where

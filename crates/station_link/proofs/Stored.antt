@@ -21,7 +21,7 @@ use Rattle.station.specs.declared.Message.{Message}
 use Rattle.station.specs.declared.Message.TheVariants.{Incomplete}
 use Rattle.station.specs.History.{Unit, good, bad, enquiry, eot, bare_enq, asks, Block, block, expected_after, text_held, messages_of, Past, past, fits, past_of, Opening, unit_outcome, handed_over, station_run}
 use Rattle.station.proofs.History.{stands}
-use Rattle.master.specs.Master.{block_number, valid_outstanding, unchanged, refused_master, resend_of, accepted_of, ack_of, waiting_reply, start_now, start_of, master_reply_of, timer_aOf, close_of}
+use Rattle.master.specs.Master.{block_number, valid_outstanding, unchanged, refused_master, resend_of, accepted_of, ack_of, waiting_reply, start_now, start_of, master_reply_of, timer_a_of, close_of}
 use Rattle.master.specs.Reversal.{refuses_rint, noted, kept, answer_of, is_acknowledged, reversed_of, enquire_of, allowed, may_receive_now, may_receive_of, master_state, start_answer, reply_answer, timer_answer, close_answer, enquire_answer}
 use Rattle.master.specs.declared.Reversal.{Reversal}
 use Rattle.master.specs.declared.Transmission.{Transmission}
@@ -34,11 +34,11 @@ use Rattle.master.specs.declared.Response.TheVariants.{Ack, Nak, Eot, Damaged, R
 use Rattle.master.specs.declared.MasterActed.{MasterActed}
 use Rattle.master.specs.MasterHistory.{is_rint_kind}
 use Rattle.station_link.specs.System.{replaced_at, inserted_at, damaged_reply, Started, Receiving, System, system, beginning, done_after, master_did, state_in, responses_of, refused_reply, receiving_after, opened_receiving}
-use Rattle.station_link.specs.System.{LinkAct, starts, timerRuns, closes, masterEot, enquires, mayReceive, slave_opens, grants, asks_rint, slave_ends, arrives, arrivesUnstored, reply_arrives, loses, losesReply, repeats, repeatsReply, damages, damagesReply, disturbs, disturbsReply}
+use Rattle.station_link.specs.System.{LinkAct, starts, timer_runs, closes, master_eot, enquires, may_receive, slave_opens, grants, asks_rint, slave_ends, arrives, arrives_unstored, reply_arrives, loses, loses_reply, repeats, repeats_reply, damages, damages_reply, disturbs, disturbs_reply}
 use Rattle.station_link.specs.System.{station_reply, stored_after, arrived, arrived_unstored, reply_arrived, may_grant, link_act, link_run}
 use Rattle.station_link.specs.Promise.{oldest_first, messages_started, accepted, handed, FirstOf, Safe}
 use Rattle.station_link.proofs.Queues.{Fine, fine, also}
-use Rattle.station_link.proofs.Stretches.{oldRints, oldOthers, newRints, newOthers, old_rint, old_ack_lem, old_eot, new_rint, new_ack, next, bounded, behind, later, between_lost, between_repeated, between_damaged, between_disturbed, nak_replaced, nak_inserted}
+use Rattle.station_link.proofs.Stretches.{old_rints, old_others, new_rints, new_others, old_rint, old_ack_lem, old_eot, new_rint, new_ack, next, bounded, behind, later, between_lost, between_repeated, between_damaged, between_disturbed, nak_replaced, nak_inserted}
 use Rattle.station_link.proofs.Numbers.{not_itself}
 use Rattle.station_link.proofs.Content.{first_of, oldest_append}
 use Rattle.station_link.proofs.Invariant.{from, even_end, Behind, Stand, StandOf, idle, pending, taken}
@@ -74,8 +74,8 @@ module _ (d : ℕ) (rs : List Response) (r : Bool) where
       cond_ind (Mute d rs r) (eqb n (block_number o.count)) _ _ (λ h. absurd (not_itself n (block_number o.count) q (eqb-true n (block_number o.count) h)))
       (λ h. cond_ind (Mute d rs r) (precedes n (block_number o.count)) _ _ (λ g. resend_mute o i) (λ g. same_mute o i))
 
-  timer_mute : (m : Master) → Silent m r rs → Mute d rs r (timer_aOf m)
-  unfolding timer_aOf
+  timer_mute : (m : Master) → Silent m r rs → Mute d rs r (timer_a_of m)
+  unfolding timer_a_of
   timer_mute (Closed count) i = record { silent = fine; plain = refl; undone = refl }
   timer_mute (Idle count) i = absurd i
   timer_mute (Waiting o) i = cond_ind (Mute d rs r) (valid_outstanding o) _ _ (λ h. resend_mute o i) (λ h. record { silent = i; plain = refl; undone = refl })
@@ -105,20 +105,20 @@ module _ (d : ℕ) (rs : List Response) (r : Bool) where
 -- a reply: a RINT on a line of old replies comes right after a RINT, and is refused
 module _ (d : ℕ) (rs : List Response) where
   tail : (n : ℕ) (q : Response) (r : Bool) → Behind n r false (q ∷ rs) → Behind n (noted_rint q r) false rs
-  tail n q r i = stretch_tail n oldOthers rs q r i
+  tail n q r i = stretch_tail n old_others rs q r i
 
   old_head : (n m : ℕ) (r : Bool) → Behind n r false (Ack m ∷ rs) → precedes m n ≡ true
-  old_head n m r (next {p = oldOthers} l (old_ack_lem e) i) = e
-  old_head n m r (next {p = newOthers} l (new_ack e) i) = let k = bounded n oldOthers newOthers rs i in absurd (omega (arith, k))
-  old_head n m r (next {p = oldRints} l a i) = elim a [ ]
-  old_head n m r (next {p = newRints} l a i) = elim a [ ]
+  old_head n m r (next {p = old_others} l (old_ack_lem e) i) = e
+  old_head n m r (next {p = new_others} l (new_ack e) i) = let k = bounded n old_others new_others rs i in absurd (omega (arith, k))
+  old_head n m r (next {p = old_rints} l a i) = elim a [ ]
+  old_head n m r (next {p = new_rints} l a i) = elim a [ ]
 
   rint_last : (n : ℕ) (r : Bool) → Behind n r false (Rint ∷ rs) → r ≡ true
   rint_last n true i = refl
-  rint_last n false (next {p = oldRints} l old_rint i) = absurd (omega (arith, l))
-  rint_last n false (next {p = newRints} l new_rint i) = let k = bounded n oldOthers newRints rs i in absurd (omega (arith, k))
-  rint_last n false (next {p = oldOthers} l a i) = elim a [ ]
-  rint_last n false (next {p = newOthers} l a i) = elim a [ ]
+  rint_last n false (next {p = old_rints} l old_rint i) = absurd (omega (arith, l))
+  rint_last n false (next {p = new_rints} l new_rint i) = let k = bounded n old_others new_rints rs i in absurd (omega (arith, k))
+  rint_last n false (next {p = old_others} l a i) = elim a [ ]
+  rint_last n false (next {p = new_others} l a i) = elim a [ ]
 
   rint_mute : (refuses : Bool) (o : Outstanding) (r : Bool) → (r ≡ true → refuses ≡ true) → Behind (block_number o.count) r false (Rint ∷ rs)
       → Mute d rs true (cond refuses (resend_of o) (accepted_of o))
@@ -240,7 +240,7 @@ module _ (b : List ℕ) where
   ended-handed us = (stands b (eot ∷ us)).messages ∙ ap messages_of (ended_same b us) ∙ sym (stands b us).messages
 
   eot_behind : (n : ℕ) (r : Bool) (rs : List Response) → Behind n r false rs → Behind n r false (rs ++ Eot ∷ [])
-  eot_behind n r rs i = behind n oldOthers oldOthers (from r) Eot rs (omega arith) old_eot i
+  eot_behind n r rs i = behind n old_others old_others (from r) Eot rs (omega arith) old_eot i
 
   behind_refused : (n : ℕ) (r : Bool) (w : Reply) (rs : List Response) → Behind n r false rs → Behind n r false (rs ++ refused_reply w)
   behind_refused n r NoReply rs i = subst (Behind n r false) (sym (append_none rs)) i
@@ -303,7 +303,7 @@ module _ (b : List ℕ) where
 awaited : (ms : List Started) (d : ℕ) (bs sent : List Block) (us : List Unit) (rs : List Response) (r z : Bool) (m : Master) (n : ℕ) (x : Ending) (t : List ℕ)
     → n ≡ expected_after bs → Stand ms d bs sent (good n x t ∷ us) rs r z m → Silent m r rs
 awaited ms d bs sent us rs r z (Idle a) n x t g (idle e l k h (also q i) w) = not_itself n (expected_after bs) q g
-awaited ms d bs sent us rs r z (Waiting o) n x t g (pending p v e l h f w) = later (block_number o.count) (even_end z) oldOthers (from r) rs (even_most z) w
+awaited ms d bs sent us rs r z (Waiting o) n x t g (pending p v e l h f w) = later (block_number o.count) (even_end z) old_others (from r) rs (even_most z) w
 awaited ms d bs sent us rs r z (Waiting o) n x t g (taken p v e l h (also q i) w) = absurd (not_itself n (expected_after bs) q g)
 awaited ms d bs sent us rs r z (Closed a) n x t g s = fine
 
@@ -431,30 +431,30 @@ module _ (b : List ℕ) where
   -- a damaged reply, or noise
   damaged_behind : (y : System) → Quiet y → (n k : ℕ) (nak gave : Bool) → y.receiving.gave_rint ≡ gave → Behind k (taken_in y) false y.backward
       → Behind k (taken_in y) false (replaced_at n (damaged_reply nak gave) y.backward)
-  damaged_behind y q n k true true e i = between_damaged k oldOthers n (from (taken_in y)) y.backward i
-  damaged_behind y q n k true false e i = nak_replaced k oldOthers n (from (taken_in y)) y.backward (other (taken_in y) (q e).1) (q e).0 i
-  damaged_behind y q n k false gave e i = between_damaged k oldOthers n (from (taken_in y)) y.backward i
+  damaged_behind y q n k true true e i = between_damaged k old_others n (from (taken_in y)) y.backward i
+  damaged_behind y q n k true false e i = nak_replaced k old_others n (from (taken_in y)) y.backward (other (taken_in y) (q e).1) (q e).0 i
+  damaged_behind y q n k false gave e i = between_damaged k old_others n (from (taken_in y)) y.backward i
 
   disturbed_behind : (y : System) → Quiet y → (n k : ℕ) (nak gave : Bool) → y.receiving.gave_rint ≡ gave → Behind k (taken_in y) false y.backward
       → Behind k (taken_in y) false (inserted_at n (damaged_reply nak gave) y.backward)
-  disturbed_behind y q n k true true e i = between_disturbed k oldOthers n (from (taken_in y)) y.backward i
-  disturbed_behind y q n k true false e i = nak_inserted k oldOthers n (from (taken_in y)) y.backward (other (taken_in y) (q e).1) (q e).0 i
-  disturbed_behind y q n k false gave e i = between_disturbed k oldOthers n (from (taken_in y)) y.backward i
+  disturbed_behind y q n k true true e i = between_disturbed k old_others n (from (taken_in y)) y.backward i
+  disturbed_behind y q n k true false e i = nak_inserted k old_others n (from (taken_in y)) y.backward (other (taken_in y) (q e).1) (q e).0 i
+  disturbed_behind y q n k false gave e i = between_disturbed k old_others n (from (taken_in y)) y.backward i
 
   act_stores : (x : LinkAct) (y : System) → Quiet y → StandOf b y → Stores b y → Stores b (link_act b x y)
   unfolding link_act
   act_stores (starts t size) y q st s = start_stores y t size s
-  act_stores timerRuns y q st s =
+  act_stores timer_runs y q st s =
       master_stores b y (timer_answer (state_in y)) y.sending.started y.backward
       (λ i. answer_mute y.sending.done y.backward y.sending.reversal _ (timer_mute y.sending.done y.backward (taken_in y) y.sending.master i)) s
   act_stores closes y q st s =
       master_stores b y (close_answer (state_in y)) y.sending.started y.backward
       (λ i. answer_mute y.sending.done y.backward y.sending.reversal _ (close_mute y.sending.done y.backward (taken_in y) y.sending.master i)) s
-  act_stores masterEot y q st s = line-stores b y (y.forward ++ eot ∷ []) y.backward (λ n i. i) s
+  act_stores master_eot y q st s = line-stores b y (y.forward ++ eot ∷ []) y.backward (λ n i. i) s
   act_stores enquires y q st s =
       master_stores b y (enquire_answer (state_in y)) y.sending.started y.backward
       (λ i. answer_mute y.sending.done y.backward y.sending.reversal _ (enquire_mute y.sending.done y.backward (taken_in y) y.sending.master i)) s
-  act_stores mayReceive y q st s =
+  act_stores may_receive y q st s =
       master_stores b y (may_receive_of (state_in y)) y.sending.started y.backward (λ i. may_mute y.sending.done y.backward y.sending.master y.sending.reversal i) s
   act_stores slave_opens y q st (both e) = both e
   act_stores slave_opens y q st (lacks m e k d i) = lacks m e k d i
@@ -462,16 +462,16 @@ module _ (b : List ℕ) where
   act_stores asks_rint y q st s = asked-stores y s
   act_stores (slave_ends sends) y q st s = ended-stores y sends s
   act_stores arrives y q st s = arrives_stores y y.forward refl st s
-  act_stores arrivesUnstored y q st s = unstored_stores y y.forward refl st s
+  act_stores arrives_unstored y q st s = unstored_stores y y.forward refl st s
   act_stores reply_arrives y q st s = reply_stores y y.backward refl s
   act_stores (loses n) y q st s = line-stores b y _ y.backward (λ k i. i) s
-  act_stores (losesReply n) y q st s = line-stores b y y.forward _ (λ k i. between_lost k oldOthers n (from (taken_in y)) y.backward i) s
+  act_stores (loses_reply n) y q st s = line-stores b y y.forward _ (λ k i. between_lost k old_others n (from (taken_in y)) y.backward i) s
   act_stores (repeats n) y q st s = line-stores b y _ y.backward (λ k i. i) s
-  act_stores (repeatsReply n) y q st s = line-stores b y y.forward _ (λ k i. between_repeated k oldOthers n (from (taken_in y)) y.backward i) s
+  act_stores (repeats_reply n) y q st s = line-stores b y y.forward _ (λ k i. between_repeated k old_others n (from (taken_in y)) y.backward i) s
   act_stores (damages n v) y q st s = line-stores b y _ y.backward (λ k i. i) s
-  act_stores (damagesReply n v) y q st s = line-stores b y y.forward _ (λ k i. damaged_behind y q n k v y.receiving.gave_rint refl i) s
+  act_stores (damages_reply n v) y q st s = line-stores b y y.forward _ (λ k i. damaged_behind y q n k v y.receiving.gave_rint refl i) s
   act_stores (disturbs n v) y q st s = line-stores b y _ y.backward (λ k i. i) s
-  act_stores (disturbsReply n v) y q st s = line-stores b y y.forward _ (λ k i. disturbed_behind y q n k v y.receiving.gave_rint refl i) s
+  act_stores (disturbs_reply n v) y q st s = line-stores b y y.forward _ (λ k i. disturbed_behind y q n k v y.receiving.gave_rint refl i) s
 
   run-stores : (xs : List LinkAct) → Stores b (link_run b beginning xs)
   unfolding link_run station_run

@@ -14,24 +14,24 @@ use Rattle.station_link.proofs.Queues.{Fine, All, none, also}
 -- Four stretches, one after the other, where n is the number of the block out or the next one: RINTs given while the block before was the newest
 -- accepted, other replies given then, RINTs given since the block out is accepted, other replies since then.
 pub data Stretch : Type 0 where
-  oldRints oldOthers newRints newOthers : Stretch
+  old_rints old_others new_rints new_others : Stretch
 
 abbrev pub rank : Stretch → ℕ
-rank oldRints = 0
-rank oldOthers = 1
-rank newRints = 2
-rank newOthers = 3
+rank old_rints = 0
+rank old_others = 1
+rank new_rints = 2
+rank new_others = 3
 
 -- which reply stands where; a damaged one anywhere
 pub data At (n : ℕ) : Stretch → Response → Type 0 where
-  old_rint : At n oldRints Rint
-  old_ack_lem : {m : ℕ} → precedes m n ≡ true → At n oldOthers (Ack m)
-  old_nak : At n oldOthers Nak
-  old_eot : At n oldOthers Eot
-  new_rint : At n newRints Rint
-  new_ack : {m : ℕ} → m ≡ n → At n newOthers (Ack m)
-  new_nak : At n newOthers Nak
-  new_eot : At n newOthers Eot
+  old_rint : At n old_rints Rint
+  old_ack_lem : {m : ℕ} → precedes m n ≡ true → At n old_others (Ack m)
+  old_nak : At n old_others Nak
+  old_eot : At n old_others Eot
+  new_rint : At n new_rints Rint
+  new_ack : {m : ℕ} → m ≡ n → At n new_others (Ack m)
+  new_nak : At n new_others Nak
+  new_eot : At n new_others Eot
 
 -- from the stretch lo to the stretch hi
 pub data Between (n : ℕ) (hi : Stretch) : Stretch → List Response → Type 0 where
@@ -94,40 +94,40 @@ NoRint Damaged = Fine
 NoRint Rint = ⊥
 
 pub data Other : Stretch → Type 0 where
-  in_old : Other oldOthers
-  in_new : Other newOthers
+  in_old : Other old_others
+  in_new : Other new_others
 
 module _ (n : ℕ) (hi : Stretch) where
   abbrev C : Stretch → List Response → Type 0
   C = Between n hi
 
   nak_at : (lo : Stretch) → Other lo → At n lo Nak
-  nak_at oldRints o = elim o [ ]
-  nak_at oldOthers in_old = old_nak
-  nak_at newRints o = elim o [ ]
-  nak_at newOthers in_new = new_nak
+  nak_at old_rints o = elim o [ ]
+  nak_at old_others in_old = old_nak
+  nak_at new_rints o = elim o [ ]
+  nak_at new_others in_new = new_nak
 
   other_at : (p : Stretch) (r : Response) → At n p r → NoRint r → Other p
-  other_at oldRints Rint old_rint q = absurd q
-  other_at oldRints (Ack m) a q = elim a [ ]
-  other_at oldRints Nak a q = elim a [ ]
-  other_at oldRints Eot a q = elim a [ ]
-  other_at oldRints Damaged a q = elim a [ ]
-  other_at oldOthers (Ack m) (old_ack_lem e) q = in_old
-  other_at oldOthers Nak old_nak q = in_old
-  other_at oldOthers Eot old_eot q = in_old
-  other_at oldOthers Damaged a q = elim a [ ]
-  other_at oldOthers Rint a q = elim a [ ]
-  other_at newRints Rint new_rint q = absurd q
-  other_at newRints (Ack m) a q = elim a [ ]
-  other_at newRints Nak a q = elim a [ ]
-  other_at newRints Eot a q = elim a [ ]
-  other_at newRints Damaged a q = elim a [ ]
-  other_at newOthers (Ack m) (new_ack e) q = in_new
-  other_at newOthers Nak new_nak q = in_new
-  other_at newOthers Eot new_eot q = in_new
-  other_at newOthers Damaged a q = elim a [ ]
-  other_at newOthers Rint a q = elim a [ ]
+  other_at old_rints Rint old_rint q = absurd q
+  other_at old_rints (Ack m) a q = elim a [ ]
+  other_at old_rints Nak a q = elim a [ ]
+  other_at old_rints Eot a q = elim a [ ]
+  other_at old_rints Damaged a q = elim a [ ]
+  other_at old_others (Ack m) (old_ack_lem e) q = in_old
+  other_at old_others Nak old_nak q = in_old
+  other_at old_others Eot old_eot q = in_old
+  other_at old_others Damaged a q = elim a [ ]
+  other_at old_others Rint a q = elim a [ ]
+  other_at new_rints Rint new_rint q = absurd q
+  other_at new_rints (Ack m) a q = elim a [ ]
+  other_at new_rints Nak a q = elim a [ ]
+  other_at new_rints Eot a q = elim a [ ]
+  other_at new_rints Damaged a q = elim a [ ]
+  other_at new_others (Ack m) (new_ack e) q = in_new
+  other_at new_others Nak new_nak q = in_new
+  other_at new_others Eot new_eot q = in_new
+  other_at new_others Damaged a q = elim a [ ]
+  other_at new_others Rint a q = elim a [ ]
 
   pub nak_replaced : (k : ℕ) (lo : Stretch) (rs : List Response) → Other lo → All NoRint rs → C lo rs → C lo (replaced_at k Nak rs)
   unfolding replaced_at
@@ -157,36 +157,36 @@ later n hi p lo (Damaged ∷ rs) l (skip i) = skip (later n hi p lo rs l i)
 
 -- ---- the block out is acknowledged: what were replies to it are now replies to the block before
 abbrev pub aged : Stretch → Stretch
-aged oldRints = oldRints
-aged oldOthers = oldOthers
-aged newRints = oldRints
-aged newOthers = oldOthers
+aged old_rints = old_rints
+aged old_others = old_others
+aged new_rints = old_rints
+aged new_others = old_others
 
 aged_at : (n : ℕ) (p : Stretch) (r : Response) → 2 ≤ rank p → At n p r → At (next_number n) (aged p) r
-aged_at n oldRints r l a = absurd (omega (arith, l))
-aged_at n oldOthers r l a = absurd (omega (arith, l))
-aged_at n newRints Rint l new_rint = old_rint
-aged_at n newRints (Ack m) l a = elim a [ ]
-aged_at n newRints Nak l a = elim a [ ]
-aged_at n newRints Eot l a = elim a [ ]
-aged_at n newRints Damaged l a = elim a [ ]
-aged_at n newOthers (Ack m) l (new_ack e) = old_ack_lem (subst (λ (z : ℕ). precedes m (next_number z) ≡ true) e (next_preceded m))
-aged_at n newOthers Nak l new_nak = old_nak
-aged_at n newOthers Eot l new_eot = old_eot
-aged_at n newOthers Damaged l a = elim a [ ]
-aged_at n newOthers Rint l a = elim a [ ]
+aged_at n old_rints r l a = absurd (omega (arith, l))
+aged_at n old_others r l a = absurd (omega (arith, l))
+aged_at n new_rints Rint l new_rint = old_rint
+aged_at n new_rints (Ack m) l a = elim a [ ]
+aged_at n new_rints Nak l a = elim a [ ]
+aged_at n new_rints Eot l a = elim a [ ]
+aged_at n new_rints Damaged l a = elim a [ ]
+aged_at n new_others (Ack m) l (new_ack e) = old_ack_lem (subst (λ (z : ℕ). precedes m (next_number z) ≡ true) e (next_preceded m))
+aged_at n new_others Nak l new_nak = old_nak
+aged_at n new_others Eot l new_eot = old_eot
+aged_at n new_others Damaged l a = elim a [ ]
+aged_at n new_others Rint l a = elim a [ ]
 
 aged_rank : (p q : Stretch) → 2 ≤ rank p → rank p ≤ rank q → rank (aged p) ≤ rank (aged q)
-aged_rank oldRints q l m = absurd (omega (arith, l))
-aged_rank oldOthers q l m = absurd (omega (arith, l))
-aged_rank newRints oldRints l m = absurd (omega (arith, m))
-aged_rank newRints oldOthers l m = absurd (omega (arith, m))
-aged_rank newRints newRints l m = omega arith
-aged_rank newRints newOthers l m = omega arith
-aged_rank newOthers oldRints l m = absurd (omega (arith, m))
-aged_rank newOthers oldOthers l m = absurd (omega (arith, m))
-aged_rank newOthers newRints l m = absurd (omega (arith, m))
-aged_rank newOthers newOthers l m = omega arith
+aged_rank old_rints q l m = absurd (omega (arith, l))
+aged_rank old_others q l m = absurd (omega (arith, l))
+aged_rank new_rints old_rints l m = absurd (omega (arith, m))
+aged_rank new_rints old_others l m = absurd (omega (arith, m))
+aged_rank new_rints new_rints l m = omega arith
+aged_rank new_rints new_others l m = omega arith
+aged_rank new_others old_rints l m = absurd (omega (arith, m))
+aged_rank new_others old_others l m = absurd (omega (arith, m))
+aged_rank new_others new_rints l m = absurd (omega (arith, m))
+aged_rank new_others new_others l m = omega arith
 
 pub all_aged : (n : ℕ) (hi lo : Stretch) (rs : List Response) → 2 ≤ rank lo → Between n hi lo rs → Between (next_number n) (aged hi) (aged lo) rs
 all_aged n hi lo [] l (end m) = end (aged_rank lo hi l m)

@@ -5,8 +5,8 @@ use Rattle.station.specs.History.{Unit, good, bad, enquiry, eot, bare_enq, asks}
 use Rattle.station.specs.StationCalls.{open_station_call, good_block_call, bad_block_call, eot_call, bare_enq_call, interrupt_call}
 use Rattle.master.specs.declared.Response.{Response}
 use Rattle.master.specs.declared.Response.TheVariants.{Ack, Nak, Eot, Damaged, Rint}
-use Rattle.master.specs.MasterCalls.{ending_word, open_master_call, start_call, master_reply_call, timer_aCall, close_call, enquire_call, may_receive_call}
-use Rattle.master.specs.MasterHistory.{MasterAct, start, reply, timer, close, enquire, mayReceive}
+use Rattle.master.specs.MasterCalls.{ending_word, open_master_call, start_call, master_reply_call, timer_a_call, close_call, enquire_call, may_receive_call}
+use Rattle.master.specs.MasterHistory.{MasterAct, start, reply, timer, close, enquire, may_receive}
 
 -- ---- the master's calls
 abbrev pub reply_code : Response → ℕ
@@ -26,10 +26,10 @@ reply_number Rint = 0
 abbrev pub master_call_of : MasterAct → List ℕ → List ℕ → Called
 master_call_of (start n size) st p = start_call n size st p
 master_call_of (reply r) st p = master_reply_call (reply_code r) (reply_number r) st p
-master_call_of timer st p = timer_aCall st p
+master_call_of timer st p = timer_a_call st p
 master_call_of close st p = close_call st p
 master_call_of enquire st p = enquire_call st p
-master_call_of mayReceive st p = may_receive_call st p
+master_call_of may_receive st p = may_receive_call st p
 
 -- the words after gmv_master_open on any words, and the calls that follow; the newest first
 unfoldable pub master_words_after : List ℕ → List ℕ → List MasterAct → List ℕ

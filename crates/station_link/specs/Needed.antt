@@ -59,9 +59,9 @@ pub data Breach : Type 0 where
   -- a reply that turns into a NAK, also where a RINT was given (M-27)
   turns_into_nak : ℕ → Breach
   -- a bare ENQ arrives at a slave that gives no NAK again (Q-1), and a duplicate at one that answers it RINT (Q-2)
-  enqWithoutNak duplicateRint : Breach
+  enq_without_nak duplicate_rint : Breach
   -- a reply arrives at a master that refuses a RINT only after ENQ (Q-3), and a damaged one at a master that notes it (Q-4)
-  rintAfterEnqOnly damagedNoted : Breach
+  rint_after_enq_only damaged_noted : Breach
 
 module _ (b : List ℕ) where
   -- the oldest unit arrives, and the slave replies this
@@ -87,10 +87,10 @@ module _ (b : List ℕ) where
   breached numbers_restart y =
       system (with_master (restarted y.sending.master) y.sending.reversal y.sending) y.receiving y.forward y.backward
   breached (turns_into_nak n) y = system y.sending y.receiving y.forward (replaced_at n Nak y.backward)
-  breached enqWithoutNak y = answers (newest_no_nak (replies_to b y.receiving.received)) y.forward y
-  breached duplicateRint y = answers RintReply y.forward y
-  breached rintAfterEnqOnly y = other_reply y.backward y
-  breached damagedNoted y =
+  breached enq_without_nak y = answers (newest_no_nak (replies_to b y.receiving.received)) y.forward y
+  breached duplicate_rint y = answers RintReply y.forward y
+  breached rint_after_enq_only y = other_reply y.backward y
+  breached damaged_noted y =
       system (with_master y.sending.master (forgets y.sending.reversal) y.sending) y.receiving y.forward (lost_at 0 y.backward)
 
 pub data Step : Type 0 where

@@ -44,12 +44,12 @@ repeated_at (suc n) (x ∷ xs) = x ∷ repeated_at n xs
 
 -- what a unit is that came damaged, or of noise: a bad block, one ended by ENQ, or a bare ENQ
 pub data Noise : Type 0 where
-  asBad asEnquiry asBareEnq : Noise
+  as_bad as_enquiry as_bare_enq : Noise
 
 abbrev pub damaged_unit : Noise → Unit
-damaged_unit asBad = bad
-damaged_unit asEnquiry = enquiry
-damaged_unit asBareEnq = bare_enq
+damaged_unit as_bad = bad
+damaged_unit as_enquiry = enquiry
+damaged_unit as_bare_enq = bare_enq
 
 -- a reply that the master's driver finds damaged; as long as no RINT was given in this opening, a NAK in its place does no harm either
 abbrev pub damaged_reply : Bool → Bool → Response
@@ -216,8 +216,8 @@ opened_receiving us r =
 pub data LinkAct : Type 0 where
   -- the master's driver: a message with its block size, Timer A however early, closing, an EOT of its own; an enquiry however early, leave to receive
   starts : List ℕ → ℕ → LinkAct
-  timerRuns closes masterEot : LinkAct
-  enquires mayReceive : LinkAct
+  timer_runs closes master_eot : LinkAct
+  enquires may_receive : LinkAct
   -- the slave's driver opens its station, the first time that it wishes to. While nothing is accepted, an ENQ is a bid made again: ACK 0 is
   -- given, and the station opened anew, also after Timer D, or not.
   slave_opens : LinkAct
@@ -228,12 +228,12 @@ pub data LinkAct : Type 0 where
   slave_ends : Bool → LinkAct
   -- the unit that stands first arrives. The slave's driver stores a complete message and sends its station's reply;
   -- or it could not store, sends EOT in its place, and ends the station
-  arrives arrivesUnstored : LinkAct
+  arrives arrives_unstored : LinkAct
   reply_arrives : LinkAct
   -- loss, damage, noise and repetition at any position
-  loses losesReply repeats repeatsReply : ℕ → LinkAct
+  loses loses_reply repeats repeats_reply : ℕ → LinkAct
   damages disturbs : ℕ → Noise → LinkAct
-  damagesReply disturbsReply : ℕ → Bool → LinkAct
+  damages_reply disturbs_reply : ℕ → Bool → LinkAct
 
 -- a buffer of these bytes is lent to the slave's station
 module _ (b : List ℕ) where
@@ -295,26 +295,26 @@ module _ (b : List ℕ) where
 
   unfoldable pub link_act : LinkAct → System → System
   link_act (starts m size) y = start_done (record { message = m; size = size }) (start_answer (length m) size (state_in y)) y
-  link_act timerRuns y = master_did (timer_answer (state_in y)) y.sending.started y
+  link_act timer_runs y = master_did (timer_answer (state_in y)) y.sending.started y
   link_act closes y = master_did (close_answer (state_in y)) y.sending.started y
-  link_act masterEot y = with_forward y (y.forward ++ eot ∷ [])
+  link_act master_eot y = with_forward y (y.forward ++ eot ∷ [])
   link_act enquires y = master_did (enquire_answer (state_in y)) y.sending.started y
-  link_act mayReceive y = master_did (may_receive_of (state_in y)) y.sending.started y
+  link_act may_receive y = master_did (may_receive_of (state_in y)) y.sending.started y
   link_act slave_opens y = system y.sending (opened_receiving y.receiving.received y.receiving) y.forward y.backward
   link_act (grants anew) y = granted anew y
   link_act asks_rint y = asked_rint y
   link_act (slave_ends sends) y = slave_ended sends y
   link_act arrives y = arrived y.forward y
-  link_act arrivesUnstored y = arrived_unstored y.forward y
+  link_act arrives_unstored y = arrived_unstored y.forward y
   link_act reply_arrives y = reply_arrived y.backward y
   link_act (loses n) y = with_forward y (lost_at n y.forward)
-  link_act (losesReply n) y = with_backward y (lost_at n y.backward)
+  link_act (loses_reply n) y = with_backward y (lost_at n y.backward)
   link_act (repeats n) y = with_forward y (repeated_at n y.forward)
-  link_act (repeatsReply n) y = with_backward y (repeated_at n y.backward)
+  link_act (repeats_reply n) y = with_backward y (repeated_at n y.backward)
   link_act (damages n v) y = with_forward y (replaced_at n (damaged_unit v) y.forward)
-  link_act (damagesReply n v) y = with_backward y (replaced_at n (damaged_reply v y.receiving.gave_rint) y.backward)
+  link_act (damages_reply n v) y = with_backward y (replaced_at n (damaged_reply v y.receiving.gave_rint) y.backward)
   link_act (disturbs n v) y = with_forward y (inserted_at n (damaged_unit v) y.forward)
-  link_act (disturbsReply n v) y = with_backward y (inserted_at n (damaged_reply v y.receiving.gave_rint) y.backward)
+  link_act (disturbs_reply n v) y = with_backward y (inserted_at n (damaged_reply v y.receiving.gave_rint) y.backward)
 
   -- a run, the newest act first
   unfoldable pub link_run : System → List LinkAct → System

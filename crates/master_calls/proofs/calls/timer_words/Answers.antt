@@ -1,11 +1,11 @@
 -- `master_calls::calls::timer_words` meets its contract.
 use Rattle.master.specs.Reversal.{timer_answer}
-use Rattle.master.specs.MasterCalls.{timer_aCall}
+use Rattle.master.specs.MasterCalls.{timer_a_call}
 use Rattle.master_calls.proofs.CallLaws.{enough_state, enough_both, few_words, no_master, acts}
 use Rattle.master_calls.proofs.calls.timer_words.Goals as goal
 
 pub returns-then-not-enough_words : goal.returns-then-not-enough_words
-unfolding timer_aCall
+unfolding timer_a_call
 returns-then-not-enough_words c =
     let a = c.args in
     few_words a.state.now a.report.now c.enough_words.ensures timer_answer c.if-not-enough_words.true
@@ -16,7 +16,7 @@ read_master-requires c =
     enough_state a.state.now a.report.now c.enough_words.ensures c.if-not-enough_words.false
 
 pub returns-in_default : goal.returns-in_default
-unfolding timer_aCall
+unfolding timer_a_call
 returns-in_default c =
     let a = c.args in
     no_master a.state.now a.report.now c.enough_words.ensures timer_answer c.if-not-enough_words.false
@@ -29,7 +29,7 @@ finish-requires c =
     record { in_bounds = all.0; in_bounds_2 = all.1 }
 
 pub returns : goal.returns
-unfolding timer_aCall
+unfolding timer_a_call
 returns c =
     let a = c.args in
     acts a.state.now a.report.now c.enough_words.ensures timer_answer c.if-not-enough_words.false
