@@ -8,15 +8,13 @@ ghost use Rattle.lists.specs.Outcome.{called};
 
 use settings::Settings;
 
-#[unsafe(no_mangle)]
-pub extern "C" fn gmv_reader_fresh(state: &mut [u64]) -> u64
+pub fn gmv_reader_fresh(state: &mut [u64]) -> u64
     ensures { called result state.new [] [] ≡ fresh_reader_call state.old }
 {
     block_calls::fresh_words(state)
 }
 
-#[unsafe(no_mangle)]
-pub extern "C" fn gmv_hybrid_read(
+pub fn gmv_hybrid_read(
     start_block: u64,
     end_block: u64,
     data_limit: u64,
@@ -36,8 +34,7 @@ pub extern "C" fn gmv_hybrid_read(
     )
 }
 
-#[unsafe(no_mangle)]
-pub extern "C" fn gmv_minimal_read(
+pub fn gmv_minimal_read(
     data_limit: u64,
     state: &mut [u64],
     part: &[u8],
@@ -49,8 +46,7 @@ pub extern "C" fn gmv_minimal_read(
     block_calls::read_words(Settings::minimal(data_limit), state, part, buffer, verdict)
 }
 
-#[unsafe(no_mangle)]
-pub extern "C" fn gmv_hybrid_check(
+pub fn gmv_hybrid_check(
     start_block: u64,
     end_block: u64,
     data_limit: u64,
@@ -66,15 +62,13 @@ pub extern "C" fn gmv_hybrid_check(
     )
 }
 
-#[unsafe(no_mangle)]
-pub extern "C" fn gmv_minimal_check(data_limit: u64, block: &[u8], verdict: &mut [u64]) -> u64
+pub fn gmv_minimal_check(data_limit: u64, block: &[u8], verdict: &mut [u64]) -> u64
     ensures { called result [] [] verdict.new ≡ check_call (minimal_of data_limit) block.now verdict.old }
 {
     block_calls::check_words(Settings::minimal(data_limit), block, verdict)
 }
 
-#[unsafe(no_mangle)]
-pub extern "C" fn gmv_hybrid_write(
+pub fn gmv_hybrid_write(
     start_block: u64,
     end_block: u64,
     data_limit: u64,
@@ -96,8 +90,7 @@ pub extern "C" fn gmv_hybrid_write(
     )
 }
 
-#[unsafe(no_mangle)]
-pub extern "C" fn gmv_minimal_write(
+pub fn gmv_minimal_write(
     data_limit: u64,
     content: &[u8],
     buffer: &mut [u8],

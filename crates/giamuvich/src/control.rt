@@ -6,8 +6,7 @@ ghost use Rattle.message_calls.specs.ControlCalls.{control_block_call};
 
 use crate::unchecked::{unchecked_hybrid, unchecked_minimal};
 
-#[unsafe(no_mangle)]
-pub extern "C" fn gmv_hybrid_control_block(
+pub fn gmv_hybrid_control_block(
     start_block: u64,
     end_block: u64,
     data_limit: u64,
@@ -29,8 +28,7 @@ pub extern "C" fn gmv_hybrid_control_block(
     )
 }
 
-#[unsafe(no_mangle)]
-pub extern "C" fn gmv_minimal_control_block(
+pub fn gmv_minimal_control_block(
     data_limit: u64,
     letters: &[u8],
     number: u64,

@@ -5,11 +5,11 @@
 
 mod blocks;
 mod control;
-mod fields;
+mod field_acts;
 mod master_acts;
-mod messages;
+mod message_acts;
 mod receiver_acts;
-mod sender;
+mod sender_acts;
 mod station_acts;
 mod unchecked;
 mod version;
@@ -19,16 +19,16 @@ pub use blocks::{
     gmv_minimal_write, gmv_reader_fresh,
 };
 pub use control::{gmv_hybrid_control_block, gmv_minimal_control_block};
-pub use fields::gmv_field_next;
+pub use field_acts::gmv_field_next;
 pub use master_acts::{
     gmv_master_close, gmv_master_enquire, gmv_master_fresh, gmv_master_may_receive,
     gmv_master_open, gmv_master_reply, gmv_master_start, gmv_master_timer,
 };
-pub use messages::{gmv_answer_read, gmv_answer_write, gmv_control_write, gmv_header_read};
+pub use message_acts::{gmv_answer_read, gmv_answer_write, gmv_control_write, gmv_header_read};
 pub use receiver_acts::{
     gmv_hybrid_answer, gmv_hybrid_nak, gmv_minimal_answer, gmv_receiver_decide, gmv_receiver_fresh,
 };
-pub use sender::{
+pub use sender_acts::{
     gmv_sender_block, gmv_sender_ended, gmv_sender_fresh, gmv_sender_open, gmv_sender_reset,
     gmv_sender_submit, gmv_sender_timer,
 };

@@ -4,24 +4,21 @@ ghost use Rattle.lists.specs.Outcome.{called};
 ghost use Rattle.master.specs.MasterCalls.{fresh_master_call, open_master_call, start_call, master_reply_call, timer_a_call, close_call, enquire_call, may_receive_call};
 
 // A master before its first opening.
-#[unsafe(no_mangle)]
-pub extern "C" fn gmv_master_fresh(state: &mut [u64]) -> u64
+pub fn gmv_master_fresh(state: &mut [u64]) -> u64
     ensures { called result state.new [] [] ≡ fresh_master_call state.old }
 {
     master_calls::fresh_master_words(state)
 }
 
 // The driver opened the master.
-#[unsafe(no_mangle)]
-pub extern "C" fn gmv_master_open(state: &mut [u64], report: &mut [u64]) -> u64
+pub fn gmv_master_open(state: &mut [u64], report: &mut [u64]) -> u64
     ensures { called result state.new [] report.new ≡ open_master_call state.old report.old }
 {
     master_calls::opened_master_words(state, report)
 }
 
 // The driver starts a message.
-#[unsafe(no_mangle)]
-pub extern "C" fn gmv_master_start(
+pub fn gmv_master_start(
     message_length: usize,
     block_size: u64,
     state: &mut [u64],
@@ -33,45 +30,35 @@ pub extern "C" fn gmv_master_start(
 }
 
 // A reply arrived.
-#[unsafe(no_mangle)]
-pub extern "C" fn gmv_master_reply(
-    reply: u64,
-    number: u64,
-    state: &mut [u64],
-    report: &mut [u64],
-) -> u64
+pub fn gmv_master_reply(reply: u64, number: u64, state: &mut [u64], report: &mut [u64]) -> u64
     ensures { called result state.new [] report.new ≡ master_reply_call reply number state.old report.old }
 {
     master_calls::reply_words(reply, number, state, report)
 }
 
 // Timer A ran out.
-#[unsafe(no_mangle)]
-pub extern "C" fn gmv_master_timer(state: &mut [u64], report: &mut [u64]) -> u64
+pub fn gmv_master_timer(state: &mut [u64], report: &mut [u64]) -> u64
     ensures { called result state.new [] report.new ≡ timer_a_call state.old report.old }
 {
     master_calls::timer_words(state, report)
 }
 
 // The driver closes the master.
-#[unsafe(no_mangle)]
-pub extern "C" fn gmv_master_close(state: &mut [u64], report: &mut [u64]) -> u64
+pub fn gmv_master_close(state: &mut [u64], report: &mut [u64]) -> u64
     ensures { called result state.new [] report.new ≡ close_call state.old report.old }
 {
     master_calls::close_words(state, report)
 }
 
 // The driver enquires.
-#[unsafe(no_mangle)]
-pub extern "C" fn gmv_master_enquire(state: &mut [u64], report: &mut [u64]) -> u64
+pub fn gmv_master_enquire(state: &mut [u64], report: &mut [u64]) -> u64
     ensures { called result state.new [] report.new ≡ enquire_call state.old report.old }
 {
     master_calls::enquire_words(state, report)
 }
 
 // The driver may receive.
-#[unsafe(no_mangle)]
-pub extern "C" fn gmv_master_may_receive(state: &mut [u64], report: &mut [u64]) -> u64
+pub fn gmv_master_may_receive(state: &mut [u64], report: &mut [u64]) -> u64
     ensures { called result state.new [] report.new ≡ may_receive_call state.old report.old }
 {
     master_calls::may_receive_words(state, report)

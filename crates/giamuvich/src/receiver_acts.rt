@@ -6,15 +6,13 @@ ghost use Rattle.receiver_calls.specs.ReceiverCalls.{fresh_call, decide_call, an
 
 use crate::unchecked::{unchecked_hybrid, unchecked_minimal};
 
-#[unsafe(no_mangle)]
-pub extern "C" fn gmv_receiver_fresh(state: &mut [u64]) -> u64
+pub fn gmv_receiver_fresh(state: &mut [u64]) -> u64
     ensures { called result state.new [] [] ≡ fresh_call state.old }
 {
     receiver_calls::fresh_receiver_words(state)
 }
 
-#[unsafe(no_mangle)]
-pub extern "C" fn gmv_receiver_decide(
+pub fn gmv_receiver_decide(
     application: u64,
     block_type: u64,
     content: &[u8],
@@ -26,8 +24,7 @@ pub extern "C" fn gmv_receiver_decide(
     receiver_calls::decide_words(application, block_type, content, state, report)
 }
 
-#[unsafe(no_mangle)]
-pub extern "C" fn gmv_hybrid_answer(
+pub fn gmv_hybrid_answer(
     start_block: u64,
     end_block: u64,
     data_limit: u64,
@@ -49,8 +46,7 @@ pub extern "C" fn gmv_hybrid_answer(
     )
 }
 
-#[unsafe(no_mangle)]
-pub extern "C" fn gmv_minimal_answer(
+pub fn gmv_minimal_answer(
     data_limit: u64,
     stored: u64,
     state: &mut [u64],
@@ -70,8 +66,7 @@ pub extern "C" fn gmv_minimal_answer(
     )
 }
 
-#[unsafe(no_mangle)]
-pub extern "C" fn gmv_hybrid_nak(
+pub fn gmv_hybrid_nak(
     start_block: u64,
     end_block: u64,
     data_limit: u64,

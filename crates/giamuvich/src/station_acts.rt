@@ -4,24 +4,21 @@ ghost use Rattle.lists.specs.Outcome.{called};
 ghost use Rattle.station.specs.StationCalls.{fresh_station_call, open_station_call, bad_block_call, eot_call, good_block_call, bare_enq_call, interrupt_call};
 
 // A closed station.
-#[unsafe(no_mangle)]
-pub extern "C" fn gmv_station_fresh(state: &mut [u64]) -> u64
+pub fn gmv_station_fresh(state: &mut [u64]) -> u64
     ensures { called result state.new [] [] ≡ fresh_station_call state.old }
 {
     station_calls::fresh_station_words(state)
 }
 
 // The driver opened the station.
-#[unsafe(no_mangle)]
-pub extern "C" fn gmv_station_open(state: &mut [u64], report: &mut [u64]) -> u64
+pub fn gmv_station_open(state: &mut [u64], report: &mut [u64]) -> u64
     ensures { called result state.new [] report.new ≡ open_station_call state.old report.old }
 {
     station_calls::opened_words(state, report)
 }
 
 // A good block.
-#[unsafe(no_mangle)]
-pub extern "C" fn gmv_station_block(
+pub fn gmv_station_block(
     number: u64,
     ending: u64,
     text: &[u8],
@@ -35,40 +32,35 @@ pub extern "C" fn gmv_station_block(
 }
 
 // A bad block.
-#[unsafe(no_mangle)]
-pub extern "C" fn gmv_station_bad(state: &mut [u64], report: &mut [u64]) -> u64
+pub fn gmv_station_bad(state: &mut [u64], report: &mut [u64]) -> u64
     ensures { called result state.new [] report.new ≡ bad_block_call state.old report.old }
 {
     station_calls::bad_words(state, report)
 }
 
 // A block ended by ENQ.
-#[unsafe(no_mangle)]
-pub extern "C" fn gmv_station_enquiry(state: &mut [u64], report: &mut [u64]) -> u64
+pub fn gmv_station_enquiry(state: &mut [u64], report: &mut [u64]) -> u64
     ensures { called result state.new [] report.new ≡ bad_block_call state.old report.old }
 {
     station_calls::bad_words(state, report)
 }
 
 // EOT was received.
-#[unsafe(no_mangle)]
-pub extern "C" fn gmv_station_end(state: &mut [u64], report: &mut [u64]) -> u64
+pub fn gmv_station_end(state: &mut [u64], report: &mut [u64]) -> u64
     ensures { called result state.new [] report.new ≡ eot_call state.old report.old }
 {
     station_calls::end_words(state, report)
 }
 
 // A bare ENQ was received.
-#[unsafe(no_mangle)]
-pub extern "C" fn gmv_station_bare_enq(state: &mut [u64], report: &mut [u64]) -> u64
+pub fn gmv_station_bare_enq(state: &mut [u64], report: &mut [u64]) -> u64
     ensures { called result state.new [] report.new ≡ bare_enq_call state.old report.old }
 {
     station_calls::bare_enq_words(state, report)
 }
 
 // The driver asks for a RINT.
-#[unsafe(no_mangle)]
-pub extern "C" fn gmv_station_interrupt(state: &mut [u64], report: &mut [u64]) -> u64
+pub fn gmv_station_interrupt(state: &mut [u64], report: &mut [u64]) -> u64
     ensures { called result state.new [] report.new ≡ interrupt_call state.old report.old }
 {
     station_calls::interrupt_words(state, report)

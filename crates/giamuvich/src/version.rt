@@ -9,8 +9,7 @@ pub const VERSION_MINOR: u64 = 0;
 pub const VERSION_PATCH: u64 = 0;
 
 // The version of the archive that is linked.
-#[unsafe(no_mangle)]
-pub extern "C" fn gmv_version() -> u64
+pub fn gmv_version() -> u64
     ensures { result ≡ version_of 3 0 0 }
 {
     VERSION_MAJOR * 1000000 + VERSION_MINOR * 1000 + VERSION_PATCH

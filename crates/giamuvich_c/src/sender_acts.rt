@@ -1,4 +1,4 @@
-// The sender's acts.
+// The sender's acts: for C.
 ghost use Rattle.std.specs.Prelude.{◌≡◌, []};
 ghost use Rattle.lists.specs.Outcome.{called};
 ghost use Rattle.sender_calls.specs.SenderCalls.{fresh_call, open_call, ended_call, reset_call, timer_call, block_call, submit_call};
@@ -8,7 +8,7 @@ ghost use Rattle.sender_calls.specs.SenderCalls.{fresh_call, open_call, ended_ca
 pub extern "C" fn gmv_sender_fresh(first: u64, state: &mut [u64]) -> u64
     ensures { called result state.new [] [] ≡ fresh_call first state.old }
 {
-    sender_calls::fresh_sender_words(first, state)
+    giamuvich::gmv_sender_fresh(first, state)
 }
 
 // A transaction is submitted.
@@ -21,7 +21,7 @@ pub extern "C" fn gmv_sender_submit(
 ) -> u64
     ensures { called result state.new [] report.new ≡ submit_call data_limit message.now state.old report.old }
 {
-    sender_calls::submitted_words(data_limit, message, state, report)
+    giamuvich::gmv_sender_submit(data_limit, message, state, report)
 }
 
 // A circuit was opened.
@@ -29,7 +29,7 @@ pub extern "C" fn gmv_sender_submit(
 pub extern "C" fn gmv_sender_open(state: &mut [u64], report: &mut [u64]) -> u64
     ensures { called result state.new [] report.new ≡ open_call state.old report.old }
 {
-    sender_calls::opened_words(state, report)
+    giamuvich::gmv_sender_open(state, report)
 }
 
 // The circuit ended.
@@ -37,7 +37,7 @@ pub extern "C" fn gmv_sender_open(state: &mut [u64], report: &mut [u64]) -> u64
 pub extern "C" fn gmv_sender_ended(state: &mut [u64], report: &mut [u64]) -> u64
     ensures { called result state.new [] report.new ≡ ended_call state.old report.old }
 {
-    sender_calls::ended_words(state, report)
+    giamuvich::gmv_sender_ended(state, report)
 }
 
 // An operator resets a frozen sender.
@@ -45,7 +45,7 @@ pub extern "C" fn gmv_sender_ended(state: &mut [u64], report: &mut [u64]) -> u64
 pub extern "C" fn gmv_sender_reset(state: &mut [u64], report: &mut [u64]) -> u64
     ensures { called result state.new [] report.new ≡ reset_call state.old report.old }
 {
-    sender_calls::reset_words(state, report)
+    giamuvich::gmv_sender_reset(state, report)
 }
 
 // The timer ran out.
@@ -53,7 +53,7 @@ pub extern "C" fn gmv_sender_reset(state: &mut [u64], report: &mut [u64]) -> u64
 pub extern "C" fn gmv_sender_timer(resends: u64, state: &mut [u64], report: &mut [u64]) -> u64
     ensures { called result state.new [] report.new ≡ timer_call resends state.old report.old }
 {
-    sender_calls::timer_words(resends, state, report)
+    giamuvich::gmv_sender_timer(resends, state, report)
 }
 
 // A block was read on the circuit.
@@ -68,5 +68,5 @@ pub extern "C" fn gmv_sender_block(
 ) -> u64
     ensures { called result state.new [] report.new ≡ block_call resends block_number block_type content.now state.old report.old }
 {
-    sender_calls::block_words(resends, block_number, block_type, content, state, report)
+    giamuvich::gmv_sender_block(resends, block_number, block_type, content, state, report)
 }

@@ -1,4 +1,4 @@
-// The fields of a message, one after the other.
+// The fields of a message, one after the other: for C.
 ghost use Rattle.std.specs.Prelude.{◌≡◌, []};
 ghost use Rattle.lists.specs.Outcome.{called};
 ghost use Rattle.message_calls.specs.FieldCalls.{next_call};
@@ -8,5 +8,5 @@ ghost use Rattle.message_calls.specs.FieldCalls.{next_call};
 pub extern "C" fn gmv_field_next(message: &[u8], position: usize, field: &mut [u64]) -> u64
     ensures { called result [] [] field.new ≡ next_call message.now position field.old }
 {
-    message_calls::next_field_words(message, position, field)
+    giamuvich::gmv_field_next(message, position, field)
 }

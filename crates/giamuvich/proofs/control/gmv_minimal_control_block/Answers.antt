@@ -1,0 +1,14 @@
+-- `giamuvich::control::gmv_minimal_control_block` meets its contract.
+use mathlib.Core.Path.{◌∙◌}
+use Rattle.settings.specs.declared.Made.{Made}
+use Rattle.message_calls.specs.ControlCalls.{control_block_call}
+use Rattle.message_calls.proofs.ControlLaws.{call_refuses}
+use Rattle.giamuvich.proofs.Laws.{minimal_passed}
+use Rattle.giamuvich.proofs.control.gmv_minimal_control_block.Goals as goal
+
+pub returns : goal.returns
+returns c =
+    let a = c.args in
+    (rw c.unchecked_minimal.ensures at c.control_block_words.ensures)
+    ∙ minimal_passed (λ (m : Made). control_block_call m a.letters.now a.number a.buffer.now a.start a.report.now)
+    (call_refuses a.letters.now a.number a.buffer.now a.start a.report.now) a.data_limit

@@ -1,0 +1,44 @@
+// The sender's control blocks: for C.
+ghost use Rattle.std.specs.Prelude.{◌≡◌, []};
+ghost use Rattle.lists.specs.Outcome.{called};
+ghost use Rattle.settings.specs.Settings.{hybrid_link, minimal_link};
+ghost use Rattle.message_calls.specs.ControlCalls.{control_block_call};
+
+#[unsafe(no_mangle)]
+pub extern "C" fn gmv_hybrid_control_block(
+    start_block: u64,
+    end_block: u64,
+    data_limit: u64,
+    letters: &[u8],
+    number: u64,
+    buffer: &mut [u8],
+    start: usize,
+    report: &mut [u64],
+) -> u64
+    ensures { called result [] buffer.new report.new ≡ control_block_call (hybrid_link start_block end_block data_limit) letters.now number buffer.old start report.old }
+{
+    giamuvich::gmv_hybrid_control_block(
+        start_block,
+        end_block,
+        data_limit,
+        letters,
+        number,
+        buffer,
+        start,
+        report,
+    )
+}
+
+#[unsafe(no_mangle)]
+pub extern "C" fn gmv_minimal_control_block(
+    data_limit: u64,
+    letters: &[u8],
+    number: u64,
+    buffer: &mut [u8],
+    start: usize,
+    report: &mut [u64],
+) -> u64
+    ensures { called result [] buffer.new report.new ≡ control_block_call (minimal_link data_limit) letters.now number buffer.old start report.old }
+{
+    giamuvich::gmv_minimal_control_block(data_limit, letters, number, buffer, start, report)
+}
