@@ -1,7 +1,7 @@
 # Two commands: `make` proves and builds all and lists a sample; `make test` is the gate.
 # `make setup` installs the Debian packages that are lacking; the gate does so too, and `make` itself as root.
 # `make bench` measures (PART=blocks, messages, acts or master: that part alone); `make fuzz` fuzzes for
-# FUZZ_SECONDS; `make clean` removes target/, which is all that is ever made here.
+# FUZZ_SECONDS; `make clean` removes target/ and crates/*/out/, which is all that is ever made here.
 
 .DEFAULT_GOAL := all
 .NOTPARALLEL:
@@ -13,7 +13,7 @@ archive := target/staticlib/libgiamuvich.a
 header := target/include/giamuvich.h
 driver := target/driver/gmv_driver
 station := target/driver/x328
-proved_sources := crates.txt $(shell find crates -type f \( -name '*.rt' -o -name '*.antt' \))
+proved_sources := crates.txt $(shell find crates -type f \( -name '*.rt' -o -name '*.antt' \) -not -path 'crates/*/out/*')
 
 # The library and its header for a driver, and the tools, all proved; and the example driver and station.
 all: tools prove $(archive) $(header) $(driver) $(station) sample
@@ -30,12 +30,13 @@ all_tools:
 setup:
 	@tests/setup
 
-# Proves every crate and builds the programs, target/bin/blocklist among them.
+# Proves every crate.
 prove: tools
-	rt check
+	rt all check
 
+# The archive, and target/bin/blocklist beside it.
 $(archive): $(proved_sources) | tools
-	rt staticlib giamuvich
+	tests/build_proved
 
 $(header): include/giamuvich.h
 	@mkdir -p $(@D)
@@ -50,7 +51,7 @@ $(station): $(archive) $(header) $(shell find examples/x328 examples/driver -nam
 	tests/x328/build $(@D)
 
 # Offset of SB, number (0: accepted), data length, for each block of the capture.
-sample: prove
+sample: $(archive)
 	target/bin/blocklist < samples/capture.bin
 
 test:
@@ -65,4 +66,4 @@ fuzz: all_tools $(archive)
 	tests/fuzz/run --seconds $(FUZZ_SECONDS)
 
 clean:
-	rm -rf target
+	rm -rf target crates/*/out

@@ -4,9 +4,12 @@ the sources, so that it needs no proved crates; tests/interface/uniqueness holds
 import collections
 import re
 
-from declared import ROOT, library_crates
+from declared import ROOT, crates, library_crates, sources_of, static_libraries
 
 Function = collections.namedtuple("Function", "crate owner name exported cited memory")
+
+# A path to definitions: of a crate, of what the toolchain makes of its types (specs.declared), or of the toolchain's own.
+IMPORT = re.compile(r"ghost use Rattle\.(\w+)\.specs\.[\w.]+\.\{([^}]*)\}")
 
 HEAD = """# Functions and edits
 
@@ -17,7 +20,8 @@ No function has a `requires`. The contract of each is an equation: its result, a
 the call, is what the cited definition gives for the inputs and the memory before. So a contract allows one result and one
 content; theorem T-52 of [THEOREMS.md](THEOREMS.md) says it of each function. Of a part that is handed back the address is fixed
 as the bytes are (DECISIONS.md K-1). `settings.valid` is the definition `valid` in crates/settings/specs; without a name before it
-a definition is of the function's own crate.
+a definition is of the function's own crate. The C functions are the exports of giamuvich_c; for each, giamuvich has a function
+of the same name and contract, which is not listed again.
 """
 
 EDITS = """
@@ -32,9 +36,9 @@ specs or proofs changes what a theorem or a contract says, one in src what the c
 
 
 def imports_of(text):
-    """Of each name that a source file takes from a crate's definitions: the crate."""
+    """Of each name that a source file takes from a crate's definitions, or from the toolchain's, which is std: the crate."""
     found = {}
-    for crate, names in re.findall(r"ghost use Rattle·(\w+?)(?:·specs)?\.specs\.\w+\.\{([^}]*)\}", text):
+    for crate, names in IMPORT.findall(text):
         found.update({name.split(" as ")[-1].strip(): crate for name in names.split(",")})
     return found
 
@@ -46,13 +50,11 @@ def cited_in(formula, text):
 
 def cited_by(equation, text):
     """The definitions on the right side of an equation, as crate.name; the toolchain's own where there is no other."""
-    right = re.sub(r"_≡_ \{A = .*?\} \(record \{.*?\}\)", "", equation)
-    right = right.partition("≡")[2] or right
-    crates = imports_of(text)
-    names = list(dict.fromkeys(re.findall(r"[\w-]+", right)))
-    cited = [f"{crates[name]}.{name}" for name in names if name in crates]
-    kit = set(re.findall(r"\w+", " ".join(re.findall(r"ghost use lib\.\w+\.\{([^}]*)\}", text))))
-    return cited or [name for name in names if name in kit]
+    origins = imports_of(text)
+    # `x.now` is a part of x, and cites nothing
+    names = list(dict.fromkeys(re.findall(r"(?<![\w.])[A-Za-z][\w'-]*", equation.partition("≡")[2])))
+    cited = [f"{origins[name]}.{name}" for name in names if origins.get(name, "std") != "std"]
+    return cited or [name for name in names if name in origins]
 
 
 def heads_of(text):
@@ -66,23 +68,30 @@ def heads_of(text):
     return found
 
 
+def formula_of(crate, name, head):
+    """What a contract ensures, in its one clause; it asks nothing."""
+    found = re.findall(r"\bensures(?: \w+)? \{ (.*) \}$", head, re.M)
+    one = len(found) == head.count("ensures") == 1
+    assert one and "requires" not in head, f"crates/{crate}: {name} has no contract of the form that is read here"
+    return found[0]
+
+
 def functions_in(crate, text):
     found = []
     for owner, name, head in heads_of(text):
-        formula = re.search(r"ensures \{ λ r\. ⌜ (.*) ⌝ \}", head)
-        assert formula and "requires" not in head, f"crates/{crate}: {name} has no contract of the form that is read here"
-        memory = list(dict.fromkeys(re.findall(r"«?(\w+)»? \.exit", formula.group(1))))
-        exported = f'pub extern "C" fn {name}(' in text
-        found.append(Function(crate, owner, name, exported, cited_in(formula.group(1), text), memory))
+        formula = formula_of(crate, name, head)
+        memory = list(dict.fromkeys(re.findall(r"(\w+)\.new\b", formula)))
+        exported = f'#[unsafe(no_mangle)]\npub extern "C" fn {name}(' in text
+        found.append(Function(crate, owner, name, exported, cited_in(formula, text), memory))
     return found
 
 
 def public_functions():
-    """The public functions of the library crates, in the order of crates.txt."""
+    """The public functions of the library crates, in the order of crates.txt, and then the exports of the static library."""
     found = []
-    for crate in library_crates():
-        for file in sorted((ROOT / "crates" / crate / "src").glob("*.rt")):
-            found += functions_in(crate, file.read_text())
+    for crate in library_crates() + static_libraries():
+        for text in sources_of(crate):
+            found += functions_in(crate, text)
     return found
 
 
@@ -102,9 +111,8 @@ def rows_by_crate(functions):
 
 
 def edit_rows():
-    order = [line.split("#")[0].partition(":")[0].strip() for line in (ROOT / "crates.txt").read_text().splitlines()]
     rows = []
-    for crate in filter(None, order):
+    for crate, _ in crates():
         for file in sorted((ROOT / "crates" / crate / "must-fail").glob("*.edit")):
             lines = file.read_text().splitlines()
             said = " ".join(line.lstrip("# ") for line in lines if line.startswith("#"))
@@ -114,14 +122,15 @@ def edit_rows():
 
 
 def page():
-    functions, edits = public_functions(), edit_rows()
-    exported = [row(function) for function in functions if function.exported]
-    others = rows_by_crate([function for function in functions if not function.exported])
+    listed, edits = public_functions(), edit_rows()
+    exports = [function for function in listed if function.exported]
+    names = {function.name for function in exports}
+    others = [function for function in listed if not function.exported and function.name not in names]
     columns = "| Function | Definition that its contract cites | Lent memory that it fixes |\n|---|---|---|\n"
     of_crates = "| Crate " + columns.replace("\n|", "\n|---|", 1)
     return (
-        HEAD.format(functions=len(functions), exported=len(exported), edits=len(edits))
-        + f"\n## The C functions\n\n{columns}" + "\n".join(exported) + "\n"
-        + f"\n## The others\n\n{of_crates}" + "\n".join(others) + "\n"
+        HEAD.format(functions=len(exports) + len(others), exported=len(exports), edits=len(edits))
+        + f"\n## The C functions\n\n{columns}" + "\n".join(row(function) for function in exports) + "\n"
+        + f"\n## The others\n\n{of_crates}" + "\n".join(rows_by_crate(others)) + "\n"
         + EDITS + "\n".join(edits) + "\n"
     )

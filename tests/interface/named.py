@@ -33,7 +33,7 @@ def elsewhere(files):
 def definition_faults():
     """Each `crate.name` is one definition of that crate."""
     for page in NAMING:
-        for crate, name in sorted(set(re.findall(r"`([a-z_]+)\.([A-Za-z][\w-]*)`", document(page)))):
+        for crate, name in sorted(set(re.findall(r"`([a-z_]+)\.([A-Za-z][\w'-]*)`", document(page)))):
             if f".{name}" in FILES:
                 continue
             found = defining("specs", name)

@@ -1,5 +1,5 @@
 -- Document 01, 'Numbers that say no': the verdict on the bytes between SB and EB of a block that fits and has its CR after EB, in the order 5, 3, 6, 7.
-use Rattle.std.specs.Prelude.{List, [], ◌∷◌, Bool, true, false, cond, ◌&&◌, ◌||◌, ℕ, ◌-◌, length, take, drop, get_or, leb, eqb}
+use Rattle.std.specs.Prelude.{List, [], ◌∷◌, Bool, true, false, cond, ◌||◌, ℕ, ◌-◌, length, take, drop, get_or, leb, eqb}
 use Prim.Native.Char.{code}
 use Rattle.lists.specs.Bytes.{bytes, same}
 use Rattle.lists.specs.Outcome.{need}

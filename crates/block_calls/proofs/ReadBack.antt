@@ -13,7 +13,7 @@ use Rattle.lists.proofs.Calls.{over-is}
 use Rattle.stream.specs.declared.Phase.{Phase}
 use Rattle.stream.specs.declared.Phase.TheVariants.{Between, Inside, Ended}
 use Rattle.stream.specs.declared.Reader.{Reader}
-use Rattle.block_calls.specs.ReaderWords.{phase_number, reader_words, with_phase, decoded}
+use Rattle.block_calls.specs.ReaderWords.{phase_number, reader_words, decoded}
 use Rattle.block_calls.specs.declared.Decoded.{Decoded}
 use Rattle.block_calls.specs.declared.Decoded.TheVariants.{Unknown, Known}
 use Rattle.block_calls.proofs.ReaderLaws.{decoded_between, decoded_inside, decoded-ended}

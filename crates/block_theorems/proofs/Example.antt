@@ -7,7 +7,7 @@ use Rattle.block.specs.Judge.{judge, judge_hybrid, judge_parts, header_ok, type_
 use Rattle.lists.specs.Bytes.{same}
 use Rattle.settings.specs.declared.Kind.TheVariants.{Hybrid}
 use Rattle.settings.specs.declared.Settings.{Settings}
-use Rattle.refusal.specs.declared.Verdict.TheVariants.{Accepted, Refused}
+use Rattle.refusal.specs.declared.Verdict.TheVariants.{Accepted}
 use Rattle.block.specs.Content.{content_of}
 use Rattle.stream.specs.Scan.{stored_verdict, step, fold, read_of, fresh}
 use Rattle.stream.specs.declared.Phase.TheVariants.{Inside}

@@ -3,137 +3,125 @@
 
 #![tactic(auto)]
 
-use libc::{STDIN_FILENO, STDOUT_FILENO};
 use refusal::Verdict;
 use settings::{Made, Settings};
+use std::env::FillError;
+use std::io;
+use std::io::{BufWriter, ErrorKind, Read, Write};
+use std::rt::Env;
 use stream::{Answer, Reader};
 
 const DATA_LIMIT: u64 = 4096;
+// What the reader keeps of a block: the data, and twelve bytes more.
+const BUFFER_LENGTH: usize = 4108;
 
-#[derive(Clone, Copy)]
-struct Turn {
-    reader: Reader,
-    more: bool,
+const PART_LENGTH: usize = 65536;
+
+fn print_line(output: &mut impl Write, start: usize, verdict: Verdict) -> io::Result<()> {
+    let number = verdict.number();
+    let data_length = verdict.data_length();
+    writeln!(output, "{start} {number} {data_length}")
 }
 
-fn print_number(n: usize) {
-    io::print_decimal(STDOUT_FILENO, n as u64);
-}
-
-fn print_line(start: usize, verdict: Verdict) {
-    print_number(start);
-    io::write_all(STDOUT_FILENO, b" ");
-    io::print_decimal(STDOUT_FILENO, verdict.number());
-    io::write_all(STDOUT_FILENO, b" ");
-    print_number(verdict.data_length());
-    io::write_all(STDOUT_FILENO, b"\n");
-}
-
-fn print_answer(answer: Answer) {
+fn print_answer(output: &mut impl Write, answer: Answer) -> io::Result<()> {
     let Answer::Found(start, verdict) = answer else {
-        return;
+        return Ok(());
     };
-    print_line(start, verdict);
+    print_line(output, start, verdict)
 }
 
 // Reads all of the part, and prints a line for each verdict.
-fn list_part(settings: Settings, first: Reader, part: &[u8], buffer: &mut [u8]) -> Reader {
+fn list_part(
+    output: &mut impl Write,
+    settings: Settings,
+    first: Reader,
+    part: &[u8],
+    buffer: &mut [u8],
+) -> io::Result<Reader> {
     let mut reader = first;
-    let mut at = 0;
-    while at < part.len() {
-        let reading = stream::read(settings, reader, &part[at..], buffer);
-        let answer = reading.answer;
+    let mut rest = part;
+    while !rest.is_empty() {
+        let reading = stream::read(settings, reader, rest, buffer);
         let used = reading.used;
         reader = reading.reader;
-        print_answer(answer);
-        if used == 0 {
-            return reader;
+        print_answer(output, reading.answer)?;
+        if used == 0 || rest.len() < used {
+            break;
         }
-        if part.len() - at < used {
-            return reader;
-        }
-        at += used;
+        rest = &rest[used..];
     }
-    reader
+    Ok(reader)
 }
 
-// Reads some of the input, and says whether there may be more.
-fn list_some(settings: Settings, reader: Reader, buffer: &mut [u8]) -> Turn {
-    let mut part = io::large_buffer();
-    let got = libc::read(STDIN_FILENO, &mut part);
-    let n = io::count(got, &part);
-    if n == 0 {
-        return Turn {
-            reader,
-            more: false,
-        };
+// Reads some of the input and prints its lines, before more is waited for. None at the end of the input.
+fn list_some(
+    input: &mut impl Read,
+    output: &mut impl Write,
+    settings: Settings,
+    reader: Reader,
+    buffer: &mut [u8],
+) -> io::Result<Option<Reader>> {
+    let mut part = [0u8; PART_LENGTH];
+    let length = match input.read(&mut part) {
+        Err(error) if error.kind() == ErrorKind::Interrupted => return Ok(Some(reader)),
+        read => read?,
+    };
+    if length == 0 {
+        return Ok(None);
     }
-    let next = list_part(settings, reader, &part[..n], buffer);
-    Turn {
-        reader: next,
-        more: true,
-    }
+    let next = list_part(output, settings, reader, &part[..length], buffer)?;
+    output.flush()?;
+    Ok(Some(next))
 }
 
 // To the end of the input; the count only lets the loop be seen to end.
-fn list_all(settings: Settings, buffer: &mut [u8]) {
+fn list_all(
+    input: &mut impl Read,
+    output: &mut impl Write,
+    settings: Settings,
+    buffer: &mut [u8],
+) -> io::Result<()> {
     let mut reader = Reader::new();
-    let mut turns: u64 = 18446744073709551615;
-    while 0 < turns {
-        let turn = list_some(settings, reader, buffer);
-        let more = turn.more;
-        if !more {
-            return;
-        }
-        reader = turn.reader;
-        turns -= 1;
+    for _ in 0..u64::MAX {
+        let Some(next) = list_some(input, output, settings, reader, buffer)? else {
+            break;
+        };
+        reader = next;
     }
-}
-
-fn are_equal(word: &[u8], other: &[u8]) -> bool {
-    if word.len() != other.len() {
-        return false;
-    }
-    let mut i = 0;
-    while i < word.len() {
-        if word[i] != other[i] {
-            return false;
-        }
-        i += 1;
-    }
-    true
+    Ok(())
 }
 
 // Any other argument counts for nothing.
-fn version_is_asked() -> bool {
+fn version_is_asked(rt: &impl Env) -> bool {
     let mut word = [0u8; 16];
-    let length = os::arg(1, &mut word);
-    are_equal(&word[..length], b"--version")
+    match rt.arg(1, &mut word) {
+        Ok(length) => word[..length] == b"--version"[..],
+        Err(FillError::NotPresent | FillError::TooLong) => false,
+    }
 }
 
-fn print_version() {
-    io::write_all(STDOUT_FILENO, b"blocklist ");
-    io::print_decimal(STDOUT_FILENO, giamuvich::VERSION_MAJOR);
-    io::write_all(STDOUT_FILENO, b".");
-    io::print_decimal(STDOUT_FILENO, giamuvich::VERSION_MINOR);
-    io::write_all(STDOUT_FILENO, b".");
-    io::print_decimal(STDOUT_FILENO, giamuvich::VERSION_PATCH);
-    io::write_all(STDOUT_FILENO, b"\n");
+fn print_version(rt: &impl Print) -> io::Result<()> {
+    println!(rt;
+        "blocklist {}.{}.{}",
+        giamuvich::VERSION_MAJOR,
+        giamuvich::VERSION_MINOR,
+        giamuvich::VERSION_PATCH
+    )
 }
 
-fn main() {
-    if version_is_asked() {
-        print_version();
-        return;
+fn main(rt: HostRuntime) -> io::Result<()> {
+    if version_is_asked(&rt) {
+        return print_version(&rt);
     }
     let made = Settings::hybrid(
-        Settings::START_BLOCK as u64,
-        Settings::END_BLOCK as u64,
+        u64::from(Settings::START_BLOCK),
+        u64::from(Settings::END_BLOCK),
         DATA_LIMIT,
     );
     let Made::Valid(settings) = made else {
-        return;
+        return Ok(());
     };
-    let mut buffer = [0u8; 4108];
-    list_all(settings, &mut buffer);
+    let mut buffer = [0u8; BUFFER_LENGTH];
+    let mut output = BufWriter::new(rt.alloc(), io::writer(&rt))?;
+    list_all(&mut rt.reader(), &mut output, settings, &mut buffer)
 }

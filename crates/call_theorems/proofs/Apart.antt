@@ -6,7 +6,6 @@ use Prim.Native.Nat.{ℕ}
 use lib.ListN.{length, take}
 use lib.Dec.{leb, eqb}
 use Rattle.lists.specs.Bytes.{same}
-use Rattle.lists.specs.Outcome.{Called}
 use Rattle.lists.proofs.Tests.{and_left, and_right}
 use Rattle.sender_calls.specs.SenderCalls.{open_call}
 use Rattle.link.specs.Duties.{one_at, others_at}

@@ -12,7 +12,6 @@ use borrow.Author.Tests.{le-leb, leb-true, eq-eqb, eqb-true}
 use Rattle.lists.specs.Bytes.{same, over}
 use Rattle.lists.specs.Outcome.{Called, called}
 use Rattle.lists.proofs.Tests.{and_left, and_right}
-use Rattle.settings.specs.Settings.{link_of}
 use Rattle.settings.specs.declared.Settings.{Settings}
 use Rattle.refusal.specs.Refusal.{number_of, type_of}
 use Rattle.refusal.specs.declared.Verdict.{Verdict}
@@ -33,13 +32,12 @@ use Rattle.receiver_calls.specs.ReceiverCalls.{expected_word, expected_from, app
 use Rattle.receiver_calls.specs.declared.ApplicationMade.TheVariants.{Known}
 use Rattle.words.specs.Words.{verdict_from}
 use Rattle.sender.specs.Sender.{valid_sender, is_open, waiting_message, waits_of, fresh_sender, sender_of, open_of}
-use Rattle.sender.specs.declared.Waiting.{Waiting}
-use Rattle.sender.specs.declared.Waiting.TheVariants.{Closed, Idle, Resynchronizing, Querying, Sending}
+use Rattle.sender.specs.declared.Waiting.TheVariants.{Resynchronizing, Querying}
 use Rattle.sender.specs.declared.Sender.{Sender}
 use Rattle.sender.specs.declared.NumberedMessage.{NumberedMessage}
 use Rattle.sender.specs.declared.NumberedMessage.TheVariants.{Nothing, Numbered}
 use Rattle.sender.specs.declared.Acted.{Acted}
-use Rattle.sender_calls.specs.SenderCalls.{flag_word, waiting_word, waiting_of, sender_words, send_words, fresh_call, open_call, submit_call}
+use Rattle.sender_calls.specs.SenderCalls.{flag_word, waiting_of, sender_words, send_words, fresh_call, open_call, submit_call}
 use Rattle.link.specs.Duties.{every, one_at, others_at}
 use Rattle.link.specs.SenderActs.{act_of, falls_due}
 use Rattle.link.specs.SenderHistory.{Entry, reported, counted_of, is_abandoned}
@@ -56,7 +54,7 @@ use Rattle.link.proofs.Reports.{reports, sends_at_once, named_waits, nothing_lef
 use Rattle.link.proofs.Delivery.{answer_moves}
 use Rattle.link.proofs.Facts.{not_both}
 use Rattle.link.proofs.Runs.{run_join}
-use Rattle.call_theorems.specs.Driver.{Passed, made_from, Named, ReaderMemory, SenderMemory, ReceiverMemory, ReceiverEnd, Drivers, drivers, enough_to_read, enough_to_send, enough_to_receive, waits_words, report_of, with_transaction, is_open_word, answer_on, DriverAct, verdict_taken, after_driver, driven_by, DriversLeft, drivers_start}
+use Rattle.call_theorems.specs.Driver.{Passed, Named, ReaderMemory, SenderMemory, ReceiverMemory, ReceiverEnd, Drivers, drivers, enough_to_read, enough_to_send, enough_to_receive, waits_words, report_of, with_transaction, is_open_word, answer_on, DriverAct, verdict_taken, after_driver, driven_by, DriversLeft, drivers_start}
 use Rattle.call_theorems.specs.Driver.{opens, ends, resets, timer, submits, stores, restores, receiver_stores, receiver_restores, replies, sends, forgets, reads, takes, drops, receiver_reads, receiver_drops}
 use Rattle.call_theorems.specs.Driver.{decides, answers, naks, replaces, receiver_replaces, tries, crashes, receiver_crashes, damages_forward, damages_back}
 use Rattle.call_theorems.specs.Verdicts.{reader_gives}

@@ -3,7 +3,6 @@ use mathlib.Core.Path.{◌≡◌, refl, sym, ap, ◌∙◌, subst}
 use mathlib.Core.List.{List, [], ◌∷◌, ◌++◌}
 use mathlib.Core.Bool.{Bool, true, false, cond, ◌&&◌}
 use Prim.Native.Nat.{ℕ, ◌≤◌}
-use Prim.Native.Char.{code}
 use native.Mathlib.Omega.{arith}
 use lib.ListN.{length, take}
 use lib.Dec.{leb, eqb}
@@ -24,8 +23,8 @@ use Rattle.sender_calls.specs.SenderCalls.{sender_words, open_call, ended_call, 
 use Rattle.link.specs.Duties.{every}
 use Rattle.link.specs.SenderActs.{after_crash}
 use Rattle.link.specs.SenderHistory.{reported, crashed}
-use Rattle.link.specs.Line.{Reader, Line, empty_line}
-use Rattle.link.specs.System.{Link, System, sending, sender_acted, new_circuit, circuit_opened, SystemAct, opens, ends, resets, timer, submits, sender_persists, sender_restores, after_act, run_of}
+use Rattle.link.specs.Line.{empty_line}
+use Rattle.link.specs.System.{Link, System, sender_acted, new_circuit, circuit_opened, SystemAct, opens, ends, resets, timer, submits, sender_persists, sender_restores, after_act, run_of}
 use Rattle.link.specs.Promise.{Ready}
 use Rattle.link.proofs.Queues.{Each, each_none, each_more}
 use Rattle.link.proofs.Messages.{link-valid, link_limit}

@@ -12,13 +12,10 @@ use Rattle.lists.specs.Bytes.{over}
 use Rattle.lists.specs.Outcome.{Outcome, Called, called}
 use Rattle.lists.proofs.Calls.{over-is}
 use Rattle.lists.proofs.Tests.{cond_ind, and_left, and_right}
-use Rattle.settings.specs.Settings.{link_of, valid_link}
+use Rattle.settings.specs.Settings.{valid_link}
 use Rattle.settings.specs.declared.Settings.{Settings}
 use Rattle.settings.specs.declared.Made.{Made}
 use Rattle.settings.specs.declared.Made.TheVariants.{Valid}
-use Rattle.refusal.specs.Refusal.{type_of, length_of}
-use Rattle.refusal.specs.declared.Verdict.{Verdict}
-use Rattle.refusal.specs.declared.Verdict.TheVariants.{Accepted}
 use Rattle.words.specs.Words.{report_words}
 use Prim.Native.Char.{code}
 use Rattle.settings.specs.DataBytes.{all_allowed}
@@ -32,7 +29,7 @@ use Rattle.header.specs.declared.Header.TheVariants.{Unreadable, Readable}
 use Rattle.header.specs.declared.Code.{Code}
 use Rattle.header.specs.declared.Code.TheVariants.{AA, AE, AR}
 use Rattle.stream.specs.Stream.{Judged, run}
-use Rattle.receiver.specs.Receiver.{reply_space, valid_expected, valid_receiver, closed, is_closed, same_expected, is_row, row_of, header_decided, undecided, is_block_number, refused, replied, reported_of, nak_reply, decide_of, answer_of, nak_of}
+use Rattle.receiver.specs.Receiver.{reply_space, valid_receiver, closed, is_closed, same_expected, row_of, header_decided, is_block_number, refused, replied, reported_of, nak_reply, decide_of, answer_of, nak_of}
 use Rattle.receiver.specs.declared.Application.{Application}
 use Rattle.receiver.specs.declared.Expected.{Expected}
 use Rattle.receiver.specs.declared.Expected.TheVariants.{Unknown, Next}

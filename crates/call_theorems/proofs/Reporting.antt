@@ -3,7 +3,7 @@ use mathlib.Core.Path.{◌≡◌, refl, sym, ap, ◌∙◌, subst}
 use mathlib.Core.List.{List, [], ◌∷◌, ◌++◌}
 use mathlib.Core.Bool.{Bool, true, false, cond, not, ◌&&◌}
 use mathlib.Core.Logic.{inl, inr}
-use Prim.Native.Nat.{ℕ, ◌+◌, ◌≤◌}
+use Prim.Native.Nat.{ℕ, ◌≤◌}
 use native.Mathlib.Omega.{arith}
 use lib.ListN.{length, drop, get_or}
 use lib.Dec.{eqb}
@@ -15,7 +15,6 @@ use Rattle.lists.proofs.Same.{same_self}
 use Rattle.settings.specs.declared.Settings.{Settings}
 use Rattle.numbers.specs.declared.SequenceNumber.{SequenceNumber}
 use Rattle.numbers.specs.declared.SequenceNumber.TheVariants.{MinusOne, Number}
-use Rattle.refusal.specs.declared.Verdict.{Verdict}
 use Rattle.stream.specs.Stream.{Judged}
 use Rattle.words.specs.Words.{verdict_from}
 use Rattle.words.specs.declared.VerdictMade.{VerdictMade}
@@ -30,7 +29,7 @@ use Rattle.sender.specs.declared.Event.TheVariants.{NoEvent, Delivered, Delivere
 use Rattle.sender.specs.declared.Acted.{Acted}
 use Rattle.sender_calls.proofs.ReadBack.{waiting_back}
 use Rattle.sender_calls.specs.SenderCalls.{waiting_word, waiting_of, sender_words, send_words, event_words, act_words}
-use Rattle.link.specs.SenderActs.{Act, act_of, falls_due, resends_of}
+use Rattle.link.specs.SenderActs.{act_of, falls_due, resends_of}
 use Rattle.link.specs.SenderHistory.{Entry, reported, crashed, is, counted, counted_of, is_abandoned}
 use Rattle.link.specs.System.{System}
 use Rattle.link.specs.Promise.{Ready}
@@ -39,7 +38,7 @@ use Rattle.link.proofs.Queues.{Each, each_none, each_more}
 use Rattle.link.proofs.SenderDue.{open_taken, ended_taken, timer_taken, block_taken}
 use Rattle.call_theorems.specs.Verdicts.{reader_gives}
 use Rattle.call_theorems.specs.Reading.{Shown, shown}
-use Rattle.call_theorems.specs.Driver.{Passed, CallReport, Drivers, waits_words, report_of}
+use Rattle.call_theorems.specs.Driver.{Passed, CallReport, Drivers, report_of}
 use Rattle.call_theorems.specs.DriversPromise.{In, here, there, SenderCall, opening, ending, resetting, timing, submitting, taking, called_by, verdict_by, act_by, Offered, sends_word, abandoned_word, send_words_of, applies, counted_words, sends_shown}
 use Rattle.call_theorems.proofs.Verdicts.{made_again, sends_the_same}
 use Rattle.call_theorems.proofs.Shows.{SameVerdict, SameReport, Behind, Shows, over_behind, behind_length, Does, done, refused, eight, kind_some, send_is, same_report}

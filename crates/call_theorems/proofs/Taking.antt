@@ -9,14 +9,14 @@ use lib.ListN.{length, take, length-take}
 use lib.Seq.{length-take-le, take-take}
 use lib.Dec.{leb, eqb}
 use borrow.Author.Tests.{le-leb, leb-true}
-use Rattle.lists.specs.Bytes.{greatest_word, over}
+use Rattle.lists.specs.Bytes.{greatest_word}
 use Rattle.lists.specs.Outcome.{Outcome, Called, called}
 use Rattle.settings.specs.Settings.{valid, capacity_of}
 use Rattle.settings.specs.declared.Settings.{Settings}
 use Rattle.settings.specs.declared.Made.{Made}
 use Rattle.settings.specs.declared.Made.TheVariants.{Valid}
 use Rattle.stream.specs.Stream.{Judged, Mode, judged, run, after}
-use Rattle.stream.specs.Scan.{read_of, refused}
+use Rattle.stream.specs.Scan.{read_of}
 use Rattle.stream.specs.declared.Reader.{Reader as ReaderState}
 use Rattle.stream.specs.declared.Reading.{Reading}
 use Rattle.stream.specs.declared.Answer.{Answer}
@@ -26,10 +26,10 @@ use Rattle.block_theorems.proofs.Simulation.{Stands, Ends, Reaches, read_reaches
 use Rattle.block_calls.specs.ReaderWords.{reader_words, decoded}
 use Rattle.block_calls.specs.ReadCalls.{read_call, read_answered, read_finished}
 use Rattle.block_calls.proofs.ReadBack.{words_back}
-use Rattle.link.specs.Line.{Reader, Line, line, reader_after}
+use Rattle.link.specs.Line.{Reader, Line, reader_after}
 use Rattle.link.proofs.Facts.{not_both}
 use Rattle.link.proofs.Queues.{Each, each_none, each_more}
-use Rattle.call_theorems.specs.Reading.{shown, used_bytes, shown_by, new_verdict}
+use Rattle.call_theorems.specs.Reading.{used_bytes, shown_by, new_verdict}
 use Rattle.call_theorems.specs.Driver.{ReaderMemory, after_reading, reader_past, line_past}
 use Rattle.call_theorems.proofs.Verdicts.{reader_gives_lem}
 use Rattle.call_theorems.proofs.OneCall.{over-length, Leaves, pending_leaves, pending_none, found_leaves, found_one, found_shows, call_is}

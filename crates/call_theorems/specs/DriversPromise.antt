@@ -13,7 +13,7 @@ use Rattle.words.specs.Words.{verdict_from}
 use Rattle.words.specs.declared.VerdictMade.{VerdictMade}
 use Rattle.words.specs.declared.VerdictMade.TheVariants.{Unknown as NoVerdict, Known as AVerdict}
 use Rattle.sender_calls.specs.SenderCalls.{open_call, ended_call, reset_call, timer_call, block_call, submit_call}
-use Rattle.link.specs.SenderActs.{Act, opened, ended, reset, timer, block, submit, act_of, falls_due}
+use Rattle.link.specs.SenderActs.{Act, opened, ended, reset, timer, block, submit, falls_due}
 use Rattle.link.specs.System.{Link}
 use Rattle.link.specs.Promise.{transactions, Covers}
 use Rattle.call_theorems.specs.Verdicts.{reader_gives}

@@ -4,9 +4,10 @@
 
 mod block_cases;
 mod number_cases;
-mod print;
 
-fn main() {
-    block_cases::run();
-    number_cases::run();
+use std::io;
+
+fn main(rt: HostRuntime) -> io::Result<()> {
+    block_cases::run(&rt)?;
+    number_cases::run(&rt)
 }

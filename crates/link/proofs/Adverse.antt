@@ -11,7 +11,7 @@ use Rattle.block_theorems.specs.Shapes.{type_read, Writable}
 use Rattle.link.specs.Duties.{every}
 use Rattle.link.specs.SenderActs.{after_crash}
 use Rattle.link.specs.SenderHistory.{crashed}
-use Rattle.link.specs.Line.{Reader, Line, line, empty_line, Arrival, arrival, arriving, same_arrival, some_of, one_of, each_of, damages, disorders}
+use Rattle.link.specs.Line.{Reader, line, empty_line, Arrival, arrival, arriving, same_arrival, some_of, one_of, each_of, damages, disorders}
 use Rattle.receiver.specs.Receiver.{closed}
 use Rattle.link.specs.System.{Link, System, sending, receiving, link, sender_crashes, receiver_crashes, damages_forward, damages_back, after_act}
 use Rattle.link.proofs.Queues.{All, none, more, all-sub, all_among, Sub, empty, skip, keep, In, here, there, Among, nobody, one}

@@ -7,7 +7,6 @@ use Prim.Native.Nat.{ℕ, ◌+◌}
 use Prim.Native.Char.{code}
 use native.Mathlib.Omega.{arith}
 use borrow.Author.Tests.{eq-eqb}
-use Rattle.lists.specs.Bytes.{same}
 use Rattle.refusal.specs.declared.Verdict.{Verdict}
 use Rattle.refusal.specs.declared.Verdict.TheVariants.{Accepted}
 use Rattle.fields.specs.Fields.{bytes_of}

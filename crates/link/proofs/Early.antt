@@ -7,7 +7,6 @@ use Prim.Native.Nat.{ℕ, ◌+◌}
 use lib.ListN.{length}
 use lib.Dec.{leb, eqb}
 use Rattle.lists.specs.Bytes.{same}
-use Rattle.lists.specs.Outcome.{Outcome}
 use Rattle.lists.proofs.Tests.{cond_ind}
 use Rattle.settings.specs.Settings.{valid_link_limit}
 use Rattle.settings.specs.DataBytes.{all_allowed}
@@ -22,7 +21,6 @@ use Rattle.stream.specs.Stream.{Judged, run}
 use Rattle.refusal.specs.declared.Verdict.{Verdict}
 use Rattle.refusal.specs.declared.Verdict.TheVariants.{Accepted, Refused}
 use Rattle.receiver.specs.Receiver.{valid_expected, closed as closed_receiver, is_closed, decide_of, answer_of, nak_of}
-use Rattle.receiver.specs.declared.Answered.{Answered}
 use Rattle.receiver.specs.declared.Application.{Application}
 use Rattle.receiver.specs.declared.Expected.{Expected}
 use Rattle.sender.specs.Sender.{valid_sender, fresh_sender, is_open, on_circuit, no_state, refused, begins_to_wait, is_number, taken_in, submitted_header, valid_resends, when_open}
@@ -35,9 +33,9 @@ use Rattle.sender.specs.declared.Event.TheVariants.{NoEvent}
 use Rattle.sender.specs.declared.Acted.{Acted}
 use Rattle.link.specs.SenderActs.{after_crash}
 use Rattle.link.specs.Duties.{every, one_at, others_at}
-use Rattle.link.specs.Line.{Line, line, new_reader, empty_line, accepted_of, damages, disorders}
+use Rattle.link.specs.Line.{line, new_reader, empty_line, accepted_of, damages, disorders}
 use Rattle.link.specs.System.{Link, System, Remains, beginning, stored, sending, receiving, link, sender_acted, circuit_opened, request_written, sender_read, answer_taken}
-use Rattle.link.specs.System.{decided_end, verdict_decided, nak_taken, replies_of, receiver_persisted, to_persist, is_true, reported_end, receiver_read, request_taken, reply_written, SystemAct, opens, ends, resets, timer, submits, sender_persists, sender_writes, sender_forgets, sender_reads}
+use Rattle.link.specs.System.{decided_end, verdict_decided, replies_of, receiver_persisted, to_persist, is_true, reported_end, receiver_read, request_taken, reply_written, SystemAct, opens, ends, resets, timer, submits, sender_persists, sender_writes, sender_forgets, sender_reads}
 use Rattle.link.specs.System.{sender_acts, sender_discards, sender_restores, sender_crashes, receiver_reads, receiver_decides, receiver_reports, receiver_naks, receiver_discards, receiver_persists, receiver_writes}
 use Rattle.link.specs.System.{receiver_restores, receiver_crashes, damages_forward, damages_back, persists_number, persists_transaction, lands_late, reverts_to, sender_reverts_to, brings_late, brings_late_request, after_act}
 use Rattle.link.specs.Promise.{Ready, OnlyAnswers}

@@ -6,7 +6,7 @@ use Prim.Native.Nat.{ℕ, zero, suc, ◌+◌}
 use Prim.Native.Char.{code}
 use native.Mathlib.Omega.{arith}
 use lib.ListN.{length}
-use lib.Dec.{leb, eqb}
+use lib.Dec.{leb}
 use borrow.Author.Tests.{le-leb, eq-eqb}
 use Rattle.lists.specs.Outcome.{Outcome}
 use Rattle.block.specs.Format.{block_of}
@@ -19,7 +19,7 @@ use Rattle.message_theorems.proofs.Answer.{answer_reads_back}
 use Rattle.stream.specs.Stream.{Judged, Mode, between, run, after}
 use Rattle.numbers.proofs.Reading.{text_allowed}
 use Rattle.control_id.specs.ControlId.{in_words}
-use Rattle.receiver.specs.Receiver.{valid_expected, valid_receiver, row_of, closed, opens, decide_of, answer_block, replied, reported_of, reply_space, answer_of as report_of}
+use Rattle.receiver.specs.Receiver.{valid_expected, valid_receiver, row_of, closed, opens, decide_of, answer_block, replied, reply_space, answer_of as report_of}
 use Rattle.receiver.proofs.Rows.{id_back}
 use Rattle.receiver.specs.declared.Application.{Application}
 use Rattle.receiver.specs.declared.Row.{Row}
@@ -39,7 +39,7 @@ use Rattle.link.specs.SenderHistory.{Entry, reported}
 use Rattle.link.specs.Line.{Reader, Line, line, new_reader}
 use Rattle.link.specs.Duties.{every, one_at, others_at}
 use Rattle.link.specs.System.{Link, System, SendingEnd, Stored, stored, sending, ReceivingEnd, receiving, link, request_of, named_after, acted_end, same_flag, same_persisted}
-use Rattle.link.specs.System.{has_with, request_decided, reported_end, decision_reported, sender_persists, sender_writes, sender_acts, receiver_decides, receiver_persists, receiver_reports, receiver_writes}
+use Rattle.link.specs.System.{has_with, request_decided, decision_reported, sender_persists, sender_writes, sender_acts, receiver_decides, receiver_persists, receiver_reports, receiver_writes}
 use Rattle.link.specs.Promise.{Ready}
 use Rattle.link.proofs.Messages.{Nameable, SayableAnswer, request_reads, request_control, request_writable, answer_writable, data_read}
 use Rattle.link.proofs.Receiving.{decided, holding_valid, answer_is}

@@ -4,7 +4,7 @@ use mathlib.Core.Bool.{Bool, true, false, not}
 use mathlib.Core.Logic.{◌⊎◌, inl, inr}
 use mathlib.Core.List.{List, [], ◌∷◌}
 use Prim.Native.Nat.{ℕ, ◌≤◌}
-use lib.Dec.{leb, eqb}
+use lib.Dec.{eqb}
 use borrow.Author.Tests.{le-leb}
 use Rattle.lists.proofs.Tests.{cond_ind}
 use Rattle.lists.specs.Outcome.{Outcome}
@@ -14,7 +14,7 @@ use Rattle.numbers.specs.Numbers.{greatest_expected}
 use Rattle.numbers.specs.declared.SequenceNumber.TheVariants.{MinusOne, Number}
 use Rattle.numbers.specs.declared.NumberField.{NumberField}
 use Rattle.numbers.specs.declared.NumberField.TheVariants.{Missing, NotNumber, Present}
-use Rattle.receiver.specs.Receiver.{valid_expected, valid_receiver, is_closed, row_of, decide_of, answer_of}
+use Rattle.receiver.specs.Receiver.{valid_expected, valid_receiver, is_closed, row_of, answer_of}
 use Rattle.receiver.specs.declared.Application.{Application}
 use Rattle.receiver.specs.declared.Expected.{Expected}
 use Rattle.receiver.specs.declared.Expected.TheVariants.{Unknown, Next}

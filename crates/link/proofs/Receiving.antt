@@ -31,7 +31,6 @@ use Rattle.receiver.specs.Receiver.{valid_expected, valid_receiver, closed, is_c
 use Rattle.receiver.specs.declared.Application.{Application}
 use Rattle.receiver.specs.declared.Expected.{Expected}
 use Rattle.receiver.specs.declared.Row.{Row}
-use Rattle.receiver.specs.declared.Open.{Open}
 use Rattle.receiver.specs.declared.Open.TheVariants.{Decision}
 use Rattle.receiver.specs.declared.Receiver.{Receiver}
 

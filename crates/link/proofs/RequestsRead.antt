@@ -25,7 +25,7 @@ use Rattle.header.specs.declared.Code.TheVariants.{AA, AE, AR}
 use Rattle.messages.specs.Messages.{answerable, valid_control_id}
 use Rattle.message_theorems.proofs.HandedOut.{handed_out}
 use Rattle.stream.specs.Stream.{Judged}
-use Rattle.receiver.specs.Receiver.{valid_expected, valid_receiver, closed, application_code, expected_number, row, stores, row_of, undecided, opens, decide_of}
+use Rattle.receiver.specs.Receiver.{valid_expected, valid_receiver, closed, application_code, expected_number, row, stores, row_of, opens, decide_of}
 use Rattle.receiver.specs.Internal.{field_fits}
 use Rattle.receiver.specs.declared.Application.{Application}
 use Rattle.receiver.specs.declared.Application.TheVariants.{Accepts, Errs}
@@ -45,7 +45,7 @@ use Rattle.link.proofs.Queues.{All, none, more, all_map, all_append, all_head, N
 use Rattle.link.proofs.Queues.{good_number, Each, each_front, Front, front, Answer, replies, side, NamesExpected}
 use Rattle.link.proofs.Books.{Books, with_received, Core}
 use Rattle.link.proofs.Moves.{receive_minus_one, receive_zero, Which, which, receive_next, receive_repeat}
-use Rattle.link.proofs.Invariant.{ends_of, Reach, transit, books_of, Sayable, Opening, none_open, to_store_lem, to_report, Inv}
+use Rattle.link.proofs.Invariant.{ends_of, Reach, transit, books_of, Opening, none_open, to_store_lem, to_report, Inv}
 use Rattle.link.proofs.Messages.{IsRequest, Nameable, minus, query, transaction, block_some}
 use Rattle.link.proofs.Receiving.{decided, holding_valid, decided_open}
 

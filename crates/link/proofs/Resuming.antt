@@ -26,7 +26,7 @@ use Rattle.link.specs.SenderActs.{sender_at, after_crash}
 use Rattle.link.specs.Duties.{every}
 use Rattle.link.specs.SenderHistory.{crashed}
 use Rattle.link.specs.Line.{empty_line}
-use Rattle.link.specs.System.{Link, System, Stored, stored, receiving, link, Remains, nothing_left, beginning, start_of, request_of, SystemAct, sender_crashes, receiver_crashes, after_act, run_of}
+use Rattle.link.specs.System.{Link, System, Stored, stored, link, Remains, nothing_left, beginning, start_of, request_of, SystemAct, sender_crashes, receiver_crashes, after_act, run_of}
 use Rattle.link.specs.Promise.{Ready, OnlyAnswers, transactions}
 use Rattle.link.proofs.ReceiverInvariant.{expects_none, expects_next}
 use Rattle.link.proofs.Facts.{not_both, either}

@@ -1,6 +1,5 @@
 -- Document 01, 'Receiver of sequence numbers', and 02, §1: the receiver's acts as values, and its state after a run of acts and crashes.
-use Rattle.std.specs.Prelude.{List, [], ◌∷◌, Bool, true, false, cond, ◌&&◌, ℕ, eqb}
-use Rattle.lists.specs.Outcome.{Outcome}
+use Rattle.std.specs.Prelude.{List, [], ◌∷◌, Bool, true, false, ℕ}
 use Rattle.settings.specs.declared.Settings.{Settings}
 use Rattle.receiver.specs.Receiver.{closed, decide_of, answer_of, nak_of}
 use Rattle.receiver.specs.declared.Application.{Application}
@@ -9,7 +8,6 @@ use Rattle.receiver.specs.declared.Expected.TheVariants.{Unknown}
 use Rattle.receiver.specs.declared.Open.{Open}
 use Rattle.receiver.specs.declared.Open.TheVariants.{NoDecision, Decision}
 use Rattle.receiver.specs.declared.Receiver.{Receiver}
-use Rattle.receiver.specs.declared.Answered.{Answered}
 
 -- an act, with all that it is given
 pub data ReceiverAct : Type 0 where

@@ -1,6 +1,6 @@
 -- Demand 3: one tenancy of a link. Two ends, each with what it has persisted and what a crash loses, a line in each direction, and hosts that persist what changed: the sender's before
 -- the next block goes out, the receiver's before a decision is reported stored (02, §1).
-use Rattle.std.specs.Prelude.{List, [], ◌∷◌, ◌++◌, Bool, true, false, cond, not, ◌&&◌, ◌||◌, ℕ, length, take, drop, eqb}
+use Rattle.std.specs.Prelude.{List, [], ◌∷◌, ◌++◌, Bool, true, false, cond, not, ◌&&◌, ◌||◌, ℕ, take, drop, eqb}
 use Prim.Native.Char.{code}
 use Rattle.lists.specs.Outcome.{Outcome}
 use Rattle.settings.specs.declared.Settings.{Settings}

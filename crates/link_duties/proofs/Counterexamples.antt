@@ -202,42 +202,20 @@ ends drops_decision = 2 ∷ 0 ∷ 0 ∷ []
 ends survives = 0 ∷ 1 ∷ 0 ∷ []
 
 -- ---- computed, one claim for each kind of block
-abbrev Ends : Kind → Duty → Type 0
+abbrev pub Ends : Kind → Duty → Type 0
 Ends k d = seen (end_of k d) ≡ ends d
 
-abbrev All : Kind → Type 0
+abbrev pub All : Kind → Type 0
 All k =
     Ends k exchanges × Ends k empties_lines × Ends k drops_replies × Ends k drops_verdicts × Ends k brings_nothing_late × Ends k writes_in_order × Ends k offers_in_order × Ends k sender_persists_first × Ends k persists_as_one × Ends k reports_persisted × Ends k reports_failed × Ends k settles_writes × Ends k drops_named × Ends k drops_reports × Ends k drops_decision × Ends k survives
 
-computed_hybrid : All Hybrid
+pub computed_hybrid : All Hybrid
 unfolding times reversed sends reads decides reports_stored reports_failure receives answered exchanged submitted begun loses landed old_answer left left_pending left_read foreign open_decision left_open case case_of end_of five_digits three_digits count_field checksum_of hybrid_body hybrid_block minimal_block block_of type_matches header_ok checksum_matches judge_parts data_of judge_hybrid judge_minimal judge content_of same put valid valid_link end_verdict move run field_start field_of bytes_of number_field decimal begins readable_header header_of readable_answer acknowledgment_of code_field answer_message control_message packed unpacked in_words word_bytes bytes_in valid_control_id valid_expected row_of is_row carried valid_receiver decide_of answer_of valid_sender submit_of open_of timer_of block_read_of one_at others_at accepted_of some_of run_of blank
 computed_hybrid = (refl, refl, refl, refl, refl, refl, refl, refl, refl, refl, refl, refl, refl, refl, refl, refl)
 
-computed_minimal : All Minimal
+pub computed_minimal : All Minimal
 unfolding times reversed sends reads decides reports_stored reports_failure receives answered exchanged submitted begun loses landed old_answer left left_pending left_read foreign open_decision left_open case case_of end_of five_digits three_digits count_field checksum_of hybrid_body hybrid_block minimal_block block_of type_matches header_ok checksum_matches judge_parts data_of judge_hybrid judge_minimal judge content_of same put valid valid_link end_verdict move run field_start field_of bytes_of number_field decimal begins readable_header header_of readable_answer acknowledgment_of code_field answer_message control_message packed unpacked in_words word_bytes bytes_in valid_control_id valid_expected row_of is_row carried valid_receiver decide_of answer_of valid_sender submit_of open_of timer_of block_read_of one_at others_at accepted_of some_of run_of blank
 computed_minimal = (refl, refl, refl, refl, refl, refl, refl, refl, refl, refl, refl, refl, refl, refl, refl, refl)
-
-both : (k : Kind) → All k
-both Hybrid = computed_hybrid
-both Minimal = computed_minimal
-
-pub computed : (k : Kind) (d : Duty) → Ends k d
-computed k exchanges = (both k).0
-computed k empties_lines = (both k).1
-computed k drops_replies = (both k).2
-computed k drops_verdicts = (both k).3
-computed k brings_nothing_late = (both k).4
-computed k writes_in_order = (both k).5
-computed k offers_in_order = (both k).6
-computed k sender_persists_first = (both k).7
-computed k persists_as_one = (both k).8
-computed k reports_persisted = (both k).9
-computed k reports_failed = (both k).10
-computed k settles_writes = (both k).11
-computed k drops_named = (both k).12
-computed k drops_reports = (both k).13
-computed k drops_decision = (both k).14
-computed k survives = (both k).15
 
 -- ---- the night of slot 7, more closely
 -- acts from a beginning with these duties, this number expected and these answers on the line back

@@ -1,3 +1,4 @@
+pub mod Computed
 pub mod Counterexamples
 pub mod Further
 pub mod Needed

@@ -28,7 +28,8 @@ use Rattle.link.specs.Promise.{Safe, OnlyAnswers}
 use Rattle.link.specs.Needed.{every_but, Needed}
 use Rattle.link.specs.Example.{example_link}
 use Rattle.link.proofs.Safety.{none_left_lem}
-use Rattle.link_duties.proofs.Counterexamples.{reversed, old_answer, left, left_pending, left_read, left_open, case, case_of, end_of, computed, disordered, slot_seven_of, slot_seven_runs, unstored, ahead}
+use Rattle.link_duties.proofs.Computed.{computed}
+use Rattle.link_duties.proofs.Counterexamples.{reversed, old_answer, left, left_pending, left_read, left_open, case, case_of, end_of, disordered, slot_seven_of, slot_seven_runs, unstored, ahead}
 use Rattle.link_duties.proofs.Further.{Further, number_alone, sender_reverts, request_late, restored_named, lands_restarted, restored_report, line_later, verdict_later, duty_of, further_case_of, further_end_of, further_broken}
 
 module _ (k : Kind) where

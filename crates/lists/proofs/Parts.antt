@@ -7,7 +7,7 @@ use native.Mathlib.Nat.{add_comm, min-eq_left, min-eq_right, add-sub_cancel_left
 use native.Mathlib.Decide.{dec_le}
 use native.Mathlib.Omega.{arith}
 use lib.ListN.{length, take, drop, get_or, set, drop_of_length-le, length-drop}
-use lib.Seq.{drop-cons, take-suc, append_snoc, set_at, length-take-le, take-length, drop-length, take_all, take-nil}
+use lib.Seq.{drop-cons, take-suc, append_snoc, set_at, length-take-le, take-length, drop-length, take_all}
 use denote.Ref.{Bor}
 use Rattle.lists.specs.Bytes.{overwritten, part_address}
 

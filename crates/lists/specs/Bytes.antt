@@ -1,7 +1,7 @@
 -- Bytes searched, and bytes written over others.
 use Rattle.std.specs.Prelude.{List, [], ◌∷◌, ◌++◌, Bool, true, false, cond, ◌&&◌, ◌||◌, ℕ, suc, ◌+◌, min, length, take, drop, leb, eqb}
 use Rattle.std.specs.Borrow.{Bor}
-use Prim.Native.Char.{Char, code}
+use Prim.Native.Char.{code}
 use Prim.Native.String.{String, [] as nil, ◌∷◌ as ◌then◌}
 
 -- the bytes of a text

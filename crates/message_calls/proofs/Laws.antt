@@ -1,22 +1,15 @@
 -- The ways in which the C functions for messages return.
 use mathlib.Core.Path.{◌≡◌, refl, sym, ap, ◌∙◌}
-use mathlib.Core.List.{List, [], ◌∷◌}
-use mathlib.Core.Bool.{true, false, ◌&&◌}
+use mathlib.Core.List.{List, []}
+use mathlib.Core.Bool.{true, ◌&&◌}
 use Prim.Native.Nat.{ℕ, ◌+◌, ◌≤◌, ◌<◌}
 use lib.ListN.{length}
 use lib.Dec.{leb}
 use borrow.Author.Tests.{lt-leb, le-leb}
-use Rattle.lists.specs.Bytes.{over}
-use Rattle.fields.specs.Fields.{bytes_of}
-use Rattle.fields.specs.declared.Field.{Field}
-use Rattle.numbers.specs.Numbers.{number_field, greatest_sent, greatest_expected}
 use Rattle.numbers.specs.declared.SequenceNumber.{SequenceNumber}
-use Rattle.header.specs.Header.{header_of, acknowledgment_of, code_field}
+use Rattle.header.specs.Header.{header_of, acknowledgment_of}
 use Rattle.header.specs.declared.Header.{Header}
-use Rattle.header.specs.declared.Header.TheVariants.{Unreadable, Readable}
 use Rattle.header.specs.declared.Acknowledgment.{Acknowledgment}
-use Rattle.header.specs.declared.Acknowledgment.TheVariants.{Unreadable as NoAnswer, Readable as AnAnswer}
-use Rattle.header.specs.declared.Code.{Code}
 use Rattle.messages.specs.Messages.{message_type, control_message, valid_type}
 use Rattle.messages.specs.Write.{write_control_of}
 use Rattle.control_block.specs.ControlBlock.{control_block_of}
@@ -33,8 +26,6 @@ use Rattle.messages.specs.declared.MessageType.{MessageType}
 use Rattle.messages.specs.declared.TypeMade.TheVariants.{Unknown as UnknownType, Known as KnownType}
 use Rattle.message_calls.specs.MessageCalls.{header_finished, header_call, answer_finished, answer_call, code_from, number_from, control_from, answer_with, answer_write_call, control_with, control_write_call}
 use Rattle.message_calls.specs.declared.CodeMade.{CodeMade}
-use Rattle.message_calls.specs.declared.CodeMade.TheVariants.{Unknown, Known}
-use Rattle.message_calls.specs.declared.ControlMade.{ControlMade}
 use Rattle.message_calls.specs.declared.ControlMade.TheVariants.{Unknown as UnknownControl, Known as KnownControl}
 
 -- reading

@@ -12,12 +12,10 @@ use Rattle.header.specs.declared.Header.{Header}
 use Rattle.header.specs.declared.Header.TheVariants.{Unreadable, Readable}
 use Rattle.header.specs.declared.Acknowledgment.{Acknowledgment}
 use Rattle.header.specs.declared.Acknowledgment.TheVariants.{Unreadable as NoAnswer, Readable as AnAnswer}
-use Rattle.header.specs.declared.Code.{Code}
 use Rattle.header.specs.declared.Code.TheVariants.{AA, AE, AR}
 use Rattle.header.specs.declared.CodeField.{CodeField}
 use Rattle.header.specs.declared.CodeField.TheVariants.{Other, Known as KnownCode}
 use Rattle.messages.specs.Write.{write_answer_of, write_control_of}
-use Rattle.messages.specs.declared.Control.{Control}
 use Rattle.messages.specs.declared.Control.TheVariants.{Resynchronize, Query}
 use Rattle.lists.specs.Bytes.{greatest_word, over}
 use Rattle.lists.specs.Outcome.{need, Called, called}

@@ -9,9 +9,8 @@ use Rattle.header.specs.declared.Code.{Code}
 use Rattle.header.specs.declared.Code.TheVariants.{AA, AE, AR}
 use Rattle.numbers.specs.Numbers.{text_of, decimal}
 use Rattle.numbers.specs.declared.SequenceNumber.{SequenceNumber}
-use Rattle.messages.specs.Messages.{code_text, answer_message, control_message, type_text, control_number}
+use Rattle.messages.specs.Messages.{code_text, answer_message, control_message, type_text}
 use Rattle.messages.specs.Internal.{header_pieces, answer_pieces}
-use Rattle.messages.specs.declared.Control.{Control}
 use Rattle.messages.specs.declared.Control.TheVariants.{Resynchronize, Query}
 use Rattle.messages.specs.declared.MessageType.{MessageType}
 

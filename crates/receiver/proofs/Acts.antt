@@ -4,11 +4,10 @@ use mathlib.Core.List.{List}
 use mathlib.Core.Bool.{Bool, true, false, ◌&&◌, true≢false}
 use Prim.Native.Nat.{ℕ, ◌+◌}
 use Prim.Native.Char.{code}
-use native.Mathlib.Omega.{arith}
 use lib.ListN.{length}
 use lib.Dec.{leb, eqb}
 use Rattle.lists.specs.Outcome.{Outcome, outcome}
-use Rattle.lists.proofs.Tests.{and_left, and_right, cond_ind}
+use Rattle.lists.proofs.Tests.{and_left, cond_ind}
 use Rattle.settings.specs.Settings.{valid_link}
 use Rattle.settings.specs.declared.Settings.{Settings}
 use Rattle.settings.specs.DataBytes.{all_allowed}

@@ -1,14 +1,13 @@
 -- The rows of the table for what is expected are just those that an open decision may have; and the control IDs that an answer can carry.
 use mathlib.Core.Path.{◌≡◌, refl, sym, ap, ◌∙◌}
 use mathlib.Core.List.{List, [], ◌∷◌}
-use mathlib.Core.Bool.{Bool, true, false, ◌&&◌, ◌||◌, true≢false}
-use Prim.Native.Nat.{ℕ, ◌+◌, ◌≤◌, ◌<◌}
+use mathlib.Core.Bool.{true, false, ◌&&◌, true≢false}
+use Prim.Native.Nat.{ℕ, ◌+◌, ◌≤◌}
 use native.Mathlib.Omega.{arith}
 use lib.ListN.{length}
 use lib.Dec.{leb, eqb}
 use borrow.Author.Tests.{le-leb, leb-true, lt-ltb, eq-eqb, ne_eqb, eqb-true, eqb-false}
 use Rattle.lists.proofs.Tests.{and_left, and_right, or_cases, cond_ind}
-use Rattle.lists.specs.Bytes.{has_any}
 use Rattle.settings.specs.Settings.{allowed}
 use Rattle.settings.specs.DataBytes.{all_allowed}
 use Rattle.control_id.specs.ControlId.{is_byte, all_bytes, in_words, bytes_in}
@@ -22,7 +21,7 @@ use Rattle.numbers.specs.declared.NumberField.TheVariants.{Missing, NotNumber, P
 use Rattle.header.specs.declared.Code.{Code}
 use Rattle.header.specs.declared.Code.TheVariants.{AA, AE, AR}
 use Rattle.messages.specs.Messages.{valid_control_id, answerable}
-use Rattle.receiver.specs.Receiver.{valid_expected, application_code, expected_number, row, stores, row_of, same_expected, same_number, code_of_stored, is_due, code_of_kept, kept_row, stored_row, is_row_for, is_row, carried, valid_open, valid_receiver}
+use Rattle.receiver.specs.Receiver.{valid_expected, application_code, expected_number, row, stores, row_of, same_expected, same_number, code_of_stored, is_due, code_of_kept, stored_row, is_row_for, is_row, carried, valid_open, valid_receiver}
 use Rattle.receiver.specs.Internal.{field_fits}
 use Rattle.receiver.specs.declared.Application.{Application}
 use Rattle.receiver.specs.declared.Application.TheVariants.{Accepts, Errs}

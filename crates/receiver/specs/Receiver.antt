@@ -30,7 +30,6 @@ use Rattle.receiver.specs.declared.Application.{Application}
 use Rattle.receiver.specs.declared.Application.TheVariants.{Accepts, Errs}
 use Rattle.receiver.specs.declared.Transaction.{Transaction}
 use Rattle.receiver.specs.declared.Transaction.TheVariants.{NoTransaction, Numbered}
-use Rattle.receiver.specs.declared.Persisted.{Persisted}
 use Rattle.receiver.specs.declared.Row.{Row}
 use Rattle.receiver.specs.declared.Open.{Open}
 use Rattle.receiver.specs.declared.Open.TheVariants.{NoDecision, Decision}

@@ -7,7 +7,7 @@ use lib.ListN.{length, get_or}
 use lib.Dec.{leb, eqb}
 use borrow.Author.Tests.{leb-true}
 use Rattle.lists.proofs.Calls.{with_buffer}
-use Rattle.lists.proofs.Tests.{and_left, and_right}
+use Rattle.lists.proofs.Tests.{and_left}
 use Rattle.lists.specs.Outcome.{Outcome, outcome, Called, called}
 use Rattle.settings.specs.Settings.{valid_link}
 use Rattle.settings.specs.declared.Made.{Made}

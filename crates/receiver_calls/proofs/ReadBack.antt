@@ -1,23 +1,22 @@
 -- The words stand for the receiver: what is written is read back, and the stored word is what a crash keeps.
 use mathlib.Core.Path.{◌≡◌, refl, ap, ◌∙◌}
 use mathlib.Core.List.{List, [], ◌∷◌, ◌++◌}
-use mathlib.Core.Bool.{Bool, true, false}
-use Prim.Native.Nat.{ℕ, ◌+◌, ◌≤◌}
+use mathlib.Core.Bool.{true, false}
+use Prim.Native.Nat.{ℕ, ◌≤◌}
 use native.Mathlib.Omega.{arith}
-use lib.ListN.{length, drop}
+use lib.ListN.{length}
 use lib.Dec.{eqb, leb}
 use borrow.Author.Tests.{leb-true, ne_eqb}
 use Rattle.lists.specs.Bytes.{over}
 use Rattle.lists.proofs.Tests.{and_left}
 use Rattle.lists.proofs.Calls.{over-is}
-use Rattle.numbers.specs.Numbers.{greatest_expected, greatest_sent}
 use Rattle.numbers.specs.declared.SequenceNumber.{SequenceNumber}
 use Rattle.numbers.specs.declared.SequenceNumber.TheVariants.{MinusOne, Number}
 use Rattle.header.specs.declared.Code.{Code}
 use Rattle.header.specs.declared.Code.TheVariants.{AA, AE, AR}
 use Rattle.control_id.specs.declared.ControlId.{ControlId}
 use Rattle.messages.specs.Messages.{answerable}
-use Rattle.receiver.specs.Receiver.{valid_expected, row, closed, valid_open, valid_receiver, is_row}
+use Rattle.receiver.specs.Receiver.{valid_expected, closed, valid_receiver, is_row}
 use Rattle.receiver.specs.declared.Expected.{Expected}
 use Rattle.receiver.specs.declared.Expected.TheVariants.{Unknown, Next}
 use Rattle.receiver.specs.declared.Transaction.{Transaction}
@@ -28,8 +27,7 @@ use Rattle.receiver.specs.declared.Open.TheVariants.{NoDecision, Decision}
 use Rattle.receiver.specs.declared.Receiver.{Receiver}
 use Rattle.receiver.proofs.Rows.{opened, open_answerable, open_expected, open_transaction}
 use Rattle.receiver.proofs.Acts.{expected_valid, closed_state}
-use Rattle.receiver_calls.specs.ReceiverCalls.{expected_word, expected_from, code_word, code_from, number_word, number_from, transaction_word, transaction_from, open_words, receiver_words, open_in, receiver_in}
-use Rattle.receiver_calls.specs.declared.Decoded.{Decoded}
+use Rattle.receiver_calls.specs.ReceiverCalls.{expected_word, expected_from, code_word, code_from, number_word, number_from, transaction_word, transaction_from, receiver_words, receiver_in}
 use Rattle.receiver_calls.specs.declared.Decoded.TheVariants.{Known}
 
 pub expected_back : (e : Expected) → valid_expected e ≡ true → expected_from (expected_word e) ≡ e

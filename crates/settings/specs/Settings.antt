@@ -1,5 +1,5 @@
 -- Document 01, 'Hybrid block': the settings, their ranges, and what follows from them.
-use Rattle.std.specs.Prelude.{Bool, true, false, cond, ◌&&◌, ◌||◌, not, ℕ, ◌+◌, leb, ltb, eqb}
+use Rattle.std.specs.Prelude.{Bool, cond, ◌&&◌, ◌||◌, not, ℕ, ◌+◌, leb, ltb, eqb}
 use Rattle.settings.specs.declared.Kind.{Kind}
 use Rattle.settings.specs.declared.Kind.TheVariants.{Hybrid, Minimal}
 use Rattle.settings.specs.declared.Settings.{Settings}

@@ -1,5 +1,5 @@
 -- What the contracts of the reader's private functions cite. Nobody needs to believe these: no public function's contract cites them.
-use Rattle.std.specs.Prelude.{◌≡◌, List, [], ◌∷◌, ◌++◌, Bool, true, false, cond, ℕ, ◌+◌, ◌-◌, ◌≤◌, ◌<◌, ◌^◌, length, take, drop, ltb, leb}
+use Rattle.std.specs.Prelude.{◌≡◌, List, cond, ℕ, ◌+◌, ◌-◌, ◌≤◌, ◌<◌, ◌^◌, length, take, drop, ltb, leb}
 use Rattle.lists.specs.Bytes.{put}
 use Rattle.settings.specs.Settings.{capacity_of}
 use Rattle.settings.specs.declared.Settings.{Settings}

@@ -1,57 +1,57 @@
 -- The public functions of the crate block. Written by tests/interface/uniqueness --write.
 use mathlib.Core.Path.{refl, sym, ◌∙◌}
 use Rattle.uniqueness.specs.Unique.{Unique, UniqueBy, SamePart}
-use Rattle.block.specs.contracts.block_content as block-content-contract
-use Rattle.block.proofs.block_content.Reads as block-content-reads
-use Rattle.block.specs.contracts.is_long as is-long-contract
-use Rattle.block.proofs.is_long.Reads as is-long-reads
-use Rattle.block.specs.contracts.buffer_fits as buffer-fits-contract
-use Rattle.block.proofs.buffer_fits.Reads as buffer-fits-reads
-use Rattle.block.specs.contracts.type_matches as type-matches-contract
-use Rattle.block.proofs.type_matches.Reads as type-matches-reads
-use Rattle.block.specs.contracts.block_checksum as block-checksum-contract
-use Rattle.block.proofs.block_checksum.Reads as block-checksum-reads
-use Rattle.block.specs.contracts.judge_block as judge-block-contract
-use Rattle.block.proofs.judge_block.Reads as judge-block-reads
+use Rattle.block.specs.contracts.block_content as block_content-contract
+use Rattle.block.proofs.block_content.Reads as block_content-reads
+use Rattle.block.specs.contracts.is_long as is_long-contract
+use Rattle.block.proofs.is_long.Reads as is_long-reads
+use Rattle.block.specs.contracts.buffer_fits as buffer_fits-contract
+use Rattle.block.proofs.buffer_fits.Reads as buffer_fits-reads
+use Rattle.block.specs.contracts.type_matches as type_matches-contract
+use Rattle.block.proofs.type_matches.Reads as type_matches-reads
+use Rattle.block.specs.contracts.block_checksum as block_checksum-contract
+use Rattle.block.proofs.block_checksum.Reads as block_checksum-reads
+use Rattle.block.specs.contracts.judge_block as judge_block-contract
+use Rattle.block.proofs.judge_block.Reads as judge_block-reads
 
-pub block-content : UniqueBy block-content-contract.ended (λ M. block-content-contract.clauses {M = M}) (λ κs. SamePart)
-block-content = record {
-  holds = block-content-reads.Learnt;
+pub block_content : UniqueBy block_content-contract.ended (λ M 𝓤. block_content-contract.clauses {M = M} {𝓤 = 𝓤}) (λ κs. SamePart)
+block_content = record {
+  holds = block_content-reads.Learnt;
   says = λ M 𝓤 𝓛 mem run. refl;
   one = λ κs a z z' ws ws' h h'. ((h.1 ∙ sym h'.1, h.0 ∙ sym h'.0), refl);
 }
 
-pub is-long : Unique is-long-contract.ended (λ M. is-long-contract.clauses {M = M})
-is-long = record {
-  holds = is-long-reads.Learnt;
+pub is_long : Unique is_long-contract.ended (λ M 𝓤. is_long-contract.clauses {M = M} {𝓤 = 𝓤})
+is_long = record {
+  holds = is_long-reads.Learnt;
   says = λ M 𝓤 𝓛 mem run. refl;
   one = λ κs a z z' ws ws' h h'. (h ∙ sym h', refl);
 }
 
-pub buffer-fits : Unique buffer-fits-contract.ended (λ M. buffer-fits-contract.clauses {M = M})
-buffer-fits = record {
-  holds = buffer-fits-reads.Learnt;
+pub buffer_fits : Unique buffer_fits-contract.ended (λ M 𝓤. buffer_fits-contract.clauses {M = M} {𝓤 = 𝓤})
+buffer_fits = record {
+  holds = buffer_fits-reads.Learnt;
   says = λ M 𝓤 𝓛 mem run. refl;
   one = λ κs a z z' ws ws' h h'. (h ∙ sym h', refl);
 }
 
-pub type-matches : Unique type-matches-contract.ended (λ M. type-matches-contract.clauses {M = M})
-type-matches = record {
-  holds = type-matches-reads.Learnt;
+pub type_matches : Unique type_matches-contract.ended (λ M 𝓤. type_matches-contract.clauses {M = M} {𝓤 = 𝓤})
+type_matches = record {
+  holds = type_matches-reads.Learnt;
   says = λ M 𝓤 𝓛 mem run. refl;
   one = λ κs a z z' ws ws' h h'. (h ∙ sym h', refl);
 }
 
-pub block-checksum : Unique block-checksum-contract.ended (λ M. block-checksum-contract.clauses {M = M})
-block-checksum = record {
-  holds = block-checksum-reads.Learnt;
+pub block_checksum : Unique block_checksum-contract.ended (λ M 𝓤. block_checksum-contract.clauses {M = M} {𝓤 = 𝓤})
+block_checksum = record {
+  holds = block_checksum-reads.Learnt;
   says = λ M 𝓤 𝓛 mem run. refl;
   one = λ κs a z z' ws ws' h h'. (h ∙ sym h', refl);
 }
 
-pub judge-block : Unique judge-block-contract.ended (λ M. judge-block-contract.clauses {M = M})
-judge-block = record {
-  holds = judge-block-reads.Learnt;
+pub judge_block : Unique judge_block-contract.ended (λ M 𝓤. judge_block-contract.clauses {M = M} {𝓤 = 𝓤})
+judge_block = record {
+  holds = judge_block-reads.Learnt;
   says = λ M 𝓤 𝓛 mem run. refl;
   one = λ κs a z z' ws ws' h h'. (h ∙ sym h', refl);
 }

@@ -1,36 +1,39 @@
--- The public functions of the crate field_reader. Those over the struct are proved by hand and have no reading of their contract: what it says is written out here again.
-use mathlib.Core.Path.{◌≡◌, refl, sym, ◌∙◌}
-use Rattle.field_reader.specs.FieldReader.{next_of, advanced}
+-- The public functions of the crate field_reader. Written by tests/interface/uniqueness --write.
+use mathlib.Core.Path.{refl, sym, ◌∙◌}
 use Rattle.uniqueness.specs.Unique.{Unique}
-use Rattle.field_reader.specs.contracts.read_from as read-from-contract
+use Rattle.field_reader.specs.contracts.read_from as read_from-contract
+use Rattle.field_reader.proofs.read_from.Reads as read_from-reads
 use Rattle.field_reader.specs.contracts.peek as peek-contract
+use Rattle.field_reader.proofs.peek.Reads as peek-reads
 use Rattle.field_reader.specs.contracts.next as next-contract
-use Rattle.field_reader.specs.contracts.next_field as next-field-contract
+use Rattle.field_reader.proofs.next.Reads as next-reads
+use Rattle.field_reader.specs.contracts.next_field as next_field-contract
+use Rattle.field_reader.proofs.next_field.Reads as next_field-reads
 
-pub read-from : Unique read-from-contract.ended (λ M. read-from-contract.clauses {M = M})
-read-from = record {
-  holds = λ κs a z e. (z.message ≡ a.0) × (z.position ≡ a.1.0);
+pub read_from : Unique read_from-contract.ended (λ M 𝓤. read_from-contract.clauses {M = M} {𝓤 = 𝓤})
+read_from = record {
+  holds = read_from-reads.Learnt;
   says = λ M 𝓤 𝓛 mem run. refl;
   one = λ κs a z z' ws ws' h h'. (λ i. record { message = (h.0 ∙ sym h'.0) i; position = (h.1 ∙ sym h'.1) i }, refl);
 }
 
-pub peek : Unique peek-contract.ended (λ M. peek-contract.clauses {M = M})
+pub peek : Unique peek-contract.ended (λ M 𝓤. peek-contract.clauses {M = M} {𝓤 = 𝓤})
 peek = record {
-  holds = λ κs a z e. z ≡ next_of a.0.message.now a.0.position;
+  holds = peek-reads.Learnt;
   says = λ M 𝓤 𝓛 mem run. refl;
   one = λ κs a z z' ws ws' h h'. (h ∙ sym h', refl);
 }
 
-pub next : Unique next-contract.ended (λ M. next-contract.clauses {M = M})
+pub next : Unique next-contract.ended (λ M 𝓤. next-contract.clauses {M = M} {𝓤 = 𝓤})
 next = record {
-  holds = λ κs a z e. (z ≡ next_of a.0.now.message.now a.0.now.position) × (e.0.now ≡ advanced a.0.now);
+  holds = next-reads.Learnt;
   says = λ M 𝓤 𝓛 mem run. refl;
   one = λ κs a z z' ws ws' h h'. (h.0 ∙ sym h'.0, λ i. ((h.1 ∙ sym h'.1) i, tt));
 }
 
-pub next_field : Unique next-field-contract.ended (λ M. next-field-contract.clauses {M = M})
+pub next_field : Unique next_field-contract.ended (λ M 𝓤. next_field-contract.clauses {M = M} {𝓤 = 𝓤})
 next_field = record {
-  holds = λ κs a z e. z ≡ next_of a.0.now a.1.0;
+  holds = next_field-reads.Learnt;
   says = λ M 𝓤 𝓛 mem run. refl;
   one = λ κs a z z' ws ws' h h'. (h ∙ sym h', refl);
 }

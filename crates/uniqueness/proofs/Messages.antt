@@ -2,48 +2,48 @@
 use mathlib.Core.Path.{refl, sym, ◌∙◌}
 use Rattle.uniqueness.specs.Unique.{Unique}
 use Rattle.uniqueness.proofs.Once.{once}
-use Rattle.messages.specs.contracts.is_control_id as is-control-id-contract
-use Rattle.messages.proofs.is_control_id.Reads as is-control-id-reads
-use Rattle.messages.specs.contracts.write_answer as write-answer-contract
-use Rattle.messages.proofs.write_answer.Reads as write-answer-reads
-use Rattle.messages.specs.contracts.is_type as is-type-contract
-use Rattle.messages.proofs.is_type.Reads as is-type-reads
-use Rattle.messages.specs.contracts.write_control as write-control-contract
-use Rattle.messages.proofs.write_control.Reads as write-control-reads
-use Rattle.messages.specs.contracts.MessageType.from_letters as MessageType-from-letters-contract
-use Rattle.messages.proofs.MessageType.from_letters.Reads as MessageType-from-letters-reads
+use Rattle.messages.specs.contracts.is_control_id as is_control_id-contract
+use Rattle.messages.proofs.is_control_id.Reads as is_control_id-reads
+use Rattle.messages.specs.contracts.write_answer as write_answer-contract
+use Rattle.messages.proofs.write_answer.Reads as write_answer-reads
+use Rattle.messages.specs.contracts.is_type as is_type-contract
+use Rattle.messages.proofs.is_type.Reads as is_type-reads
+use Rattle.messages.specs.contracts.write_control as write_control-contract
+use Rattle.messages.proofs.write_control.Reads as write_control-reads
+use Rattle.messages.specs.contracts.MessageType.from_letters as MessageType-from_letters-contract
+use Rattle.messages.proofs.MessageType.from_letters.Reads as MessageType-from_letters-reads
 
-pub is-control-id : Unique is-control-id-contract.ended (λ M. is-control-id-contract.clauses {M = M})
-is-control-id = record {
-  holds = is-control-id-reads.Learnt;
+pub is_control_id : Unique is_control_id-contract.ended (λ M 𝓤. is_control_id-contract.clauses {M = M} {𝓤 = 𝓤})
+is_control_id = record {
+  holds = is_control_id-reads.Learnt;
   says = λ M 𝓤 𝓛 mem run. refl;
   one = λ κs a z z' ws ws' h h'. (h ∙ sym h', refl);
 }
 
-pub write-answer : Unique write-answer-contract.ended (λ M. write-answer-contract.clauses {M = M})
-write-answer = record {
-  holds = write-answer-reads.Learnt;
+pub write_answer : Unique write_answer-contract.ended (λ M 𝓤. write_answer-contract.clauses {M = M} {𝓤 = 𝓤})
+write_answer = record {
+  holds = write_answer-reads.Learnt;
   says = λ M 𝓤 𝓛 mem run. refl;
   one = λ κs a z z' ws ws' h h'. once h h' (λ y. y.answer) (λ y. (tt, (tt, (tt, (y.buffer, (tt, tt))))));
 }
 
-pub is-type : Unique is-type-contract.ended (λ M. is-type-contract.clauses {M = M})
-is-type = record {
-  holds = is-type-reads.Learnt;
+pub is_type : Unique is_type-contract.ended (λ M 𝓤. is_type-contract.clauses {M = M} {𝓤 = 𝓤})
+is_type = record {
+  holds = is_type-reads.Learnt;
   says = λ M 𝓤 𝓛 mem run. refl;
   one = λ κs a z z' ws ws' h h'. (h ∙ sym h', refl);
 }
 
-pub write-control : Unique write-control-contract.ended (λ M. write-control-contract.clauses {M = M})
-write-control = record {
-  holds = write-control-reads.Learnt;
+pub write_control : Unique write_control-contract.ended (λ M 𝓤. write_control-contract.clauses {M = M} {𝓤 = 𝓤})
+write_control = record {
+  holds = write_control-reads.Learnt;
   says = λ M 𝓤 𝓛 mem run. refl;
   one = λ κs a z z' ws ws' h h'. once h h' (λ y. y.answer) (λ y. (tt, (tt, (y.buffer, (tt, tt)))));
 }
 
-pub MessageType-from-letters : Unique MessageType-from-letters-contract.ended (λ M. MessageType-from-letters-contract.clauses {M = M})
-MessageType-from-letters = record {
-  holds = MessageType-from-letters-reads.Learnt;
+pub MessageType-from_letters : Unique MessageType-from_letters-contract.ended (λ M 𝓤. MessageType-from_letters-contract.clauses {M = M} {𝓤 = 𝓤})
+MessageType-from_letters = record {
+  holds = MessageType-from_letters-reads.Learnt;
   says = λ M 𝓤 𝓛 mem run. refl;
   one = λ κs a z z' ws ws' h h'. (h ∙ sym h', refl);
 }

@@ -2,66 +2,66 @@
 use mathlib.Core.Path.{refl}
 use Rattle.uniqueness.specs.Unique.{Unique}
 use Rattle.uniqueness.proofs.Once.{once}
-use Rattle.sender_calls.specs.contracts.fresh_sender_words as fresh-sender-words-contract
-use Rattle.sender_calls.proofs.fresh_sender_words.Reads as fresh-sender-words-reads
-use Rattle.sender_calls.specs.contracts.opened_words as opened-words-contract
-use Rattle.sender_calls.proofs.opened_words.Reads as opened-words-reads
-use Rattle.sender_calls.specs.contracts.ended_words as ended-words-contract
-use Rattle.sender_calls.proofs.ended_words.Reads as ended-words-reads
-use Rattle.sender_calls.specs.contracts.reset_words as reset-words-contract
-use Rattle.sender_calls.proofs.reset_words.Reads as reset-words-reads
-use Rattle.sender_calls.specs.contracts.timer_words as timer-words-contract
-use Rattle.sender_calls.proofs.timer_words.Reads as timer-words-reads
-use Rattle.sender_calls.specs.contracts.block_words as block-words-contract
-use Rattle.sender_calls.proofs.block_words.Reads as block-words-reads
-use Rattle.sender_calls.specs.contracts.submitted_words as submitted-words-contract
-use Rattle.sender_calls.proofs.submitted_words.Reads as submitted-words-reads
+use Rattle.sender_calls.specs.contracts.fresh_sender_words as fresh_sender_words-contract
+use Rattle.sender_calls.proofs.fresh_sender_words.Reads as fresh_sender_words-reads
+use Rattle.sender_calls.specs.contracts.opened_words as opened_words-contract
+use Rattle.sender_calls.proofs.opened_words.Reads as opened_words-reads
+use Rattle.sender_calls.specs.contracts.ended_words as ended_words-contract
+use Rattle.sender_calls.proofs.ended_words.Reads as ended_words-reads
+use Rattle.sender_calls.specs.contracts.reset_words as reset_words-contract
+use Rattle.sender_calls.proofs.reset_words.Reads as reset_words-reads
+use Rattle.sender_calls.specs.contracts.timer_words as timer_words-contract
+use Rattle.sender_calls.proofs.timer_words.Reads as timer_words-reads
+use Rattle.sender_calls.specs.contracts.block_words as block_words-contract
+use Rattle.sender_calls.proofs.block_words.Reads as block_words-reads
+use Rattle.sender_calls.specs.contracts.submitted_words as submitted_words-contract
+use Rattle.sender_calls.proofs.submitted_words.Reads as submitted_words-reads
 
-pub fresh-sender-words : Unique fresh-sender-words-contract.ended (λ M. fresh-sender-words-contract.clauses {M = M})
-fresh-sender-words = record {
-  holds = fresh-sender-words-reads.Learnt;
+pub fresh_sender_words : Unique fresh_sender_words-contract.ended (λ M 𝓤. fresh_sender_words-contract.clauses {M = M} {𝓤 = 𝓤})
+fresh_sender_words = record {
+  holds = fresh_sender_words-reads.Learnt;
   says = λ M 𝓤 𝓛 mem run. refl;
   one = λ κs a z z' ws ws' h h'. once h h' (λ y. y.number) (λ y. (tt, (y.state, tt)));
 }
 
-pub opened-words : Unique opened-words-contract.ended (λ M. opened-words-contract.clauses {M = M})
-opened-words = record {
-  holds = opened-words-reads.Learnt;
+pub opened_words : Unique opened_words-contract.ended (λ M 𝓤. opened_words-contract.clauses {M = M} {𝓤 = 𝓤})
+opened_words = record {
+  holds = opened_words-reads.Learnt;
   says = λ M 𝓤 𝓛 mem run. refl;
   one = λ κs a z z' ws ws' h h'. once h h' (λ y. y.number) (λ y. (y.state, (y.report, tt)));
 }
 
-pub ended-words : Unique ended-words-contract.ended (λ M. ended-words-contract.clauses {M = M})
-ended-words = record {
-  holds = ended-words-reads.Learnt;
+pub ended_words : Unique ended_words-contract.ended (λ M 𝓤. ended_words-contract.clauses {M = M} {𝓤 = 𝓤})
+ended_words = record {
+  holds = ended_words-reads.Learnt;
   says = λ M 𝓤 𝓛 mem run. refl;
   one = λ κs a z z' ws ws' h h'. once h h' (λ y. y.number) (λ y. (y.state, (y.report, tt)));
 }
 
-pub reset-words : Unique reset-words-contract.ended (λ M. reset-words-contract.clauses {M = M})
-reset-words = record {
-  holds = reset-words-reads.Learnt;
+pub reset_words : Unique reset_words-contract.ended (λ M 𝓤. reset_words-contract.clauses {M = M} {𝓤 = 𝓤})
+reset_words = record {
+  holds = reset_words-reads.Learnt;
   says = λ M 𝓤 𝓛 mem run. refl;
   one = λ κs a z z' ws ws' h h'. once h h' (λ y. y.number) (λ y. (y.state, (y.report, tt)));
 }
 
-pub timer-words : Unique timer-words-contract.ended (λ M. timer-words-contract.clauses {M = M})
-timer-words = record {
-  holds = timer-words-reads.Learnt;
+pub timer_words : Unique timer_words-contract.ended (λ M 𝓤. timer_words-contract.clauses {M = M} {𝓤 = 𝓤})
+timer_words = record {
+  holds = timer_words-reads.Learnt;
   says = λ M 𝓤 𝓛 mem run. refl;
   one = λ κs a z z' ws ws' h h'. once h h' (λ y. y.number) (λ y. (tt, (y.state, (y.report, tt))));
 }
 
-pub block_words : Unique block-words-contract.ended (λ M. block-words-contract.clauses {M = M})
+pub block_words : Unique block_words-contract.ended (λ M 𝓤. block_words-contract.clauses {M = M} {𝓤 = 𝓤})
 block_words = record {
-  holds = block-words-reads.Learnt;
+  holds = block_words-reads.Learnt;
   says = λ M 𝓤 𝓛 mem run. refl;
   one = λ κs a z z' ws ws' h h'. once h h' (λ y. y.number) (λ y. (tt, (tt, (tt, (tt, (y.state, (y.report, tt)))))));
 }
 
-pub submitted-words : Unique submitted-words-contract.ended (λ M. submitted-words-contract.clauses {M = M})
-submitted-words = record {
-  holds = submitted-words-reads.Learnt;
+pub submitted_words : Unique submitted_words-contract.ended (λ M 𝓤. submitted_words-contract.clauses {M = M} {𝓤 = 𝓤})
+submitted_words = record {
+  holds = submitted_words-reads.Learnt;
   says = λ M 𝓤 𝓛 mem run. refl;
   one = λ κs a z z' ws ws' h h'. once h h' (λ y. y.number) (λ y. (tt, (tt, (y.state, (y.report, tt)))));
 }

@@ -2,102 +2,102 @@
 use mathlib.Core.Path.{refl, sym, ◌∙◌}
 use Rattle.uniqueness.specs.Unique.{Unique}
 use Rattle.uniqueness.proofs.Once.{once}
-use Rattle.station_calls.specs.contracts.fresh_station_words as fresh-station-words-contract
-use Rattle.station_calls.proofs.fresh_station_words.Reads as fresh-station-words-reads
-use Rattle.station_calls.specs.contracts.opened_words as opened-words-contract
-use Rattle.station_calls.proofs.opened_words.Reads as opened-words-reads
-use Rattle.station_calls.specs.contracts.bad_words as bad-words-contract
-use Rattle.station_calls.proofs.bad_words.Reads as bad-words-reads
-use Rattle.station_calls.specs.contracts.end_words as end-words-contract
-use Rattle.station_calls.proofs.end_words.Reads as end-words-reads
-use Rattle.station_calls.specs.contracts.bare_enq_words as bare-enq-words-contract
-use Rattle.station_calls.proofs.bare_enq_words.Reads as bare-enq-words-reads
-use Rattle.station_calls.specs.contracts.interrupt_words as interrupt-words-contract
-use Rattle.station_calls.proofs.interrupt_words.Reads as interrupt-words-reads
-use Rattle.station_calls.specs.contracts.block_words as block-words-contract
-use Rattle.station_calls.proofs.block_words.Reads as block-words-reads
+use Rattle.station_calls.specs.contracts.fresh_station_words as fresh_station_words-contract
+use Rattle.station_calls.proofs.fresh_station_words.Reads as fresh_station_words-reads
+use Rattle.station_calls.specs.contracts.opened_words as opened_words-contract
+use Rattle.station_calls.proofs.opened_words.Reads as opened_words-reads
+use Rattle.station_calls.specs.contracts.bad_words as bad_words-contract
+use Rattle.station_calls.proofs.bad_words.Reads as bad_words-reads
+use Rattle.station_calls.specs.contracts.end_words as end_words-contract
+use Rattle.station_calls.proofs.end_words.Reads as end_words-reads
+use Rattle.station_calls.specs.contracts.bare_enq_words as bare_enq_words-contract
+use Rattle.station_calls.proofs.bare_enq_words.Reads as bare_enq_words-reads
+use Rattle.station_calls.specs.contracts.interrupt_words as interrupt_words-contract
+use Rattle.station_calls.proofs.interrupt_words.Reads as interrupt_words-reads
+use Rattle.station_calls.specs.contracts.block_words as block_words-contract
+use Rattle.station_calls.proofs.block_words.Reads as block_words-reads
 use Rattle.station_calls.specs.contracts.precedes as precedes-contract
 use Rattle.station_calls.proofs.precedes.Reads as precedes-reads
-use Rattle.station_calls.specs.contracts.kind_word as kind-word-contract
-use Rattle.station_calls.proofs.kind_word.Reads as kind-word-reads
-use Rattle.station_calls.specs.contracts.is_kind as is-kind-contract
-use Rattle.station_calls.proofs.is_kind.Reads as is-kind-reads
-use Rattle.station_calls.specs.contracts.kind_in as kind-in-contract
-use Rattle.station_calls.proofs.kind_in.Reads as kind-in-reads
+use Rattle.station_calls.specs.contracts.kind_word as kind_word-contract
+use Rattle.station_calls.proofs.kind_word.Reads as kind_word-reads
+use Rattle.station_calls.specs.contracts.is_kind as is_kind-contract
+use Rattle.station_calls.proofs.is_kind.Reads as is_kind-reads
+use Rattle.station_calls.specs.contracts.kind_in as kind_in-contract
+use Rattle.station_calls.proofs.kind_in.Reads as kind_in-reads
 
-pub fresh-station-words : Unique fresh-station-words-contract.ended (λ M. fresh-station-words-contract.clauses {M = M})
-fresh-station-words = record {
-  holds = fresh-station-words-reads.Learnt;
+pub fresh_station_words : Unique fresh_station_words-contract.ended (λ M 𝓤. fresh_station_words-contract.clauses {M = M} {𝓤 = 𝓤})
+fresh_station_words = record {
+  holds = fresh_station_words-reads.Learnt;
   says = λ M 𝓤 𝓛 mem run. refl;
   one = λ κs a z z' ws ws' h h'. once h h' (λ y. y.number) (λ y. (y.state, tt));
 }
 
-pub opened-words : Unique opened-words-contract.ended (λ M. opened-words-contract.clauses {M = M})
-opened-words = record {
-  holds = opened-words-reads.Learnt;
+pub opened_words : Unique opened_words-contract.ended (λ M 𝓤. opened_words-contract.clauses {M = M} {𝓤 = 𝓤})
+opened_words = record {
+  holds = opened_words-reads.Learnt;
   says = λ M 𝓤 𝓛 mem run. refl;
   one = λ κs a z z' ws ws' h h'. once h h' (λ y. y.number) (λ y. (y.state, (y.report, tt)));
 }
 
-pub bad-words : Unique bad-words-contract.ended (λ M. bad-words-contract.clauses {M = M})
-bad-words = record {
-  holds = bad-words-reads.Learnt;
+pub bad_words : Unique bad_words-contract.ended (λ M 𝓤. bad_words-contract.clauses {M = M} {𝓤 = 𝓤})
+bad_words = record {
+  holds = bad_words-reads.Learnt;
   says = λ M 𝓤 𝓛 mem run. refl;
   one = λ κs a z z' ws ws' h h'. once h h' (λ y. y.number) (λ y. (y.state, (y.report, tt)));
 }
 
-pub end-words : Unique end-words-contract.ended (λ M. end-words-contract.clauses {M = M})
-end-words = record {
-  holds = end-words-reads.Learnt;
+pub end_words : Unique end_words-contract.ended (λ M 𝓤. end_words-contract.clauses {M = M} {𝓤 = 𝓤})
+end_words = record {
+  holds = end_words-reads.Learnt;
   says = λ M 𝓤 𝓛 mem run. refl;
   one = λ κs a z z' ws ws' h h'. once h h' (λ y. y.number) (λ y. (y.state, (y.report, tt)));
 }
 
-pub bare-enq-words : Unique bare-enq-words-contract.ended (λ M. bare-enq-words-contract.clauses {M = M})
-bare-enq-words = record {
-  holds = bare-enq-words-reads.Learnt;
+pub bare_enq_words : Unique bare_enq_words-contract.ended (λ M 𝓤. bare_enq_words-contract.clauses {M = M} {𝓤 = 𝓤})
+bare_enq_words = record {
+  holds = bare_enq_words-reads.Learnt;
   says = λ M 𝓤 𝓛 mem run. refl;
   one = λ κs a z z' ws ws' h h'. once h h' (λ y. y.number) (λ y. (y.state, (y.report, tt)));
 }
 
-pub interrupt-words : Unique interrupt-words-contract.ended (λ M. interrupt-words-contract.clauses {M = M})
-interrupt-words = record {
-  holds = interrupt-words-reads.Learnt;
+pub interrupt_words : Unique interrupt_words-contract.ended (λ M 𝓤. interrupt_words-contract.clauses {M = M} {𝓤 = 𝓤})
+interrupt_words = record {
+  holds = interrupt_words-reads.Learnt;
   says = λ M 𝓤 𝓛 mem run. refl;
   one = λ κs a z z' ws ws' h h'. once h h' (λ y. y.number) (λ y. (y.state, (y.report, tt)));
 }
 
-pub block_words : Unique block-words-contract.ended (λ M. block-words-contract.clauses {M = M})
+pub block_words : Unique block_words-contract.ended (λ M 𝓤. block_words-contract.clauses {M = M} {𝓤 = 𝓤})
 block_words = record {
-  holds = block-words-reads.Learnt;
+  holds = block_words-reads.Learnt;
   says = λ M 𝓤 𝓛 mem run. refl;
   one = λ κs a z z' ws ws' h h'. once h h' (λ y. y.number) (λ y. (tt, (tt, (tt, (y.buffer, (y.state, (y.report, tt)))))));
 }
 
-pub precedes : Unique precedes-contract.ended (λ M. precedes-contract.clauses {M = M})
+pub precedes : Unique precedes-contract.ended (λ M 𝓤. precedes-contract.clauses {M = M} {𝓤 = 𝓤})
 precedes = record {
   holds = precedes-reads.Learnt;
   says = λ M 𝓤 𝓛 mem run. refl;
   one = λ κs a z z' ws ws' h h'. (h ∙ sym h', refl);
 }
 
-pub kind-word : Unique kind-word-contract.ended (λ M. kind-word-contract.clauses {M = M})
-kind-word = record {
-  holds = kind-word-reads.Learnt;
+pub kind_word : Unique kind_word-contract.ended (λ M 𝓤. kind_word-contract.clauses {M = M} {𝓤 = 𝓤})
+kind_word = record {
+  holds = kind_word-reads.Learnt;
   says = λ M 𝓤 𝓛 mem run. refl;
   one = λ κs a z z' ws ws' h h'. (h ∙ sym h', refl);
 }
 
-pub is-kind : Unique is-kind-contract.ended (λ M. is-kind-contract.clauses {M = M})
-is-kind = record {
-  holds = is-kind-reads.Learnt;
+pub is_kind : Unique is_kind-contract.ended (λ M 𝓤. is_kind-contract.clauses {M = M} {𝓤 = 𝓤})
+is_kind = record {
+  holds = is_kind-reads.Learnt;
   says = λ M 𝓤 𝓛 mem run. refl;
   one = λ κs a z z' ws ws' h h'. (h ∙ sym h', refl);
 }
 
-pub kind-in : Unique kind-in-contract.ended (λ M. kind-in-contract.clauses {M = M})
-kind-in = record {
-  holds = kind-in-reads.Learnt;
+pub kind_in : Unique kind_in-contract.ended (λ M 𝓤. kind_in-contract.clauses {M = M} {𝓤 = 𝓤})
+kind_in = record {
+  holds = kind_in-reads.Learnt;
   says = λ M 𝓤 𝓛 mem run. refl;
   one = λ κs a z z' ws ws' h h'. (h ∙ sym h', refl);
 }

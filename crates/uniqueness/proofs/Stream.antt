@@ -7,14 +7,14 @@ use Rattle.stream.proofs.Reader.new.Reads as Reader-new-reads
 use Rattle.stream.specs.contracts.read as read-contract
 use Rattle.stream.proofs.read.Reads as read-reads
 
-pub Reader-new : Unique Reader-new-contract.ended (λ M. Reader-new-contract.clauses {M = M})
+pub Reader-new : Unique Reader-new-contract.ended (λ M 𝓤. Reader-new-contract.clauses {M = M} {𝓤 = 𝓤})
 Reader-new = record {
   holds = Reader-new-reads.Learnt;
   says = λ M 𝓤 𝓛 mem run. refl;
   one = λ κs a z z' ws ws' h h'. (h ∙ sym h', refl);
 }
 
-pub read : Unique read-contract.ended (λ M. read-contract.clauses {M = M})
+pub read : Unique read-contract.ended (λ M 𝓤. read-contract.clauses {M = M} {𝓤 = 𝓤})
 read = record {
   holds = read-reads.Learnt;
   says = λ M 𝓤 𝓛 mem run. refl;

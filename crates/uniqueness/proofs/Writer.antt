@@ -5,7 +5,7 @@ use Rattle.uniqueness.proofs.Once.{once}
 use Rattle.writer.specs.contracts.write as write-contract
 use Rattle.writer.proofs.write.Reads as write-reads
 
-pub write : Unique write-contract.ended (λ M. write-contract.clauses {M = M})
+pub write : Unique write-contract.ended (λ M 𝓤. write-contract.clauses {M = M} {𝓤 = 𝓤})
 write = record {
   holds = write-reads.Learnt;
   says = λ M 𝓤 𝓛 mem run. refl;

@@ -39,7 +39,6 @@ pub record UniqueBy (T : Ended) (c : Contract T) (Same : (κs : Lfts T.signature
 abbrev pub Unique : (T : Ended) → Contract T → Type 2
 Unique T c = UniqueBy T c (λ κs z z'. z ≡ z')
 
--- A part of what was lent, handed back: the same block of memory, the same offset in it, and the same bytes, so as many. A reference's value has besides these a ghost name, by which proofs follow its bytes and which is new for each part.
--- Nothing is said of it, and a machine has none: its value of a reference is the pointer and the length (`same-machine-value` in proofs/Once.antt).
+-- A part of what was lent, handed back: the same block of memory, the same offset in it, and the same bytes, so as many. A shared reference's value is just these, so that the same part is an equal value, and has the same machine value, which is the pointer and the length (`same-part-is-equal`, `same-machine-value` in proofs/Once.antt).
 abbrev pub SamePart : Bor (List ℕ) → Bor (List ℕ) → Type 0
 SamePart r r' = (r.ref_ptr ≡ r'.ref_ptr) × (r.now ≡ r'.now)

@@ -1,6 +1,5 @@
 -- `fields::field_end` meets its contract.
 use mathlib.Core.Path.{refl, sym, ◌∙◌}
-use Prim.Native.Nat.{◌-◌}
 use Rattle.lists.proofs.Search.{pass_one, stop_first, stop_second, stop_end}
 use Rattle.fields.proofs.field_end.Goals as goal
 

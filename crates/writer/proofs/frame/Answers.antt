@@ -1,6 +1,5 @@
 -- frame
 use mathlib.Core.Path.{sym, ap, ◌∙◌}
-use mathlib.Core.Bool.{true}
 use Rattle.block.specs.Format.{hybrid_block, minimal_block, block_of}
 use Rattle.writer.specs.Write.{refused}
 use Rattle.writer.proofs.Laws.{frame_too_short, frame_long, frame_shape, frame_byte, frame_all, block_hybrid, block_minimal, wrote-is, space_hybrid, space_minimal}

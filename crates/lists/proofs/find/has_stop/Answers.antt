@@ -1,6 +1,5 @@
 -- `lists::find::has_stop` meets its contract.
 use mathlib.Core.Path.{sym, ◌∙◌}
-use Prim.Native.Nat.{◌-◌}
 use borrow.Author.Rules.{rules}
 use Rattle.lists.proofs.Search.{any_more, any_none}
 use Rattle.lists.proofs.find.has_stop.Goals as goal

@@ -1,7 +1,6 @@
 -- `messages::answer_message::is_control_id` meets its contract.
 use borrow.Author.Rules.{rules}
 use mathlib.Core.Path.{sym, ◌∙◌}
-use Prim.Native.Nat.{◌-◌}
 use Rattle.lists.proofs.All.{all_more, all_none}
 use Rattle.messages.specs.Internal.{id_byte}
 use Rattle.messages.proofs.Laws.{id_short, id_long, id_free}

@@ -1,7 +1,7 @@
 -- `messages::pieces::put_piece` meets its contract.
 use mathlib.Core.Path.{refl, sym, ap, ◌∙◌}
 use mathlib.Core.List.{List}
-use Prim.Native.Nat.{ℕ, ◌+◌, ◌-◌}
+use Prim.Native.Nat.{ℕ, ◌+◌}
 use native.Mathlib.Omega.{arith}
 use lib.ListN.{set, get_or, length-set}
 use Rattle.lists.proofs.Put.{put_none}

@@ -1,6 +1,5 @@
 -- `numbers::read::are_digits` meets its contract.
 use mathlib.Core.Path.{sym, ◌∙◌}
-use Prim.Native.Nat.{◌-◌}
 use borrow.Author.Rules.{rules}
 use Rattle.numbers.specs.Numbers.{is_digit}
 use Rattle.lists.proofs.All.{all_more, all_none}

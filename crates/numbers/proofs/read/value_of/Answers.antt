@@ -1,7 +1,5 @@
 -- `numbers::read::value_of` meets its contract.
-use mathlib.Core.Bool.{true}
 use mathlib.Core.Path.{refl, sym, ◌∙◌}
-use Prim.Native.Nat.{◌-◌}
 use native.Mathlib.Omega.{arith}
 use lib.ListN.{get_or}
 use Rattle.numbers.proofs.Laws.{digit_least, digit_most, digits_after, value_more, value_none, power_more, power_most}

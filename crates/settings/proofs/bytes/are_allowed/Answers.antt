@@ -1,6 +1,5 @@
 -- `settings::bytes::are_allowed` meets its contract.
 use mathlib.Core.Path.{sym, ◌∙◌}
-use Prim.Native.Nat.{◌-◌}
 use borrow.Author.Rules.{rules}
 use Rattle.lists.proofs.All.{all_more, all_none}
 use Rattle.settings.specs.Settings.{allowed}

@@ -1,7 +1,7 @@
 -- `settings::bytes::checksum` meets its contract.
 use mathlib.Core.List.{List}
 use mathlib.Core.Path.{sym, ap, ◌∙◌}
-use Prim.Native.Nat.{ℕ, ◌-◌}
+use Prim.Native.Nat.{ℕ}
 use borrow.Author.Rules.{rules}
 use Rattle.lists.proofs.Parts.{drop_more, drop_none}
 use Rattle.settings.specs.DataBytes.{xor_from}

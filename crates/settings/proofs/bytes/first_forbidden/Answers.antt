@@ -1,6 +1,5 @@
 -- `settings::bytes::first_forbidden` meets its contract.
 use mathlib.Core.Path.{sym, ◌∙◌}
-use Prim.Native.Nat.{◌-◌}
 use native.Mathlib.Omega.{arith}
 use borrow.Author.Rules.{rules}
 use Rattle.settings.proofs.DataLaws.{forbidden_here, forbidden_later, forbidden_none}
