@@ -3,8 +3,9 @@
 #ifndef FAULTS_H
 #define FAULTS_H
 
-/* planted.ll: a sum that is promised not to wrap. */
+/* planted.ll: a sum that is promised not to wrap, and a flag that is promised to be 0 or 1. */
 uint64_t planted_sum(uint64_t number);
+uint64_t planted_flag(const uint8_t *flag);
 
 static int is_planted(const char *fault)
 {
@@ -103,6 +104,8 @@ static uint64_t invoke_library(call *c)
         return read_one_byte_more(c);
     if (c->function == call_station_block && is_planted("promise"))
         planted_sum(c->number);
+    if (c->function == call_station_block && is_planted("flag"))
+        planted_flag(&(const uint8_t){c->number == UINT64_MAX ? 2 : 1});
     number = family_of(c->function) == STATION ? invoke_station_library(c) : invoke(c);
     if (c->function == call_hybrid_read && is_planted("read"))
         break_read(c, phase, number);
