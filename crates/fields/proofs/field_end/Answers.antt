@@ -1,5 +1,6 @@
 -- `fields::field_end` meets its contract.
 use mathlib.Core.Path.{refl, sym, ◌∙◌}
+use borrow.Author.Rules.{rules}
 use Rattle.lists.proofs.Search.{pass_one, stop_first, stop_second, stop_end}
 use Rattle.fields.proofs.field_end.Goals as goal
 
@@ -22,8 +23,7 @@ returns-then-x-eq13 c =
 
 pub loop-i-preserved : goal.loop-i-preserved
 loop-i-preserved c =
-    pass_one c.args.separator 0x0D c.args.message.now c.loop-i.i c.loop-i-test.true
-    c.if-x-separator.false c.if-x-eq13.false
+    pass_one c.args.separator 0x0D c.args.message.now c.loop-i.i c.loop-i-test.true (search rules) (search rules)
     ∙ c.loop-i.invariant
 
 pub returns : goal.returns

@@ -24,7 +24,7 @@ narrow-init c = c.wide.invariant
 pub narrow-preserved : goal.narrow-preserved
 narrow-preserved c =
     let a = c.args in
-    (search rules, pass_one a.start_block a.end_block a.part.now c.narrow.i (search rules) c.if-x-start_block.false c.if-x-end_block.false ∙ c.narrow.invariant.1)
+    (search rules, pass_one a.start_block a.end_block a.part.now c.narrow.i (search rules) (search rules) (search rules) ∙ c.narrow.invariant.1)
 
 pub returns-then-i-part : goal.returns-then-i-part
 returns-then-i-part c =

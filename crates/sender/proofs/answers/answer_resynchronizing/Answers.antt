@@ -1,5 +1,6 @@
 -- `sender::answers::answer_resynchronizing` meets its contract.
 use borrow.Enum.Refused.{opened}
+use borrow.Author.Rules.{rules}
 use mathlib.Core.Path.{sym, ◌∙◌}
 use Rattle.sender.proofs.Laws.{no_resynchronization}
 use Rattle.sender.proofs.answers.answer_resynchronizing.Goals as goal
@@ -19,4 +20,4 @@ pub returns-in_default-number : goal.returns-in_default-number
 returns-in_default-number c = c.freeze-in_default-number.ensures ∙ sym (rw (c.in-AA.is, c.in_default-number.is))
 
 pub returns : goal.returns
-returns c = c.proceed.ensures ∙ sym (rw (c.in-AA.is, c.in-MinusOne.is))
+returns c = rw (c.in-AA.is, c.in-MinusOne.is) (search rules)
