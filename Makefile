@@ -32,7 +32,7 @@ setup:
 
 # Proves every crate.
 prove: tools
-	rt all check
+	cd crates && rt all check
 
 # The archive, and target/bin/blocklist beside it.
 $(archive): $(proved_sources) | tools

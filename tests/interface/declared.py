@@ -51,7 +51,7 @@ def lines_of(crate):
 
 def functions_of(crate):
     """(type or '', name) of each public function."""
-    declared = [(owner, re.match(r"(?:# \[ .*? \] )*pub fn (\w+) ", line)) for owner, line in lines_of(crate)]
+    declared = [(owner, re.match(r'(?:# \[ .*? \] )*pub (?:extern "C" )?fn (\w+) ', line)) for owner, line in lines_of(crate)]
     return [(owner, found.group(1)) for owner, found in declared if found]
 
 

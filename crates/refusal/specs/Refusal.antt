@@ -5,7 +5,7 @@ use Rattle.refusal.specs.declared.Verdict.TheVariants.{Accepted, Refused}
 use Rattle.refusal.specs.declared.Written.{Written}
 use Rattle.refusal.specs.declared.Written.TheVariants.{Done, Refused as NotWritten}
 
--- the table; ROOM is TOO-SHORT and CUT is INTERRUPTED here and in C
+-- the table; ROOM is TOO_SHORT and CUT is INTERRUPTED here and in C
 abbrev pub SETTING : ℕ
 SETTING = 1
 
