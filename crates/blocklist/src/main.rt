@@ -7,7 +7,7 @@ use refusal::Verdict;
 use settings::{Made, Settings};
 use std::env::FillError;
 use std::io;
-use std::io::{BufWriter, ErrorKind, Read, Write};
+use std::io::{ErrorKind, Read, Write};
 use std::rt::Env;
 use stream::{Answer, Reader};
 
@@ -53,7 +53,7 @@ fn list_part(
     Ok(reader)
 }
 
-// Reads some of the input and prints its lines, before more is waited for. None at the end of the input.
+// Reads some of the input and prints its lines. None at the end of the input.
 fn list_some(
     input: &mut impl Read,
     output: &mut impl Write,
@@ -70,7 +70,6 @@ fn list_some(
         return Ok(None);
     }
     let next = list_part(output, settings, reader, &part[..length], buffer)?;
-    output.flush()?;
     Ok(Some(next))
 }
 
@@ -122,6 +121,10 @@ fn main(rt: HostRuntime) -> io::Result<()> {
         return Ok(());
     };
     let mut buffer = [0u8; BUFFER_LENGTH];
-    let mut output = BufWriter::new(rt.alloc(), io::writer(&rt))?;
-    list_all(&mut rt.reader(), &mut output, settings, &mut buffer)
+    list_all(
+        &mut rt.reader(),
+        &mut io::writer(&rt),
+        settings,
+        &mut buffer,
+    )
 }
