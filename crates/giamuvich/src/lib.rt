@@ -1,5 +1,5 @@
-// The C functions (include/giamuvich.h): plain numbers, byte slices and words that the driver lends. Each makes the settings
-// where it has any, and calls the function of the same act in the crate of its layer or of its calls.
+// The C functions (include/giamuvich.h), which giamuvich_c exports: plain numbers, byte slices and words that the driver lends.
+// Each makes the settings where it has any, and calls the function of the same act in the crate of its layer or of its calls.
 
 #![tactic(auto)]
 

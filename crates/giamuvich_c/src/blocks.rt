@@ -1,4 +1,4 @@
-// Blocks: reading a stream in parts, checking one whole block, writing one: for C.
+// The exports of giamuvich's functions in blocks.rt.
 ghost use Rattle.block_calls.specs.CheckCalls.{check_call};
 ghost use Rattle.block_calls.specs.ReadCalls.{fresh_reader_call, read_call};
 ghost use Rattle.block_calls.specs.WriteCalls.{write_call, minimal_write_call};

@@ -1,4 +1,4 @@
-// The sender's control blocks: for C.
+// The exports of giamuvich's functions in control.rt.
 ghost use Rattle.std.specs.Prelude.{◌≡◌, []};
 ghost use Rattle.lists.specs.Outcome.{called};
 ghost use Rattle.settings.specs.Settings.{hybrid_link, minimal_link};

@@ -1,4 +1,4 @@
-// The fields of a message, one after the other: for C.
+// The exports of giamuvich's functions in field_acts.rt.
 ghost use Rattle.std.specs.Prelude.{◌≡◌, []};
 ghost use Rattle.lists.specs.Outcome.{called};
 ghost use Rattle.message_calls.specs.FieldCalls.{next_call};

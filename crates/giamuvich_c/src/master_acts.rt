@@ -1,4 +1,4 @@
-// The X3.28 sending station, the master: for C.
+// The exports of giamuvich's functions in master_acts.rt.
 ghost use Rattle.std.specs.Prelude.{◌≡◌, []};
 ghost use Rattle.lists.specs.Outcome.{called};
 ghost use Rattle.master.specs.MasterCalls.{fresh_master_call, open_master_call, start_call, master_reply_call, timer_a_call, close_call, enquire_call, may_receive_call};

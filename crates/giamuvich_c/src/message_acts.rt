@@ -1,4 +1,4 @@
-// Headers, answers and control messages: for C.
+// The exports of giamuvich's functions in message_acts.rt.
 ghost use Rattle.std.specs.Prelude.{◌≡◌, []};
 ghost use Rattle.lists.specs.Outcome.{called};
 ghost use Rattle.message_calls.specs.MessageCalls.{header_call, answer_call, answer_write_call, control_write_call};

@@ -1,4 +1,4 @@
-// The sender's acts: for C.
+// The exports of giamuvich's functions in sender_acts.rt.
 ghost use Rattle.std.specs.Prelude.{◌≡◌, []};
 ghost use Rattle.lists.specs.Outcome.{called};
 ghost use Rattle.sender_calls.specs.SenderCalls.{fresh_call, open_call, ended_call, reset_call, timer_call, block_call, submit_call};

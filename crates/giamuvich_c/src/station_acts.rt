@@ -1,4 +1,4 @@
-// The X3.28 receiving station: for C.
+// The exports of giamuvich's functions in station_acts.rt.
 ghost use Rattle.std.specs.Prelude.{◌≡◌, []};
 ghost use Rattle.lists.specs.Outcome.{called};
 ghost use Rattle.station.specs.StationCalls.{fresh_station_call, open_station_call, bad_block_call, eot_call, good_block_call, bare_enq_call, interrupt_call};

@@ -1,4 +1,4 @@
-// The version of the library. CONTRIBUTING.md says what else has it: for C.
+// The exports of giamuvich's functions in version.rt.
 ghost use Rattle.std.specs.Prelude.{◌≡◌};
 ghost use Rattle.giamuvich.specs.Version.{version_of};
 
