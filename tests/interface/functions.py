@@ -16,19 +16,22 @@ HEAD = """# Functions and edits
 Written by `tests/documents --write`; the gate compares. {functions} public functions, {exported} of them C functions;
 {edits} must-fail edits.
 
-No function has a `requires`. The contract of each is an equation: its result, and what the lent memory named here holds after
-the call, is what the cited definition gives for the inputs and the memory before. So a contract allows one result and one
-content; theorem T-52 of [THEOREMS.md](THEOREMS.md) says it of each function. Of a part that is handed back the address is fixed
-as the bytes are (DECISIONS.md K-1). `settings.valid` is the definition `valid` in crates/settings/specs; without a name before it
-a definition is of the function's own crate. The C functions are the exports of giamuvich_c; for each, giamuvich has a function
-of the same name and contract, which is not listed again.
+No function has a `requires`. A contract is an equation: the result, and what the lent memory named here holds after the call,
+is what the cited definition gives for the inputs and the memory before. Where a call answers `Result<(), Refusal>` it has two:
+of its number and what it leaves, and that the answer says no more. So a contract allows one result and one content, of a part
+that is handed back its address too (T-52 of [THEOREMS.md](THEOREMS.md)).
+`settings.valid` is `valid` in crates/settings/specs; without a name before it a definition is of the function's own crate. Of
+each C function giamuvich has one of the same name and contract, which is not listed again.
 """
+
+# A call's contract: what it answers as a number and leaves, and that its answer says no more than the number.
+ANSWERED = re.compile(r"\((called \(number_of result\) .*)\) × \(result ≡ answer_by \(number_of result\)\)")
 
 EDITS = """
 ## Must-fail edits
 
-Each edit makes a wrong version of one file, and the prover must refuse it. DECISIONS.md K-4 says which there are. An edit in
-specs or proofs changes what a theorem or a contract says, one in src what the code does.
+Each edit makes a wrong version of one file, which the prover must refuse (DECISIONS.md K-4). One in specs or proofs (.antt) changes
+what a theorem or a contract says, one in src (.rt) what the code does.
 
 | Edit | Of | What is true, or what the wrong version does |
 |---|---|---|
@@ -43,9 +46,15 @@ def imports_of(text):
     return found
 
 
+def call_of(formula):
+    """Of a call's contract, the equation of its number and what it leaves; of another, the whole."""
+    call = ANSWERED.fullmatch(formula)
+    return call.group(1) if call else formula
+
+
 def cited_in(formula, text):
-    """The definitions that the equations of a contract cite."""
-    return list(dict.fromkeys(name for equation in formula.split(" × ") for name in cited_by(equation, text)))
+    """The definitions that the equations of a contract cite; that a call's answer says no more than its number cites none."""
+    return list(dict.fromkeys(name for equation in call_of(formula).split(" × ") for name in cited_by(equation, text)))
 
 
 def cited_by(equation, text):
@@ -107,7 +116,7 @@ def rows_by_crate(functions):
     """Each row with its crate before it, which is said once."""
     crates = [function.crate for function in functions]
     firsts = [crate if crate not in crates[:index] else "" for index, crate in enumerate(crates)]
-    return [f"| {crate} {row(function)}" for crate, function in zip(firsts, functions)]
+    return [f"| {crate} {row(function)}".replace("|  |", "| |", 1) for crate, function in zip(firsts, functions)]
 
 
 def edit_rows():
@@ -116,7 +125,7 @@ def edit_rows():
         for file in sorted((ROOT / "crates" / crate / "must-fail").glob("*.edit")):
             lines = file.read_text().splitlines()
             said = " ".join(line.lstrip("# ") for line in lines if line.startswith("#"))
-            changed = ", ".join(line.partition(": ")[2] for line in lines if line.startswith("file: "))
+            changed = ", ".join(line.partition(": ")[2].rpartition(".")[0] for line in lines if line.startswith("file: "))
             rows.append(f"| {crate}/{file.stem} | {changed} | {said} |")
     return rows
 
@@ -126,7 +135,7 @@ def page():
     exports = [function for function in listed if function.exported]
     names = {function.name for function in exports}
     others = [function for function in listed if not function.exported and function.name not in names]
-    columns = "| Function | Definition that its contract cites | Lent memory that it fixes |\n|---|---|---|\n"
+    columns = "| Function | Definition that it cites | Lent memory |\n|---|---|---|\n"
     of_crates = "| Crate " + columns.replace("\n|", "\n|---|", 1)
     return (
         HEAD.format(functions=len(exports) + len(others), exported=len(exports), edits=len(edits))

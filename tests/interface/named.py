@@ -51,7 +51,7 @@ def function_faults(functions):
         text = document(page)
         for crate, name in sorted(set(re.findall(r"`([a-z_]+)::(?:\w+::)?(\w+)`", text))):
             sources = text_of(f"crates/{crate}/src/*.rt")
-            if not re.search(rf'\bpub (?:extern "C" )?(?:fn|struct|enum|const) {name}\b', sources):
+            if not re.search(rf'\bpub (?:extern "C" )?(?:fn|struct|enum|type|const) {name}\b', sources):
                 others = "".join(f"; {function.crate} has it" for function in functions if function.name == name)
                 yield f"docs/{page}.md: crates/{crate}/src has no public {name}{others}"
         for name in sorted(set(re.findall(r"`(gmv_[a-z_*]+)", text))):

@@ -1,86 +1,64 @@
 -- The verdict on the bytes of a block, by its fields.
-use mathlib.Core.Path.{◌≡◌, refl}
-use mathlib.Core.List.{List, [], ◌∷◌}
-use mathlib.Core.Bool.{true, false, ◌&&◌, ◌||◌, and_assoc, and-true}
-use Prim.Native.Nat.{ℕ, ◌≤◌, ◌-◌}
-use Prim.Native.Char.{code}
+use Rattle.refusal.specs.Refusal.{SHAPE, accepted_as, refused_by}
+use mathlib.Core.Path.{◌≡◌, sym, ap, ◌∙◌}
+use mathlib.Core.List.{List}
+use mathlib.Core.Bool.{true, false}
+use Prim.Native.Nat.{ℕ, ◌≤◌, ◌<◌, ◌+◌, ◌-◌}
 use native.Mathlib.Omega.{arith}
 use lib.ListN.{length, take, drop, get_or, length-drop}
-use lib.Seq.{take_all}
+use lib.Seq.{take_all, length-take-le}
+use Rattle.std.proofs.lemmas.List.{take-take, drop-take}
 use lib.Dec.{eqb}
-use borrow.Author.Tests.{le-leb}
-use Rattle.settings.specs.DataBytes.{all_allowed, first_forbidden}
+use Rattle.std.specs.List.{starts_with}
+use Rattle.std.proofs.lemmas.Cmp.{nat_list_eq_equiv}
+use borrow.Author.Tests.{le-leb, lt-leb}
+use Rattle.settings.specs.DataBytes.{all_allowed}
 use Rattle.block.specs.Format.{count_field, version}
 use Rattle.lists.specs.Bytes.{same}
-use Rattle.block.specs.Judge.{is_reason, type_matches, checksum_matches, judge_parts, judge_hybrid, header_ok, data_of}
-use Rattle.refusal.specs.declared.Verdict.TheVariants.{Accepted, Refused}
+use Rattle.lists.proofs.Same.{same-pointwise}
+use Rattle.block.specs.Judge.{type_matches, checksum_matches, judge_parts, judge_hybrid, header_ok, data_of}
 
--- fields of three and of five bytes, compared byte by byte
-pub three_same : (s : List ℕ) (a b c : ℕ) → length s ≡ 3
-    → (eqb (get_or s 0 0) a && (eqb (get_or s 1 0) b && eqb (get_or s 2 0) c)) ≡ same s (a ∷ b ∷ c ∷ [])
-unfolding same
-three_same [] a b c e = absurd (omega arith)
-three_same (x ∷ []) a b c e = absurd (omega arith)
-three_same (x ∷ y ∷ []) a b c e = absurd (omega arith)
-three_same (x ∷ y ∷ z ∷ []) a b c e = rw and-true
-three_same (x ∷ y ∷ z ∷ w ∷ r) a b c e = absurd (omega arith)
-
-pub five_same : (s : List ℕ) (a b c d e : ℕ) → length s ≡ 5
-    → ((eqb (get_or s 0 0) a && eqb (get_or s 1 0) b) && (eqb (get_or s 2 0) c && (eqb (get_or s 3 0) d && eqb (get_or s 4 0) e)))
-    ≡ same s (a ∷ b ∷ c ∷ d ∷ e ∷ [])
-unfolding same
-five_same [] a b c d e h = absurd (omega arith)
-five_same (x ∷ []) a b c d e h = absurd (omega arith)
-five_same (x ∷ y ∷ []) a b c d e h = absurd (omega arith)
-five_same (x ∷ y ∷ z ∷ []) a b c d e h = absurd (omega arith)
-five_same (x ∷ y ∷ z ∷ w ∷ []) a b c d e h = absurd (omega arith)
-five_same (x ∷ y ∷ z ∷ w ∷ v ∷ []) a b c d e h = simp (and_assoc, and-true)
-five_same (x ∷ y ∷ z ∷ w ∷ v ∷ u ∷ r) a b c d e h = absurd (omega arith)
-
-pub reason_one : (s : List ℕ) → length s ≡ 1
-    → (eqb (get_or s 0 0) (code "C") || eqb (get_or s 0 0) (code "X") || eqb (get_or s 0 0) (code "B") || eqb (get_or s 0 0) (code "G")) ≡ is_reason s
-reason_one [] e = absurd (omega arith)
-reason_one (x ∷ []) e = refl
-reason_one (x ∷ y ∷ r) e = absurd (omega arith)
-
-pub reason_other : (s : List ℕ) → (length s ≡ 1 → ⊥) → false ≡ is_reason s
-reason_other [] h = refl
-reason_other (x ∷ []) h = absurd (h refl)
-reason_other (x ∷ y ∷ r) h = refl
-
--- the verdict on the fields, by the first test that fails
+-- the verdict on fields that pass all tests
 module _ (sb t : ℕ) (d ccccc xxx : List ℕ) where
-  pub parts_shape : type_matches t d ≡ false → (Refused 5 0) ≡ judge_parts sb t d ccccc xxx
-  unfolding judge_parts
-  parts_shape e = rw e
-
-  pub parts_byte : type_matches t d ≡ true → all_allowed d ≡ false → Refused 3 (first_forbidden d) ≡ judge_parts sb t d ccccc xxx
-  unfolding judge_parts
-  parts_byte e f = rw (e, f)
-
-  pub parts_count : type_matches t d ≡ true → all_allowed d ≡ true → same ccccc (count_field d) ≡ false → (Refused 6 0) ≡ judge_parts sb t d ccccc xxx
-  unfolding judge_parts
-  parts_count e f g = rw (e, f, g)
-
-  pub parts_check : type_matches t d ≡ true → all_allowed d ≡ true → same ccccc (count_field d) ≡ true
-      → checksum_matches sb t d xxx ≡ false → (Refused 7 0) ≡ judge_parts sb t d ccccc xxx
-  unfolding judge_parts
-  parts_check e f g h = rw (e, f, g, h)
-
   pub parts_accepted : type_matches t d ≡ true → all_allowed d ≡ true → same ccccc (count_field d) ≡ true
-      → checksum_matches sb t d xxx ≡ true → Accepted t (length d) ≡ judge_parts sb t d ccccc xxx
+      → checksum_matches sb t d xxx ≡ true → accepted_as t (length d) ≡ judge_parts sb t d ccccc xxx
   unfolding judge_parts
   parts_accepted e f g h = rw (e, f, g, h)
 
--- the fields of a body that is long enough, by the places at which the code finds them
-pub hybrid_parts : (sb : ℕ) (body : List ℕ) → 12 ≤ length body → same (take 3 (drop 1 body)) version ≡ true
-    → judge_parts sb (get_or body 0 0) (take (length body - 8 - 4) (drop 4 body))
-    (take (length body - 3 - (length body - 8)) (drop (length body - 8) body))
-    (take (length body - (length body - 3)) (drop (length body - 3) body))
-    ≡ judge_hybrid sb body
+-- a body that is too short, and one with another version, as the code looks at it
+pub hybrid_short : (sb : ℕ) (body : List ℕ) → length body < 12 → refused_by SHAPE 0 ≡ judge_hybrid sb body
+unfolding judge_hybrid header_ok
+hybrid_short sb body h = rw (lt-leb 12 (length body) h)
+
+version_at : (body : List ℕ) → 12 ≤ length body → starts_with eqb (take (length body - 1) (drop 1 body)) version ≡ same (take 3 (drop 1 body)) version
+unfolding same
+version_at body h =
+    let all : take (length body - 1) (drop 1 body) ≡ drop 1 body = take_all (length body - 1) (drop 1 body) (simp length-drop (omega arith)) in
+    rw all (nat_list_eq_equiv.symm version (take 3 (drop 1 body)) ∙ sym (same-pointwise (take 3 (drop 1 body)) version))
+
+pub hybrid_other : (sb : ℕ) (body : List ℕ) → 12 ≤ length body → starts_with eqb (take (length body - 1) (drop 1 body)) version ≡ false → refused_by SHAPE 0 ≡ judge_hybrid sb body
+unfolding judge_hybrid header_ok
+hybrid_other sb body h e = rw (le-leb 12 (length body) h, sym (version_at body h) ∙ e)
+
+-- the fields of a body that is long enough, as they are split off from its end
+pub hybrid_parts : (sb : ℕ) (body before_sum before_count s count sum : List ℕ) → 12 ≤ length body
+    → starts_with eqb (take (length body - 1) (drop 1 body)) version ≡ true
+    → before_sum ≡ take (length body - 3) body → sum ≡ drop (length body - 3) body
+    → before_count ≡ take (length before_sum - 5) before_sum → count ≡ drop (length before_sum - 5) before_sum
+    → s ≡ take (length before_count - 4) (drop 4 before_count)
+    → judge_parts sb (get_or body 0 0) s count sum ≡ judge_hybrid sb body
 unfolding judge_hybrid header_ok data_of
-hybrid_parts sb body h v =
-    let e : length body - 8 - 4 ≡ length body - 12 = omega arith in
-    let f : length body - 3 - (length body - 8) ≡ 5 = omega arith in
-    let g : length (drop (length body - 3) body) ≤ length body - (length body - 3) = simp length-drop (omega arith) in
-    rw (e, f, take_all _ _ g, le-leb 12 (length body) h, v)
+hybrid_parts sb body before_sum before_count s count sum h v p q p' q' e =
+    let n : length before_sum ≡ length body - 3 = ap length p ∙ length-take-le (length body - 3) body (omega arith) in
+    let five : length body - 3 - 5 ≡ length body - 8 = omega arith in
+    let back : length body - 8 + 5 ≡ length body - 3 = omega arith in
+    let c : count ≡ take 5 (drop (length body - 8) body) = q' ∙ rw (n, five, p) (rw back at (drop-take (length body - 8) 5 body)) in
+    let b : before_count ≡ take (length body - 8) body = p' ∙ rw (n, five, p) (take-take (length body - 8) (length body - 3) body (omega arith)) in
+    let m : length before_count - 4 ≡ length body - 12 = omega (arith, ap length b ∙ length-take-le (length body - 8) body (omega arith)) in
+    let four : 4 + (length body - 12) ≡ length body - 8 = omega arith in
+    let i : drop 4 (take (length body - 8) body) ≡ take (length body - 12) (drop 4 body) = rw four at (drop-take 4 (length body - 12) body) in
+    let d : s ≡ take (length body - 12) (drop 4 body) = e ∙ rw (m, b, i) (take-take (length body - 12) (length body - 12) (drop 4 body) (omega arith)) in
+    rw (le-leb 12 (length body) h, sym (version_at body h) ∙ v, c, d, q)
+
+-- as `==` of two slices says it
+pub ruleset compared = (same-pointwise)

@@ -1,34 +1,33 @@
 // The verdict on the bytes between SB and EB of a block that fits and has its CR after EB.
-ghost use Rattle.std.specs.Prelude.{◌≡◌, length};
+ghost use Rattle.std.specs.Prelude.{◌≡◌};
 ghost use Rattle.block.specs.Format.{checksum_of};
 ghost use Rattle.block.specs.Judge.{is_reason, type_matches, checksum_matches, judge_parts, judge_hybrid, judge_minimal, judge};
 
-use crate::digits::{is_five_digits, is_three, is_three_digits};
-use refusal::Verdict;
+use crate::digits::{five_digits, three_digits};
+use refusal::{Accepted, Refusal, Verdict};
 use settings::{Kind, Settings, are_allowed, checksum, first_forbidden};
 
 // Whether data is one byte that gives a NAK block's reason: C, X, B or G.
 pub(crate) fn is_reason(s: &[u8]) -> bool
     ensures { result ≡ is_reason s.now }
 {
-    if s.len() != 1 {
-        return false;
-    }
-    let x = s[0];
-    (x == b'C') | (x == b'X') | (x == b'B') | (x == b'G')
+    matches!(s, [b'C' | b'X' | b'B' | b'G'])
 }
 
 // Whether t is D, or N with a reason for its data.
+#[tactic(auto, unfolding(crate::specs::Judge::type_matches))]
 pub fn type_matches(t: u8, s: &[u8]) -> bool
     ensures { result ≡ type_matches t s.now }
 {
-    if t == b'D' {
-        return true;
+    match t {
+        b'D' => true,
+        b'N' => is_reason(s),
+        _ => false,
     }
-    if t == b'N' { is_reason(s) } else { false }
 }
 
 // The checksum of a hybrid block, from SB to its last data byte.
+#[tactic(auto, unfolding(crate::specs::Format::checksum_of))]
 pub fn block_checksum(start_block: u8, t: u8, s: &[u8]) -> u8
     ensures { result ≡ checksum_of start_block t s.now }
 {
@@ -36,72 +35,77 @@ pub fn block_checksum(start_block: u8, t: u8, s: &[u8]) -> u8
 }
 
 // Whether the field xxx is 999 or the checksum.
-fn checksum_matches(start_block: u8, t: u8, s: &[u8], field: &[u8]) -> bool
-    requires { length field.now ≡ 3 }
+#[tactic(auto, using(crate::proofs::Laws::compared), unfolding(crate::specs::Judge::checksum_matches))]
+fn checksum_matches(start_block: u8, t: u8, s: &[u8], field: &[u8; 3]) -> bool
     ensures { result ≡ checksum_matches start_block t s.now field.now }
 {
     let sum = block_checksum(start_block, t, s);
-    is_three(field, b'9', b'9', b'9') | is_three_digits(field, sum as usize)
+    field == b"999" || *field == three_digits(usize::from(sum))
 }
 
 // The fields t, data, ccccc and xxx, in the order 5, 3, 6, 7.
-fn judge_parts(start_block: u8, t: u8, s: &[u8], count: &[u8], sum: &[u8]) -> Verdict
-    requires count_len { length count.now ≡ 5 }
-    requires sum_len { length sum.now ≡ 3 }
+#[tactic(auto, using(crate::proofs::Laws::compared), unfolding(crate::specs::Judge::judge_parts, crate::specs::Format::count_field))]
+fn judge_parts(start_block: u8, t: u8, s: &[u8], count: &[u8; 5], sum: &[u8; 3]) -> Verdict
     ensures { result ≡ judge_parts start_block t s.now count.now sum.now }
 {
     if !type_matches(t, s) {
-        return Verdict::Refused(refusal::SHAPE, 0);
+        return Err(Refusal::SHAPE);
     }
     if !are_allowed(s) {
-        return Verdict::Refused(refusal::BYTE, first_forbidden(s));
+        return Err(Refusal::forbidden(first_forbidden(s)));
     }
-    if !is_five_digits(count, 5 + s.len()) {
-        return Verdict::Refused(refusal::COUNT, 0);
+    if *count != five_digits(5 + s.len()) {
+        return Err(Refusal::COUNT);
     }
     if !checksum_matches(start_block, t, s, sum) {
-        return Verdict::Refused(refusal::CHECK, 0);
+        return Err(Refusal::CHECK);
     }
-    Verdict::Accepted(t, s.len())
+    Ok(Accepted {
+        block_type: t,
+        data_length: s.len(),
+    })
 }
 
+#[tactic(auto, using(crate::proofs::Laws::hybrid_short, crate::proofs::Laws::hybrid_other, crate::proofs::Laws::hybrid_parts))]
 fn judge_hybrid(start_block: u8, body: &[u8]) -> Verdict
     ensures { result ≡ judge_hybrid start_block body.now }
 {
     if body.len() < 12 {
-        return Verdict::Refused(refusal::SHAPE, 0);
+        return Err(Refusal::SHAPE);
     }
-    if !is_three(&body[1..4], b'2', b'3', b'\r') {
-        return Verdict::Refused(refusal::SHAPE, 0);
+    if !body[1..].starts_with(b"23\r") {
+        return Err(Refusal::SHAPE);
     }
-    let count = body.len() - 8;
-    let sum = body.len() - 3;
-    judge_parts(
-        start_block,
-        body[0],
-        &body[4..count],
-        &body[count..sum],
-        &body[sum..],
-    )
+    let Some((before_sum, sum)) = body.split_last_chunk::<3>() else {
+        unreachable!();
+    };
+    let Some((before_count, count)) = before_sum.split_last_chunk::<5>() else {
+        unreachable!();
+    };
+    judge_parts(start_block, body[0], &before_count[4..], count, sum)
 }
 
+#[tactic(auto, unfolding(crate::specs::Judge::judge_minimal))]
 fn judge_minimal(body: &[u8]) -> Verdict
     ensures { result ≡ judge_minimal body.now }
 {
     if are_allowed(body) {
-        Verdict::Accepted(b'D', body.len())
+        Ok(Accepted {
+            block_type: b'D',
+            data_length: body.len(),
+        })
     } else {
-        Verdict::Refused(refusal::BYTE, first_forbidden(body))
+        Err(Refusal::forbidden(first_forbidden(body)))
     }
 }
 
 // The verdict on a block of either kind that fits in the reader's buffer. Callers test that first (number 4); the settings
 // are theirs to check too (number 1).
+#[tactic(auto, unfolding(crate::specs::Judge::judge))]
 pub fn judge_block(settings: Settings, body: &[u8]) -> Verdict
     ensures { result ≡ judge settings body.now }
 {
-    let kind = settings.kind;
-    match kind {
+    match settings.kind {
         Kind::Hybrid => judge_hybrid(settings.start_block, body),
         Kind::Minimal => judge_minimal(body),
     }

@@ -6,5 +6,6 @@ mod buffer;
 mod digits;
 mod judge;
 
-pub use buffer::{block_content, buffer_fits, is_long};
+pub use buffer::{block_content, buffer_fits, inner_frame, is_long};
+pub use digits::{five_digits, three_digits};
 pub use judge::{block_checksum, judge_block, type_matches};

@@ -12,12 +12,4 @@ mod write;
 pub use check::check_words;
 pub use fresh::fresh_words;
 pub use read::read_words;
-use stream::Reader;
 pub use write::write_words;
-
-// What a reader's words encode.
-#[derive(Clone, Copy)]
-pub enum Decoded {
-    Unknown,
-    Known(Reader),
-}

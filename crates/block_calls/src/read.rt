@@ -1,92 +1,73 @@
 // Reading a part of a stream.
 ghost use Rattle.std.specs.Prelude.{◌≡◌, [], ◌≤◌, length};
 ghost use Rattle.lists.specs.Outcome.{called};
-ghost use Rattle.block_calls.specs.ReaderWords.{decoded};
-ghost use Rattle.block_calls.specs.Internal.{unknown_refusal, read_known};
+ghost use Rattle.refusal.specs.Refusal.{number_of, answer_by};
+ghost use Rattle.block_calls.specs.Internal.{unknown_refusal};
 ghost use Rattle.block_calls.specs.ReadCalls.{read_answered, read_call};
 
-use crate::Decoded;
 use crate::reader_words::{read_reader, write_pending, write_reader, write_verdict};
-use settings::{Made, Settings};
-use stream::{Answer, Reading};
+use refusal::Refusal;
+use settings::Settings;
+use stream::Reading;
 use words::refuse_short;
 
 // Writes what a reading gave into the state and the verdict, unless it was refused.
-fn finish(settings: Settings, reading: Reading, state: &mut [u64], verdict: &mut [u64]) -> u64
-    requires in_bounds { 4 ≤ length state.old }
-    requires in_bounds_2 { 8 ≤ length verdict.old }
-    ensures { called result state.new [] verdict.new ≡ read_answered settings state.old verdict.old reading.reader [] reading.used reading.answer }
+fn finish(
+    settings: Settings,
+    reading: Reading,
+    state: &mut [u64],
+    verdict: &mut [u64],
+) -> Result<(), Refusal>
+    requires state_in_bounds { 4 ≤ length state.old }
+    requires verdict_in_bounds { 8 ≤ length verdict.old }
+    ensures { (called (number_of result) state.new [] verdict.new ≡ read_answered settings state.old verdict.old reading.reader [] reading.used reading.answer) × (result ≡ answer_by (number_of result)) }
 {
-    let answer = reading.answer;
-    let reader = reading.reader;
-    match answer {
-        Answer::Refused(number) => number,
-        Answer::Pending => {
-            write_reader(state, reader);
-            write_pending(verdict, reading.used);
-            0
-        }
-        Answer::Found(start, block_verdict) => {
-            write_reader(state, reader);
-            write_verdict(
-                verdict,
-                start,
-                block_verdict,
-                settings.data_offset(),
-                reading.used,
-            );
-            0
-        }
+    let ended = match reading.answer {
+        Ok(ended) => ended,
+        Err(refusal) => return refusal::answered(refusal.number),
+    };
+    write_reader(state, reading.reader);
+    match ended {
+        None => write_pending(verdict, reading.used),
+        Some(found) => write_verdict(
+            verdict,
+            found.block_offset,
+            found.verdict,
+            settings.data_offset(),
+            reading.used,
+        ),
     }
+    Ok(())
 }
 
 // Words that encode no reader: 11, where neither 1 nor 2 comes first. Where they encode one, `stream::read` looks at both.
-fn refuse_unknown(settings: Settings, buffer: &[u8]) -> u64
-    ensures { result ≡ unknown_refusal settings (length buffer.now) }
+fn refuse_unknown(settings: Settings, buffer: &[u8]) -> Refusal
+    ensures { result ≡ record { number = unknown_refusal settings (length buffer.now); offset = 0 } }
 {
     if !settings.is_valid() {
-        return refusal::SETTING;
+        Refusal::SETTING
+    } else if !block::buffer_fits(settings, buffer) {
+        Refusal::TOO_SHORT
+    } else {
+        Refusal::STATE
     }
-    if block::buffer_fits(settings, buffer) {
-        return refusal::STATE;
-    }
-    refusal::TOO_SHORT
 }
 
-// The state and the verdict have words enough.
-fn read_with(
-    settings: Settings,
+#[tactic(auto, unfolding(crate::specs::ReadCalls::read_call))]
+pub fn read_words(
+    made: Option<Settings>,
     state: &mut [u64],
     part: &[u8],
     buffer: &mut [u8],
     verdict: &mut [u64],
-) -> u64
-    requires in_bounds { 4 ≤ length state.old }
-    requires in_bounds_2 { 8 ≤ length verdict.old }
-    ensures { called result state.new buffer.new verdict.new ≡ read_known settings state.old part.now buffer.old verdict.old (decoded state.old) }
+) -> Result<(), Refusal>
+    ensures { (called (number_of result) state.new buffer.new verdict.new ≡ read_call made state.old part.now buffer.old verdict.old) × (result ≡ answer_by (number_of result)) }
 {
-    let Decoded::Known(reader) = read_reader(state) else {
-        return refuse_unknown(settings, buffer);
-    };
+    let settings = made.ok_or(Refusal::SETTING)?;
+    if state.len() < 4 || verdict.len() < 8 {
+        return Err(refuse_short(settings.is_valid()));
+    }
+    let reader = read_reader(state).ok_or_else(|| refuse_unknown(settings, buffer))?;
     let reading = stream::read(settings, reader, part, buffer);
     finish(settings, reading, state, verdict)
-}
-
-pub fn read_words(
-    made: Made,
-    state: &mut [u64],
-    part: &[u8],
-    buffer: &mut [u8],
-    verdict: &mut [u64],
-) -> u64
-    ensures { called result state.new buffer.new verdict.new ≡ read_call made state.old part.now buffer.old verdict.old }
-{
-    let Made::Valid(settings) = made else {
-        return refusal::SETTING;
-    };
-    let enough = (4 <= state.len()) & (8 <= verdict.len());
-    if !enough {
-        return refuse_short(settings.is_valid());
-    }
-    read_with(settings, state, part, buffer, verdict)
 }

@@ -15,11 +15,10 @@ use Rattle.block.specs.Format.{version, three_digits, count_field, checksum_of, 
 use Rattle.settings.specs.Settings.{by_kind, valid, capacity_of}
 use Rattle.lists.specs.Bytes.{bytes, same}
 use Rattle.block.specs.Judge.{type_matches, header_ok, checksum_matches, judge_parts, data_of, judge_hybrid, judge_minimal, judge}
-use Rattle.refusal.specs.Refusal.{number_of, type_of, length_of}
+use Rattle.refusal.specs.Refusal.{number_of, type_of, length_of, accepted_as, refused_by}
 use Rattle.settings.specs.declared.Kind.{Kind}
 use Rattle.settings.specs.declared.Kind.TheVariants.{Hybrid, Minimal}
 use Rattle.settings.specs.declared.Settings.{Settings}
-use Rattle.refusal.specs.declared.Verdict.TheVariants.{Accepted, Refused}
 use Rattle.stream.specs.Stream.{end_verdict}
 use Rattle.block_theorems.proofs.Bytes.{three_allowed}
 use Rattle.block_theorems.proofs.RoundTrip.{Good, hybrid_good, minimal_good, outcome_fits}
@@ -45,12 +44,12 @@ either_sum sb t d x = go (same x (bytes "999")) (same x (three_digits (checksum_
     go false true e f h = inr (same-is x (three_digits (checksum_of sb t d)) f)
     go false false e f h = absurd (false≢true h)
 
-passed : (sb t : ℕ) (d c x : List ℕ) (u n : ℕ) → judge_parts sb t d c x ≡ Accepted u n → Passed sb t d c x u n
+passed : (sb t : ℕ) (d c x : List ℕ) (u n : ℕ) → judge_parts sb t d c x ≡ accepted_as u n → Passed sb t d c x u n
 unfolding judge_parts
 passed sb t d c x u n = go (type_matches t d) (all_allowed d) (same c (count_field d)) (checksum_matches sb t d x) refl refl refl refl
   where
     go : (p q r s : Bool) → type_matches t d ≡ p → all_allowed d ≡ q → same c (count_field d) ≡ r → checksum_matches sb t d x ≡ s
-        → cond p (cond q (cond r (cond s (Accepted t (length d)) (Refused 7 0)) (Refused 6 0)) (Refused 3 (first_forbidden d))) (Refused 5 0) ≡ Accepted u n
+        → cond p (cond q (cond r (cond s (accepted_as t (length d)) (refused_by 7 0)) (refused_by 6 0)) (refused_by 3 (first_forbidden d))) (refused_by 5 0) ≡ accepted_as u n
         → Passed sb t d c x u n
     go false q r s e₁ e₂ e₃ e₄ h = absurd (omega (arith, ap number_of h))
     go true false r s e₁ e₂ e₃ e₄ h = absurd (omega (arith, ap number_of h))
@@ -112,12 +111,12 @@ rebuilt sb t body d c x u n e h =
     }
 
 -- sound: only a formatted body is accepted, "xxx neither 999 nor the right sum" being refused
-pub judged_sound : (sb : ℕ) (body : List ℕ) (t n : ℕ) → judge_hybrid sb body ≡ Accepted t n → Found sb body t n
+pub judged_sound : (sb : ℕ) (body : List ℕ) (t n : ℕ) → judge_hybrid sb body ≡ accepted_as t n → Found sb body t n
 unfolding judge_hybrid header_ok
 judged_sound sb body t n = go (leb 12 (length body)) (same (take 3 (drop 1 body)) version) refl refl
   where
     go : (p q : Bool) → leb 12 (length body) ≡ p → same (take 3 (drop 1 body)) version ≡ q
-        → cond (cond p q false) (judge_parts sb (get_or body 0 0) (data_of body) (take 5 (drop (length body - 8) body)) (drop (length body - 3) body)) (Refused 5 0) ≡ Accepted t n
+        → cond (cond p q false) (judge_parts sb (get_or body 0 0) (data_of body) (take 5 (drop (length body - 8) body)) (drop (length body - 3) body)) (refused_by 5 0) ≡ accepted_as t n
         → Found sb body t n
     go false q e f h = absurd (omega (arith, ap number_of h))
     go true false e f h = absurd (omega (arith, ap number_of h))
@@ -135,7 +134,7 @@ sum_right sb t d x (inl e) = rw e (sum_passes sb t d)
 sum_right sb t d x (inr e) = ap (checksum_matches sb t d) e ∙ sum_computed sb t d
 
 -- complete: every formatted body is accepted
-pub judged_complete : (sb : ℕ) (body : List ℕ) (t : ℕ) (d : List ℕ) → Formatted sb t d body → judge_hybrid sb body ≡ Accepted t (length d)
+pub judged_complete : (sb : ℕ) (body : List ℕ) (t : ℕ) (d : List ℕ) → Formatted sb t d body → judge_hybrid sb body ≡ accepted_as t (length d)
 judged_complete sb body t d h =
     ap (judge_hybrid sb) h.is
     ∙ judge_body sb t d h.sum (sum-length sb t d h.sum h.either) h.type h.bytes (sum_right sb t d h.sum h.either)
@@ -144,36 +143,36 @@ pub length_formatted : (sb : ℕ) (body : List ℕ) (t : ℕ) (d : List ℕ) →
 length_formatted sb body t d h = ap length h.is ∙ length_body t d h.sum (sum-length sb t d h.sum h.either)
 
 -- ---- blocks of either kind, by the byte after EB
-minimal_sound : (g : Settings) (body : List ℕ) (t n : ℕ) → g.kind ≡ Minimal → length body ≤ g.data_limit → judge_minimal body ≡ Accepted t n → Accepts g body t n
+minimal_sound : (g : Settings) (body : List ℕ) (t n : ℕ) → g.kind ≡ Minimal → length body ≤ g.data_limit → judge_minimal body ≡ accepted_as t n → Accepts g body t n
 unfolding judge_minimal
 minimal_sound g body t n k l = go (all_allowed body) refl
   where
-    go : (p : Bool) → all_allowed body ≡ p → cond p (Accepted 68 (length body)) (Refused 3 (first_forbidden body)) ≡ Accepted t n → Accepts g body t n
+    go : (p : Bool) → all_allowed body ≡ p → cond p (accepted_as 68 (length body)) (refused_by 3 (first_forbidden body)) ≡ accepted_as t n → Accepts g body t n
     go true e h = record { content = body; form = minimal k (sym (ap type_of h)) refl e; fits = l; size = sym (ap length_of h) }
     go false e h = absurd (omega (arith, ap number_of h))
 
 hybrid_sound : (g : Settings) (body : List ℕ) (t n : ℕ) → g.kind ≡ Hybrid → length body ≤ g.data_limit + 12
-    → judge_hybrid g.start_block body ≡ Accepted t n → Accepts g body t n
+    → judge_hybrid g.start_block body ≡ accepted_as t n → Accepts g body t n
 hybrid_sound g body t n k l h =
     let f = judged_sound g.start_block body t n h in
     record { content = f.content; form = hybrid k f.form; fits = omega (arith, length_formatted g.start_block body t f.content f.form); size = f.size }
 
-judge_sound : (g : Settings) (body : List ℕ) (t n : ℕ) → length body ≤ capacity_of g → judge g body ≡ Accepted t n → Accepts g body t n
+judge_sound : (g : Settings) (body : List ℕ) (t n : ℕ) → length body ≤ capacity_of g → judge g body ≡ accepted_as t n → Accepts g body t n
 unfolding judge
 judge_sound g body t n = go g.kind refl
   where
     go : (k : Kind) → g.kind ≡ k → length body ≤ by_kind k (g.data_limit + 12) g.data_limit
-        → by_kind k (judge_hybrid g.start_block body) (judge_minimal body) ≡ Accepted t n → Accepts g body t n
+        → by_kind k (judge_hybrid g.start_block body) (judge_minimal body) ≡ accepted_as t n → Accepts g body t n
     go Hybrid e l h = hybrid_sound g body t n e l h
     go Minimal e l h = minimal_sound g body t n e l h
 
 -- "A block ends at the first EB; its verdict comes with the byte after.": what an accepted block was
-pub outcome_sound : (g : Settings) (body : List ℕ) (x t n : ℕ) → end_verdict g body x ≡ Accepted t n → Closed g body x t n
+pub outcome_sound : (g : Settings) (body : List ℕ) (x t n : ℕ) → end_verdict g body x ≡ accepted_as t n → Closed g body x t n
 unfolding end_verdict
 outcome_sound g body x t n = go (ltb (capacity_of g) (length body)) (eqb x 13) refl refl
   where
     go : (p q : Bool) → ltb (capacity_of g) (length body) ≡ p → eqb x 13 ≡ q
-        → cond p (Refused 4 0) (cond q (judge g body) (Refused 5 0)) ≡ Accepted t n → Closed g body x t n
+        → cond p (refused_by 4 0) (cond q (judge g body) (refused_by 5 0)) ≡ accepted_as t n → Closed g body x t n
     go true q e f h = absurd (omega (arith, ap number_of h))
     go false false e f h = absurd (omega (arith, ap number_of h))
     go false true e f h =
@@ -191,8 +190,8 @@ body_good g t d body v l (hybrid k h) =
 body_good g t d body v l (minimal k e f a) = rw (e, f) (minimal_good g d k v a l)
 
 -- and each such block is accepted
-pub outcome_complete : (g : Settings) (body : List ℕ) (x t n : ℕ) → valid g ≡ true → Closed g body x t n → end_verdict g body x ≡ Accepted t n
+pub outcome_complete : (g : Settings) (body : List ℕ) (x t n : ℕ) → valid g ≡ true → Closed g body x t n → end_verdict g body x ≡ accepted_as t n
 outcome_complete g body x t n v h =
     let a = h.accepts in
     let p = body_good g t a.content body v a.fits a.form in
-    ap (end_verdict g body) h.return ∙ outcome_fits g body (Accepted t (length a.content)) p.fits p.judged ∙ ap (Accepted t) (sym a.size)
+    ap (end_verdict g body) h.return ∙ outcome_fits g body (accepted_as t (length a.content)) p.fits p.judged ∙ ap (accepted_as t) (sym a.size)

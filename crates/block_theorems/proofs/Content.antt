@@ -1,4 +1,5 @@
 -- The data of a verdict is the same, looked up in the buffer or among the block's bytes.
+use Rattle.std.specs.Prelude.{Result}
 use mathlib.Core.Path.{◌≡◌, refl, sym}
 use mathlib.Core.List.{List, [], ◌∷◌}
 use mathlib.Core.Bool.{Bool, true, false≢true}
@@ -18,11 +19,12 @@ use Rattle.lists.specs.Bytes.{same}
 use Rattle.settings.specs.declared.Kind.{Kind}
 use Rattle.settings.specs.declared.Kind.TheVariants.{Hybrid, Minimal}
 use Rattle.settings.specs.declared.Settings.{Settings}
-use Rattle.refusal.specs.declared.Verdict.{Verdict}
+use Rattle.refusal.specs.declared.Accepted.{Accepted}
+use Rattle.refusal.specs.declared.Refusal.{Refusal}
 use Rattle.block.specs.Content.{content_of}
 
 -- the verdict has no data, or it lies among the first m bytes, from the place o on
-pub data Lies (o m : ℕ) (v : Verdict) : Type 0 where
+pub data Lies (o m : ℕ) (v : Result Accepted Refusal) : Type 0 where
   none : length_of v ≡ 0 → Lies o m v
   part : o + length_of v ≤ m → Lies o m v
 
@@ -71,11 +73,11 @@ take-drop-take m (suc o) zero l h = absurd (omega arith)
 take-drop-take m (suc o) (suc n) [] h = refl
 take-drop-take m (suc o) (suc n) (x ∷ l) h = take-drop-take m o n l (omega arith)
 
-pub content_none : (g : Settings) (v : Verdict) (b c : List ℕ) → length_of v ≡ 0 → content_of g v b ≡ content_of g v c
+pub content_none : (g : Settings) (v : Result Accepted Refusal) (b c : List ℕ) → length_of v ≡ 0 → content_of g v b ≡ content_of g v c
 unfolding content_of
 content_none g v b c e = rw e
 
-pub content_same : (g : Settings) (v : Verdict) (n : ℕ) (b : List ℕ) → Lies (data_offset_of g) n v → content_of g v b ≡ content_of g v (take n b)
+pub content_same : (g : Settings) (v : Result Accepted Refusal) (n : ℕ) (b : List ℕ) → Lies (data_offset_of g) n v → content_of g v b ≡ content_of g v (take n b)
 unfolding content_of
 content_same g v n b (none e) = rw e
 content_same g v n b (part h) = sym (take-drop-take (length_of v) (data_offset_of g) n b h)

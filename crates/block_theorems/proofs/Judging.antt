@@ -1,4 +1,5 @@
 -- The judge over a body that is put together of its fields.
+use Rattle.refusal.specs.Refusal.{accepted_as, refused_by}
 use mathlib.Core.Path.{◌≡◌, refl, sym, ap, ◌∙◌}
 use mathlib.Core.List.{List, ◌∷◌, ◌++◌, append_assoc}
 use mathlib.Core.Bool.{Bool, true, cond, or-true}
@@ -13,7 +14,6 @@ use Rattle.settings.specs.DataBytes.{all_allowed}
 use Rattle.block.specs.Format.{version, five_digits, three_digits, count_field, checksum_of, hybrid_body}
 use Rattle.lists.specs.Bytes.{bytes, same}
 use Rattle.block.specs.Judge.{type_matches, header_ok, checksum_matches, judge_parts, data_of, judge_hybrid}
-use Rattle.refusal.specs.declared.Verdict.TheVariants.{Accepted, Refused}
 
 pub length_count : (d : List ℕ) → length (count_field d) ≡ 5
 unfolding count_field five_digits
@@ -23,7 +23,7 @@ pub length_three : (n : ℕ) → length (three_digits n) ≡ 3
 unfolding three_digits
 length_three n = refl
 
-put_in : (sb t : ℕ) (b : Bool) (e d f c y x : List ℕ) → b ≡ true → e ≡ d → f ≡ c → y ≡ x → cond b (judge_parts sb t e f y) (Refused 5 0) ≡ judge_parts sb t d c x
+put_in : (sb t : ℕ) (b : Bool) (e d f c y x : List ℕ) → b ≡ true → e ≡ d → f ≡ c → y ≡ x → cond b (judge_parts sb t e f y) (refused_by 5 0) ≡ judge_parts sb t d c x
 put_in sb t b e d f c y x p q r s = rw (p, q, r, s)
 
 -- the body of the fields t, d, c and x
@@ -78,7 +78,7 @@ length_body t d xxx e = length_whole 0 t d (count_field d) xxx (length_count d) 
 
 -- the judge accepts a body of the right fields
 pub judge_body : (sb t : ℕ) (d xxx : List ℕ) → length xxx ≡ 3 → type_matches t d ≡ true → all_allowed d ≡ true → checksum_matches sb t d xxx ≡ true
-    → judge_hybrid sb (hybrid_body t d xxx) ≡ Accepted t (length d)
+    → judge_hybrid sb (hybrid_body t d xxx) ≡ accepted_as t (length d)
 unfolding hybrid_body
 judge_body sb t d xxx e m a s =
     judge_whole_lem sb t d (count_field d) xxx (length_count d) e ∙ sym (parts_accepted sb t d (count_field d) xxx m a (same_self (count_field d)) s)

@@ -10,9 +10,8 @@ use lib.Dec.{eqb}
 use borrow.Author.Tests.{eq-eqb, eqb-true}
 use Rattle.lists.proofs.Tests.{cond_ind}
 use Rattle.settings.specs.Settings.{valid}
-use Rattle.refusal.specs.Refusal.{number_of, type_of, length_of}
+use Rattle.refusal.specs.Refusal.{number_of, type_of, length_of, accepted_as, refused_by}
 use Rattle.settings.specs.declared.Settings.{Settings}
-use Rattle.refusal.specs.declared.Verdict.TheVariants.{Accepted, Refused}
 use Rattle.stream.proofs.Run.{after_none, run-append}
 use Rattle.stream.specs.Stream.{Judged, Mode, between, inside, ended, Moved, moved, move, run, after, verdicts}
 use Rattle.whole_block.proofs.Checks.{check_setting, check-judged}
@@ -88,9 +87,9 @@ record Single (l m : List Judged) (t n : ℕ) : Type 0 where
   said : Judged
   none : l ≡ []
   one : m ≡ said ∷ []
-  is : said.verdict ≡ Accepted t n
+  is : said.verdict ≡ accepted_as t n
 
-single : (l m : List Judged) (t n : ℕ) → only l m ≡ Accepted t n → Single l m t n
+single : (l m : List Judged) (t n : ℕ) → only l m ≡ accepted_as t n → Single l m t n
 single [] [] t n h = absurd (omega (arith, ap number_of h))
 single [] (w ∷ []) t n h = record { said = w; none = refl; one = refl; is = h }
 single [] (w ∷ v ∷ m) t n h = absurd (omega (arith, ap number_of h))
@@ -134,14 +133,14 @@ module _ (g : Settings) (v : valid g ≡ true) (xs : List ℕ) (w : Judged) (b :
       let u : 2 ≤ length (verdicts g xs) = rw (i, p) (two_verdicts g 0 c zs q) in
       omega (arith, ap length one)
 
-  whole_is : (t n : ℕ) → w.verdict ≡ Accepted t n → (h : Stands g 0 xs w) → OneBlock g xs t n
+  whole_is : (t n : ℕ) → w.verdict ≡ accepted_as t n → (h : Stands g 0 xs w) → OneBlock g xs t n
   whole_is t n e h = go h.before h.rest refl refl
     where
       go : (p q : List ℕ) → h.before ≡ p → h.rest ≡ q → OneBlock g xs t n
       go (x ∷ c) q e₁ e₂ = absurd (none_before h x c e₁)
       go [] (y ∷ ys) e₁ e₂ = absurd (none_after h y ys e₂)
       go [] [] e₁ e₂ =
-          let a : Accepted h.type (length h.content) ≡ Accepted t n = sym (ap (λ (z : Judged). z.verdict) h.says) ∙ e in
+          let a : accepted_as h.type (length h.content) ≡ accepted_as t n = sym (ap (λ (z : Judged). z.verdict) h.says) ∙ e in
           let p : h.type ≡ t = ap type_of a in
           record {
             body = h.body;
@@ -152,33 +151,33 @@ module _ (g : Settings) (v : valid g ≡ true) (xs : List ℕ) (w : Judged) (b :
 only_in : (w : Judged) (l : List Judged) → l ≡ w ∷ [] → Memᴰ w l
 only_in w l e = rw e (mathlib.Core.List.Memᴰ.head refl)
 
-whole_sound : (g : Settings) (xs : List ℕ) (t n : ℕ) → valid g ≡ true → whole_of g xs ≡ Accepted t n → OneBlock g xs t n
+whole_sound : (g : Settings) (xs : List ℕ) (t n : ℕ) → valid g ≡ true → whole_of g xs ≡ accepted_as t n → OneBlock g xs t n
 unfolding whole_of
 whole_sound g xs t n v = go (begins_with g.start_block xs) refl
   where
-    go : (p : Bool) → begins_with g.start_block xs ≡ p → cond p (only (verdicts g (initial xs)) (verdicts g xs)) (Refused 5 0) ≡ Accepted t n → OneBlock g xs t n
+    go : (p : Bool) → begins_with g.start_block xs ≡ p → cond p (only (verdicts g (initial xs)) (verdicts g xs)) (refused_by 5 0) ≡ accepted_as t n → OneBlock g xs t n
     go false e h = absurd (omega (arith, ap number_of h))
     go true e h =
         let s = single (verdicts g (initial xs)) (verdicts g xs) t n h in
         let m : Memᴰ s.said (verdicts g xs) = only_in s.said (verdicts g xs) s.one in
         whole_is g v xs s.said e s.none s.one t n s.is (accepted_stands g 0 xs s.said t n m s.is)
 
-whole_complete : (g : Settings) (xs : List ℕ) (t n : ℕ) → valid g ≡ true → OneBlock g xs t n → whole_of g xs ≡ Accepted t n
+whole_complete : (g : Settings) (xs : List ℕ) (t n : ℕ) → valid g ≡ true → OneBlock g xs t n → whole_of g xs ≡ accepted_as t n
 whole_complete g xs t n v h =
     let a = h.accepts in
-    ap (whole_of g) h.is ∙ (good_reads g h.body t a.content (body_good g t a.content h.body v a.fits a.form)).whole ∙ ap (Accepted t) (sym a.size)
+    ap (whole_of g) h.is ∙ (good_reads g h.body t a.content (body_good g t a.content h.body v a.fits a.form)).whole ∙ ap (accepted_as t) (sym a.size)
 
 -- "where the bytes begin with SB and give exactly one verdict, at their last byte": these are accepted exactly where they are one formatted block
-pub whole_exactly : (g : Settings) (xs : List ℕ) (t n : ℕ) → valid g ≡ true → (whole_of g xs ≡ Accepted t n) ↔ OneBlock g xs t n
+pub whole_exactly : (g : Settings) (xs : List ℕ) (t n : ℕ) → valid g ≡ true → (whole_of g xs ≡ accepted_as t n) ↔ OneBlock g xs t n
 whole_exactly g xs t n v = (whole_sound g xs t n v, whole_complete g xs t n v)
 
-refused-not : (t n : ℕ) → Refused 1 0 ≡ Accepted t n → ⊥
+refused-not : (t n : ℕ) → refused_by 1 0 ≡ accepted_as t n → ⊥
 refused-not t n e = omega (arith, ap number_of e)
 
 -- the check as the line driver calls it: also the settings have to be valid (1)
-pub check_exactly : (g : Settings) (xs : List ℕ) (t n : ℕ) → (check_of g xs ≡ Accepted t n) ↔ ((valid g ≡ true) × OneBlock g xs t n)
+pub check_exactly : (g : Settings) (xs : List ℕ) (t n : ℕ) → (check_of g xs ≡ accepted_as t n) ↔ ((valid g ≡ true) × OneBlock g xs t n)
 check_exactly g xs t n = (go (valid g) refl, λ (h : (valid g ≡ true) × OneBlock g xs t n). sym (check-judged g xs h.0) ∙ whole_complete g xs t n h.0 h.1)
   where
-    go : (p : Bool) → valid g ≡ p → check_of g xs ≡ Accepted t n → (valid g ≡ true) × OneBlock g xs t n
+    go : (p : Bool) → valid g ≡ p → check_of g xs ≡ accepted_as t n → (valid g ≡ true) × OneBlock g xs t n
     go false e h = absurd (refused-not t n (check_setting g xs e ∙ h))
     go true e h = (e, whole_sound g xs t n e (check-judged g xs e ∙ h))

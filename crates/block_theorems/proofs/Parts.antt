@@ -1,4 +1,5 @@
 -- Document 01, 'Reading a stream': "Verdicts are those a definition gives for the whole input, in however many parts it came, provided the same buffer is lent unaltered each time."
+use Rattle.std.specs.Prelude.{Option, Some, None, Result, Ok, Err}
 use mathlib.Core.Path.{◌≡◌, refl, sym, ap, ◌∙◌}
 use mathlib.Core.List.{List, [], ◌∷◌, ◌++◌, append_assoc}
 use mathlib.Core.Bool.{true}
@@ -12,10 +13,10 @@ use Rattle.settings.specs.Settings.{valid, capacity_of}
 use Rattle.settings.specs.declared.Settings.{Settings}
 use Rattle.stream.specs.Stream.{Judged, Mode, between, move, run, after, hold, held, verdicts}
 use Rattle.stream.specs.Scan.{fresh, read_of}
+use Rattle.refusal.specs.declared.Refusal.{Refusal}
 use Rattle.stream.specs.declared.Phase.{Phase}
 use Rattle.stream.specs.declared.Reader.{Reader}
-use Rattle.stream.specs.declared.Answer.{Answer}
-use Rattle.stream.specs.declared.Answer.TheVariants.{Refused, Pending, Found}
+use Rattle.stream.specs.declared.Found.{Found}
 use Rattle.stream.proofs.Run.{run-append, after-append}
 use Rattle.block_theorems.specs.Session.{Served, served, spoken, go_on, and_then, serve, session, joined}
 use Rattle.block_theorems.proofs.Simulation.{Holds, fits, over, Related, is_between, is_inside, is-ended, Stands, Ends, at_end, at_verdict, Reaches, stands_at, read_reaches}
@@ -58,7 +59,7 @@ serves_append g k m b xs ys t u p q =
 
 -- ---- one part
 -- Whatever bytes ys follow the part: the verdicts from here on are that of the call, and then those of the rest.
-pub call_rest : (g : Settings) (k n : ℕ) (m : Mode) (b xs : List ℕ) (a : Answer) (r : Reader) (c : List ℕ) → Reaches g k m b xs n a r c
+pub call_rest : (g : Settings) (k n : ℕ) (m : Mode) (b xs : List ℕ) (a : Result (Option Found) Refusal) (r : Reader) (c : List ℕ) → Reaches g k m b xs n a r c
     → (ys : List ℕ) → run g k m (xs ++ ys) ≡ spoken g a c ++ run g (k + n) (after g k m (take n xs)) (drop n xs ++ ys)
 call_rest g k n m b xs a r c h ys =
     let l : length (take n xs) ≡ n = length-take-le n xs h.most in
@@ -69,21 +70,21 @@ call_rest g k n m b xs a r c h ys =
     ∙ ap (λ (z : List Judged). z ++ run g (k + n) (after g k m (take n xs)) (drop n xs ++ ys)) (sym h.says)
 
 -- a call that found no verdict has read the whole part; after a verdict the rest is read
-next_call_lem : (g : Settings) (k n : ℕ) (m : Mode) (b xs : List ℕ) (a : Answer) (r : Reader) (c : List ℕ) (later : Served)
+next_call_lem : (g : Settings) (k n : ℕ) (m : Mode) (b xs : List ℕ) (a : Result (Option Found) Refusal) (r : Reader) (c : List ℕ) (later : Served)
     → Reaches g k m b xs n a r c
     → (1 ≤ n → Serves g (k + n) (after g k m (take n xs)) c (drop n xs) later)
     → Serves g k m b xs (and_then (spoken g a c) (go_on a later (served [] r c)))
 next_call_lem g k n m b xs a r c later h ih = go a h.ends h.says
   where
-    go : (z : Answer) → Ends n (length xs) z → spoken g z c ≡ run g k m (take n xs) → Serves g k m b xs (and_then (spoken g z c) (go_on z later (served [] r c)))
-    go (Refused _) e w = elim e [ ]
-    go Pending (at_end e) w =
+    go : (z : Result (Option Found) Refusal) → Ends n (length xs) z → spoken g z c ≡ run g k m (take n xs) → Serves g k m b xs (and_then (spoken g z c) (go_on z later (served [] r c)))
+    go (Err _) e w = elim e [ ]
+    go (Ok None) (at_end e) w =
         let q : take n xs ≡ xs = take_all n xs (omega arith) in
         record { says = w ∙ ap (run g k m) q; buffer = h.buffer ∙ ap (held g k m b) q; stands = stands_at (ap (λ (i : ℕ). k + i) e) (rw q at h.stands) }
-    go (Found s v) (at_verdict p) w =
+    go (Ok (Some f)) (at_verdict p) w =
         let l : length (take n xs) ≡ n = length-take-le n xs h.most in
-        let here : Serves g k m b (take n xs) (served (spoken g (Found s v) c) r c) = record { says = w; buffer = h.buffer; stands = stands_at (sym (ap (λ (i : ℕ). k + i) l)) h.stands } in
-        let whole = serves_append g k m b (take n xs) (drop n xs) (served (spoken g (Found s v) c) r c) later here (rw l (ih p)) in
+        let here : Serves g k m b (take n xs) (served (spoken g (Ok (Some (record { block_offset = f.block_offset; verdict = f.verdict }))) c) r c) = record { says = w; buffer = h.buffer; stands = stands_at (sym (ap (λ (i : ℕ). k + i) l)) h.stands } in
+        let whole = serves_append g k m b (take n xs) (drop n xs) (served (spoken g (Ok (Some (record { block_offset = f.block_offset; verdict = f.verdict }))) c) r c) later here (rw l (ih p)) in
         rw (take-append-drop n xs) at whole
 
 -- each verdict takes a byte at least, so there are calls enough

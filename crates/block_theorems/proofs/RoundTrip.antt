@@ -1,4 +1,6 @@
 -- What is written reads back: document 01, 'Hybrid block', 'Minimal block' and 'Reading a stream'.
+use Rattle.refusal.specs.Refusal.{accepted_as}
+use Rattle.std.specs.Prelude.{Result}
 use mathlib.Core.Path.{◌≡◌, refl, sym, ap, ◌∙◌}
 use mathlib.Core.List.{List, [], ◌∷◌, ◌++◌, append-nil}
 use mathlib.Core.Bool.{true, false}
@@ -15,8 +17,8 @@ use Rattle.block.specs.Judge.{type_matches, checksum_matches, judge_minimal, jud
 use Rattle.settings.specs.declared.Kind.{Kind}
 use Rattle.settings.specs.declared.Kind.TheVariants.{Hybrid, Minimal}
 use Rattle.settings.specs.declared.Settings.{Settings}
-use Rattle.refusal.specs.declared.Verdict.{Verdict}
-use Rattle.refusal.specs.declared.Verdict.TheVariants.{Accepted}
+use Rattle.refusal.specs.declared.Accepted.{Accepted}
+use Rattle.refusal.specs.declared.Refusal.{Refusal}
 use Rattle.stream.proofs.Run.{run_none}
 use Rattle.stream.specs.Stream.{Judged, between, judged, run, end_verdict, verdicts}
 use Rattle.block.specs.Content.{content_of}
@@ -34,21 +36,21 @@ pub record Good (g : Settings) (body : List ℕ) (t : ℕ) (d : List ℕ) : Type
   pub apart : Apart g
   pub free : has_any g.start_block g.end_block body ≡ false
   pub fits : length body ≤ capacity_of g
-  pub judged : judge g body ≡ Accepted t (length d)
+  pub judged : judge g body ≡ accepted_as t (length d)
   pub holds : take (length d) (drop (data_offset_of g) body) ≡ d
 
-pub outcome_fits : (g : Settings) (body : List ℕ) (v : Verdict) → length body ≤ capacity_of g → judge g body ≡ v → end_verdict g body 13 ≡ v
+pub outcome_fits : (g : Settings) (body : List ℕ) (v : Result Accepted Refusal) → length body ≤ capacity_of g → judge g body ≡ v → end_verdict g body 13 ≡ v
 unfolding end_verdict
 outcome_fits g body v h e = rw (le-ltb (capacity_of g) (length body) h) e
 
-pub content_is : (g : Settings) (body : List ℕ) (t : ℕ) (d : List ℕ) → take (length d) (drop (data_offset_of g) body) ≡ d → content_of g (Accepted t (length d)) body ≡ d
+pub content_is : (g : Settings) (body : List ℕ) (t : ℕ) (d : List ℕ) → take (length d) (drop (data_offset_of g) body) ≡ d → content_of g (accepted_as t (length d)) body ≡ d
 unfolding content_of
 content_is g body t d e = e
 
 said_good : (g : Settings) (body : List ℕ) (t : ℕ) (d : List ℕ) (k : ℕ) → Good g body t d → judged g k (end_verdict g body 13) body ≡ accepted k t d
 said_good g body t d k h =
-    ap (λ (v : Verdict). judged g k v body) (outcome_fits g body (Accepted t (length d)) h.fits h.judged)
-    ∙ ap (λ (l : List ℕ). record { offset = k; verdict = Accepted t (length d); content = l }) (content_is g body t d h.holds)
+    ap (λ (v : Result Accepted Refusal). judged g k v body) (outcome_fits g body (accepted_as t (length d)) h.fits h.judged)
+    ∙ ap (λ (l : List ℕ). record { offset = k; verdict = accepted_as t (length d); content = l }) (content_is g body t d h.holds)
 
 length-framed : (g : Settings) (body : List ℕ) → length (framed g body) ≡ 3 + length body
 length-framed g body = let e : length (body ++ g.end_block ∷ 13 ∷ []) ≡ length body + 2 = length-append body (g.end_block ∷ 13 ∷ []) in omega (arith, e)
@@ -115,7 +117,7 @@ uncomputed_reads_back g t d k v m a l =
     (hybrid_good g t d (bytes "999") k v l refl refl m a (sum_passes g.start_block t d))
 
 -- ---- minimal blocks
-minimal_judged : (d : List ℕ) → all_allowed d ≡ true → judge_minimal d ≡ Accepted 68 (length d)
+minimal_judged : (d : List ℕ) → all_allowed d ≡ true → judge_minimal d ≡ accepted_as 68 (length d)
 unfolding judge_minimal
 minimal_judged d a = rw a
 
@@ -152,6 +154,6 @@ reads_back g t d w = go g.kind refl w.type
     go Minimal e m = minimal_reads_back g d e w.settings w.bytes w.fits
 
 -- "The check answers as the stream does": the check of a written block
-pub checks_back : (g : Settings) (t : ℕ) (d : List ℕ) → Writable g t d → check_of g (block_of g t d) ≡ Accepted (type_read g t) (length d)
+pub checks_back : (g : Settings) (t : ℕ) (d : List ℕ) → Writable g t d → check_of g (block_of g t d) ≡ accepted_as (type_read g t) (length d)
 checks_back g t d w =
     sym (check-judged g (block_of g t d) w.settings) ∙ (reads_back g t d w).whole

@@ -1,4 +1,5 @@
 -- One call of the reader against the definition for the whole input: a relation between the reader's state with its buffer and the place in the whole input, and that each byte keeps it.
+use Rattle.std.specs.Prelude.{Option, Some, None, Result, Ok, Err}
 use mathlib.Core.Path.{◌≡◌, refl, sym, ap, ◌∙◌}
 use mathlib.Core.List.{List, [], ◌∷◌, ◌++◌, append-nil}
 use mathlib.Core.Bool.{Bool, true, false}
@@ -13,18 +14,17 @@ use borrow.Author.Tests.{lt-ltb, le-ltb, ltb-true, ltb-false}
 use Rattle.lists.specs.Bytes.{greatest_word}
 use Rattle.lists.proofs.Tests.{cond_ind}
 use Rattle.settings.specs.Settings.{valid, capacity_of, data_offset_of}
-use Rattle.refusal.specs.Refusal.{length_of}
+use Rattle.refusal.specs.Refusal.{length_of, refused_by}
 use Rattle.settings.specs.declared.Settings.{Settings}
-use Rattle.refusal.specs.declared.Verdict.{Verdict}
-use Rattle.refusal.specs.declared.Verdict.TheVariants.{Refused}
+use Rattle.refusal.specs.declared.Accepted.{Accepted}
+use Rattle.refusal.specs.declared.Refusal.{Refusal}
 use Rattle.stream.specs.Stream.{Judged, Mode, between, inside, ended, Moved, judged, end_verdict, move, run, after, hold, held}
 use Rattle.block.specs.Content.{content_of}
 use Rattle.stream.specs.Scan.{Scan, stored_verdict, phase_step, step, fold, read_of}
 use Rattle.stream.specs.declared.Phase.{Phase}
 use Rattle.stream.specs.declared.Phase.TheVariants.{Between, Inside, Ended}
 use Rattle.stream.specs.declared.Reader.{Reader}
-use Rattle.stream.specs.declared.Answer.{Answer}
-use Rattle.stream.specs.declared.Answer.TheVariants.{Refused as RefusedCall, Pending, Found}
+use Rattle.stream.specs.declared.Found.{Found}
 use Rattle.stream.proofs.Steps.{fold_found}
 use Rattle.stream.proofs.Returns.{read_scan}
 use Rattle.block_theorems.specs.Session.{spoken}
@@ -47,9 +47,9 @@ pub record Stands (g : Settings) (k : ℕ) (m : Mode) (r : Reader) (b : List ℕ
   pub related : Related (capacity_of g) b r.phase r.body_length r.block_offset m
 
 -- an answer of a call that was not refused
-pub data Live : Answer → Type 0 where
-  pending : Live Pending
-  found : {s : ℕ} {v : Verdict} → Live (Found s v)
+pub data Live : Result (Option Found) Refusal → Type 0 where
+  pending : Live (Ok None)
+  found : {s : ℕ} {v : Result Accepted Refusal} → Live (Ok (Some (record { block_offset = s; verdict = v })))
 
 -- one byte, read at offset k with the buffer b: what it brings is what the definition says, which gives the buffer as h
 pub record Follows (g : Settings) (k : ℕ) (u : Moved) (h : List ℕ) (t : Scan) : Type 0 where
@@ -117,7 +117,7 @@ same_content g n x b body (over l m t) = content_none g (end_verdict g body x) b
 same_said : (g : Settings) (n s x : ℕ) (b body : List ℕ) → Holds (capacity_of g) n b body
     → judged g s (stored_verdict g n b x) b ≡ judged g s (end_verdict g body x) body
 same_said g n s x b body h =
-    ap (λ (v : Verdict). judged g s v b) (same_verdict g n x b body h)
+    ap (λ (v : Result Accepted Refusal). judged g s v b) (same_verdict g n x b body h)
     ∙ ap (λ (c : List ℕ). record { offset = s; verdict = end_verdict g body x; content = c }) (same_content g n x b body h)
 
 -- ---- one byte
@@ -149,7 +149,7 @@ module _ (g : Settings) (n s k x : ℕ) (b : List ℕ) (enough : capacity_of g �
   unfolding move hold
   step_inside body h =
       by_test (eqb x g.start_block)
-      (λ e. let w = ap (λ (c : List ℕ). record { offset = s; verdict = (Refused 8 0); content = c } ∷ []) (content_none g (Refused 8 0) b body refl) in
+      (λ e. let w = ap (λ (c : List ℕ). record { offset = s; verdict = (refused_by 8 0); content = c } ∷ []) (content_none g (refused_by 8 0) b body refl) in
       rw e (record { live = found; says = w; stands = at_start; buffer = refl }))
       (λ e. by_test (eqb x g.end_block)
       (λ f. rw (e, f) (record { live = pending; says = refl; stands = record { position = refl; enough = enough; related = is-ended h }; buffer = refl }))
@@ -171,18 +171,18 @@ one_byte g k x m p n s b enough (is-ended {body = body} h) = step-ended g n s k 
 
 -- the byte x at offset k
 pub step_follows : (g : Settings) (k x : ℕ) (m : Mode) (r : Reader) (b : List ℕ) → Stands g k m r b
-    → Follows g k (move g k m x) (hold g m b x) (step g Pending r b x)
+    → Follows g k (move g k m x) (hold g m b x) (step g (Ok None) r b x)
 unfolding step
 step_follows g k x m r b h = rw h.position (one_byte g k x m r.phase r.body_length r.block_offset b h.enough h.related)
 
 -- ---- one call
 -- what ended it after n of l bytes: the end of the part, or a verdict
-pub data Ends (n l : ℕ) : Answer → Type 0 where
-  at_end : n ≡ l → Ends n l Pending
-  at_verdict : {s : ℕ} {v : Verdict} → 1 ≤ n → Ends n l (Found s v)
+pub data Ends (n l : ℕ) : Result (Option Found) Refusal → Type 0 where
+  at_end : n ≡ l → Ends n l (Ok None)
+  at_verdict : {s : ℕ} {v : Result Accepted Refusal} → 1 ≤ n → Ends n l (Ok (Some (record { block_offset = s; verdict = v })))
 
 -- A call from offset k on, in the mode m, reads n bytes of the part, and gives the verdicts, the state and the buffer that the definition gives for these bytes.
-pub record Reaches (g : Settings) (k : ℕ) (m : Mode) (b xs : List ℕ) (n : ℕ) (a : Answer) (r : Reader) (c : List ℕ) : Type 0 where
+pub record Reaches (g : Settings) (k : ℕ) (m : Mode) (b xs : List ℕ) (n : ℕ) (a : Result (Option Found) Refusal) (r : Reader) (c : List ℕ) : Type 0 where
   pub most : n ≤ length xs
   pub ends : Ends n (length xs) a
   pub says : spoken g a c ≡ run g k m (take n xs)
@@ -196,23 +196,23 @@ pub record Folded (g : Settings) (k : ℕ) (m : Mode) (b xs : List ℕ) (t : Sca
 pub stands_at : {g : Settings} {k j : ℕ} {m : Mode} {r : Reader} {b : List ℕ} → k ≡ j → Stands g k m r b → Stands g j m r b
 stands_at e h = record { position = h.position ∙ e; enough = h.enough; related = h.related }
 
-reads_none : (g : Settings) (k : ℕ) (m : Mode) (r : Reader) (b : List ℕ) → Stands g k m r b → Reaches g k m b [] 0 Pending r b
+reads_none : (g : Settings) (k : ℕ) (m : Mode) (r : Reader) (b : List ℕ) → Stands g k m r b → Reaches g k m b [] 0 (Ok None) r b
 unfolding run after held
 reads_none g k m r b h = record { most = omega arith; ends = at_end refl; says = refl; stands = stands_at (sym (add-zero k)) h; buffer = refl }
 
-reads_verdict : (g : Settings) (k x s : ℕ) (m : Mode) (v : Verdict) (r : Reader) (b xs c : List ℕ)
-    → Follows g k (move g k m x) (hold g m b x) (record { answer = Found s v; reader = r; buffer = c })
-    → Reaches g k m b (x ∷ xs) 1 (Found s v) r c
+reads_verdict : (g : Settings) (k x s : ℕ) (m : Mode) (v : Result Accepted Refusal) (r : Reader) (b xs c : List ℕ)
+    → Follows g k (move g k m x) (hold g m b x) (record { answer = Ok (Some (record { block_offset = s; verdict = v })); reader = r; buffer = c })
+    → Reaches g k m b (x ∷ xs) 1 (Ok (Some (record { block_offset = s; verdict = v }))) r c
 unfolding run after held
 reads_verdict g k x s m v r b xs c f =
     record { most = omega arith; ends = at_verdict (omega arith); says = f.says ∙ sym (append-nil (move g k m x).says); stands = f.stands; buffer = f.buffer }
 
-ends_more : (n l : ℕ) (a : Answer) → Ends n l a → Ends (suc n) (suc l) a
+ends_more : (n l : ℕ) (a : Result (Option Found) Refusal) → Ends n l a → Ends (suc n) (suc l) a
 ends_more n l a (at_end e) = at_end (ap suc e)
 ends_more n l a (at_verdict h) = at_verdict (omega arith)
 
-reads_more : (g : Settings) (k x n : ℕ) (m : Mode) (a : Answer) (q r : Reader) (b xs c d : List ℕ)
-    → Follows g k (move g k m x) (hold g m b x) (record { answer = Pending; reader = q; buffer = c })
+reads_more : (g : Settings) (k x n : ℕ) (m : Mode) (a : Result (Option Found) Refusal) (q r : Reader) (b xs c d : List ℕ)
+    → Follows g k (move g k m x) (hold g m b x) (record { answer = (Ok None); reader = q; buffer = c })
     → Reaches g (k + 1) (move g k m x).mode c xs n a r d
     → Reaches g k m b (x ∷ xs) (suc n) a r d
 unfolding run after held
@@ -227,28 +227,28 @@ reads_more g k x n m a q r b xs c d f h =
 
 -- the first byte, and then the others
 goes_on_lem : (g : Settings) (k x : ℕ) (m : Mode) (b xs : List ℕ)
-    → ((q : Reader) (c : List ℕ) → Stands g (k + 1) (move g k m x).mode q c → Folded g (k + 1) (move g k m x).mode c xs (fold g (record { answer = Pending; reader = q; buffer = c }) xs))
+    → ((q : Reader) (c : List ℕ) → Stands g (k + 1) (move g k m x).mode q c → Folded g (k + 1) (move g k m x).mode c xs (fold g (record { answer = (Ok None); reader = q; buffer = c }) xs))
     → (t : Scan) → Follows g k (move g k m x) (hold g m b x) t → Folded g k m b (x ∷ xs) (fold g t xs)
 goes_on_lem g k x m b xs ih t f = go t.answer t.reader t.buffer f.live f
   where
-    go : (a : Answer) (q : Reader) (c : List ℕ) → Live a → Follows g k (move g k m x) (hold g m b x) (record { answer = a; reader = q; buffer = c })
+    go : (a : Result (Option Found) Refusal) (q : Reader) (c : List ℕ) → Live a → Follows g k (move g k m x) (hold g m b x) (record { answer = a; reader = q; buffer = c })
         → Folded g k m b (x ∷ xs) (fold g (record { answer = a; reader = q; buffer = c }) xs)
-    go (RefusedCall _) q c l f = elim l [ ]
-    go Pending q c pending f = let h = ih q c f.stands in record { count = suc h.count; reaches = reads_more g k x h.count m _ q _ b xs c _ f h.reaches }
-    go (Found s v) q c found f = rw (fold_found g s v q c xs) (record { count = 1; reaches = reads_verdict g k x s m v q b xs c f })
+    go (Err _) q c l f = elim l [ ]
+    go (Ok None) q c pending f = let h = ih q c f.stands in record { count = suc h.count; reaches = reads_more g k x h.count m _ q _ b xs c _ f h.reaches }
+    go (Ok (Some f')) q c found f = rw (fold_found g f'.block_offset f'.verdict q c xs) (record { count = 1; reaches = reads_verdict g k x f'.block_offset m f'.verdict q b xs c f })
 
 pub fold_reaches : (g : Settings) (xs : List ℕ) (k : ℕ) (m : Mode) (r : Reader) (b : List ℕ) → Stands g k m r b
-    → Folded g k m b xs (fold g (record { answer = Pending; reader = r; buffer = b }) xs)
+    → Folded g k m b xs (fold g (record { answer = (Ok None); reader = r; buffer = b }) xs)
 unfolding fold
 fold_reaches g [] k m r b h = record { count = 0; reaches = reads_none g k m r b h }
 fold_reaches g (x ∷ xs) k m r b h =
-    goes_on_lem g k x m b xs (λ q c. fold_reaches g xs (k + 1) (move g k m x).mode q c) (step g Pending r b x) (step_follows g k x m r b h)
+    goes_on_lem g k x m b xs (λ q c. fold_reaches g xs (k + 1) (move g k m x).mode q c) (step g (Ok None) r b x) (step_follows g k x m r b h)
 
 -- what a caller gets: as many bytes used as were read
 pub read_reaches : (g : Settings) (k : ℕ) (m : Mode) (r : Reader) (xs b : List ℕ) → valid g ≡ true → k + length xs ≤ greatest_word → Stands g k m r b
     → Reaches g k m b xs (read_of g r xs b).answer.used (read_of g r xs b).answer.answer (read_of g r xs b).answer.reader (read_of g r xs b).buffer
 read_reaches g k m r xs b e l h =
-    let t = fold g (record { answer = Pending; reader = r; buffer = b }) xs in
+    let t = fold g (record { answer = (Ok None); reader = r; buffer = b }) xs in
     let d = fold_reaches g xs k m r b h in
     let p : r.position ≡ k = h.position in
     let q : t.reader.position ≡ k + d.count = d.reaches.stands.position in

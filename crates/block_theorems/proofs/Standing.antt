@@ -1,4 +1,5 @@
 -- In a stream a block is accepted exactly where its bytes stand: SB, a formatted body, EB and CR.
+use Rattle.std.specs.Prelude.{Result, Ok, Err}
 use mathlib.Core.Path.{◌≡◌, refl, sym, ap, ◌∙◌, subst}
 use mathlib.Core.List.{List, [], ◌∷◌, ◌++◌, append_assoc, append-nil, Memᴰ}
 use mathlib.Core.Bool.{true, cond}
@@ -18,10 +19,10 @@ use Rattle.settings.specs.declared.Kind.TheVariants.{Hybrid, Minimal}
 use Rattle.lists.specs.Bytes.{same}
 use Rattle.block.specs.Format.{count_field}
 use Rattle.block.specs.Judge.{type_matches, checksum_matches, header_ok, judge_parts, judge_hybrid, judge_minimal, judge}
-use Rattle.refusal.specs.Refusal.{number_of}
+use Rattle.refusal.specs.Refusal.{number_of, accepted_as, refused_by}
 use Rattle.settings.specs.declared.Settings.{Settings}
-use Rattle.refusal.specs.declared.Verdict.{Verdict}
-use Rattle.refusal.specs.declared.Verdict.TheVariants.{Accepted, Refused}
+use Rattle.refusal.specs.declared.Accepted.{Accepted}
+use Rattle.refusal.specs.declared.Refusal.{Refusal}
 use Rattle.stream.proofs.Run.{opens, run-append}
 use Rattle.stream.specs.Stream.{Judged, verdicts, Mode, between, inside, ended, Moved, moved, judged, end_verdict, move, run, after}
 use Rattle.block.specs.Content.{content_of}
@@ -107,25 +108,25 @@ module _ (g : Settings) (k : ℕ) where
       regroup : (a b c d : List ℕ) → (a ++ (b ++ c)) ++ d ≡ a ++ (b ++ (c ++ d))
       regroup a b c d = simp append_assoc
 
-  no_interruption : (s t n : ℕ) (body : List ℕ) (w : Judged) → w ≡ judged g s (Refused 8 0) body → w.verdict ≡ Accepted t n → ⊥
+  no_interruption : (s t n : ℕ) (body : List ℕ) (w : Judged) → w ≡ judged g s (refused_by 8 0) body → w.verdict ≡ accepted_as t n → ⊥
   no_interruption s t n body w e v = omega (arith, ap number_of (sym (ap (λ (z : Judged). z.verdict) e) ∙ v))
 
-  content_body : (t : ℕ) (d body : List ℕ) → Body g t d body → content_of g (Accepted t (length d)) body ≡ d
+  content_body : (t : ℕ) (d body : List ℕ) → Body g t d body → content_of g (accepted_as t (length d)) body ≡ d
   unfolding content_of
   content_body t d body (hybrid e h) = rw (e, h.is) (data_body t d h.sum)
   content_body t d body (minimal e f q a) = rw (e, q) (take-length d)
 
-  says_it : (s x t n : ℕ) (d body p : List ℕ) (w : Judged) → w ≡ judged g s (end_verdict g body x) body → end_verdict g body x ≡ Accepted t n → n ≡ length d
+  says_it : (s x t n : ℕ) (d body p : List ℕ) (w : Judged) → w ≡ judged g s (end_verdict g body x) body → end_verdict g body x ≡ accepted_as t n → n ≡ length d
       → s ≡ k + length p → Body g t d body → w ≡ accepted (k + length p) t d
   says_it s x t n d body p w e o l f b =
-      e ∙ ap (λ (v : Verdict). judged g s v body) (o ∙ ap (Accepted t) l)
-      ∙ ap (λ (z : List ℕ). record { offset = s; verdict = Accepted t (length d); content = z }) (content_body t d body b)
+      e ∙ ap (λ (v : Result Accepted Refusal). judged g s v body) (o ∙ ap (accepted_as t) l)
+      ∙ ap (λ (z : List ℕ). record { offset = s; verdict = accepted_as t (length d); content = z }) (content_body t d body b)
       ∙ ap (λ (i : ℕ). accepted i t d) f
 
   ended_sound : (read : List ℕ) (s x t n : ℕ) (body p : List ℕ) (w : Judged) → s ≡ k + length p → read ≡ p ++ (g.start_block ∷ (body ++ g.end_block ∷ []))
-      → w ≡ judged g s (end_verdict g body x) body → w.verdict ≡ Accepted t n → Stands g k (read ++ x ∷ []) w
+      → w ≡ judged g s (end_verdict g body x) body → w.verdict ≡ accepted_as t n → Stands g k (read ++ x ∷ []) w
   ended_sound read s x t n body p w f h e v =
-      let o : end_verdict g body x ≡ Accepted t n = sym (ap (λ (z : Judged). z.verdict) e) ∙ v in
+      let o : end_verdict g body x ≡ accepted_as t n = sym (ap (λ (z : Judged). z.verdict) e) ∙ v in
       let c = outcome_sound g body x t n o in
       let a = c.accepts in
       record {
@@ -143,14 +144,14 @@ module _ (g : Settings) (k : ℕ) where
         says = says_it s x t n a.content body p w e o a.size f a.form;
       }
 
-  step_sound : (read : List ℕ) (i x t n : ℕ) (m : Mode) (w : Judged) → At g k read m → Memᴰ w (move g i m x).says → w.verdict ≡ Accepted t n
+  step_sound : (read : List ℕ) (i x t n : ℕ) (m : Mode) (w : Judged) → At g k read m → Memᴰ w (move g i m x).says → w.verdict ≡ accepted_as t n
       → Stands g k (read ++ x ∷ []) w
   unfolding move
   step_sound read i x t n between w a h v = absurd (mathlib.Core.List.Memᴰ.not-nil h)
   step_sound read i x t n (inside s body) w a h v =
-      cond_ind (λ (o : Moved). Memᴰ w o.says → w.verdict ≡ Accepted t n → Stands g k (read ++ x ∷ []) w) (eqb x g.start_block) _ _
+      cond_ind (λ (o : Moved). Memᴰ w o.says → w.verdict ≡ accepted_as t n → Stands g k (read ++ x ∷ []) w) (eqb x g.start_block) _ _
       (λ q h v. absurd (no_interruption s t n body w (mathlib.Core.List.Memᴰ.eq_of_singleton h) v))
-      (λ q. cond_ind (λ (o : Moved). Memᴰ w o.says → w.verdict ≡ Accepted t n → Stands g k (read ++ x ∷ []) w) (eqb x g.end_block)
+      (λ q. cond_ind (λ (o : Moved). Memᴰ w o.says → w.verdict ≡ accepted_as t n → Stands g k (read ++ x ∷ []) w) (eqb x g.end_block)
       (moved [] (ended s body)) (moved [] (inside s (body ++ x ∷ []))) (λ r h v. absurd (mathlib.Core.List.Memᴰ.not-nil h)) (λ r h v. absurd (mathlib.Core.List.Memᴰ.not-nil h))) h v
   step_sound read i x t n (ended s body) w (at_ended p f e) h v = ended_sound read s x t n body p w f e (mathlib.Core.List.Memᴰ.eq_of_singleton h) v
 
@@ -163,7 +164,7 @@ module _ (g : Settings) (k : ℕ) where
   unfolding run
   run_empty i m w h = mathlib.Core.List.Memᴰ.not-nil h
 
-  one_more : (x : ℕ) (xs read : List ℕ) (i t n : ℕ) (m : Mode) (w : Judged) → At g k read m → w.verdict ≡ Accepted t n
+  one_more : (x : ℕ) (xs read : List ℕ) (i t n : ℕ) (m : Mode) (w : Judged) → At g k read m → w.verdict ≡ accepted_as t n
       → (Memᴰ w (run g (i + 1) (move g i m x).mode xs) → Stands g k (read ++ x ∷ [] ++ xs) w)
       → Memᴰ w (move g i m x).says ⊎ Memᴰ w (run g (i + 1) (move g i m x).mode xs) → Stands g k (read ++ x ∷ [] ++ xs) w
   one_more x xs read i t n m w a v f (inl u) = further (read ++ x ∷ []) w xs (step_sound read i x t n m w a u v)
@@ -175,7 +176,7 @@ module _ (g : Settings) (k : ℕ) where
   regrouped : (x : ℕ) (xs read : List ℕ) (w : Judged) → Stands g k (read ++ x ∷ [] ++ xs) w → Stands g k (read ++ x ∷ xs) w
   regrouped x xs read w h = rw (← append_snoc read x xs) h
 
-  run_sound : (xs read : List ℕ) (i t n : ℕ) (m : Mode) (w : Judged) → i ≡ k + length read → At g k read m → Memᴰ w (run g i m xs) → w.verdict ≡ Accepted t n
+  run_sound : (xs read : List ℕ) (i t n : ℕ) (m : Mode) (w : Judged) → i ≡ k + length read → At g k read m → Memᴰ w (run g i m xs) → w.verdict ≡ accepted_as t n
       → Stands g k (read ++ xs) w
   run_sound [] read i t n m w e a h v = absurd (run_empty i m w h)
   run_sound (x ∷ xs) read i t n m w e a h v =
@@ -184,14 +185,14 @@ module _ (g : Settings) (k : ℕ) where
       (run-cases i x m xs w h))
 
   -- sound: an accepted verdict's block stands in the input at its offset
-  pub accepted_stands : (xs : List ℕ) (w : Judged) (t n : ℕ) → Memᴰ w (run g k between xs) → w.verdict ≡ Accepted t n → Stands g k xs w
+  pub accepted_stands : (xs : List ℕ) (w : Judged) (t n : ℕ) → Memᴰ w (run g k between xs) → w.verdict ≡ accepted_as t n → Stands g k xs w
   accepted_stands xs w t n h v = run_sound xs [] k t n between w (sym (add-zero k)) at_between h v
 
 -- ---- both ways
 -- a verdict that is no acceptance has a number of the table
-abbrev Numbered : Verdict → Type 0
-Numbered (Accepted t n) = Unit {0}
-Numbered (Refused n i) = 1 ≤ n
+abbrev Numbered : Result Accepted Refusal → Type 0
+Numbered (Ok v) = Unit {0}
+Numbered (Err v) = 1 ≤ v.number
 
 parts_numbered : (sb t : ℕ) (d c x : List ℕ) → Numbered (judge_parts sb t d c x)
 unfolding judge_parts
@@ -236,9 +237,9 @@ module _ (g : Settings) where
       go f (inl u) = move_numbered i x m w u
       go f (inr u) = f u
 
-accepted_of_lem : (g : Settings) (k : ℕ) (xs : List ℕ) (w : Judged) (v : Verdict) → w.verdict ≡ v → Memᴰ w (run g k between xs) → number_of v ≡ 0 → Stands g k xs w
-accepted_of_lem g k xs w (Accepted t n) e h z = accepted_stands g k xs w t n h e
-accepted_of_lem g k xs w (Refused n i) e h z = let q : 1 ≤ n = subst Numbered e (run_numbered g xs k between w h) in absurd (omega arith)
+accepted_of_lem : (g : Settings) (k : ℕ) (xs : List ℕ) (w : Judged) (v : Result Accepted Refusal) → w.verdict ≡ v → Memᴰ w (run g k between xs) → number_of v ≡ 0 → Stands g k xs w
+accepted_of_lem g k xs w (Ok v) e h z = accepted_stands g k xs w v.block_type v.data_length h e
+accepted_of_lem g k xs w (Err v) e h z = let q : 1 ≤ v.number = subst Numbered e (run_numbered g xs k between w h) in absurd (omega arith)
 
 -- "the number (0 if accepted)": the accepted verdicts of an input are those on the formatted blocks that stand in it
 pub accepted_exactly : (g : Settings) (xs : List ℕ) (w : Judged) → valid g ≡ true → (Memᴰ w (verdicts g xs) × (number_of w.verdict ≡ 0)) ↔ Stands g 0 xs w

@@ -1,11 +1,11 @@
 -- Document 01, 'Reading a stream': what a caller of the reader does with an input that comes in parts. The same buffer is lent, unaltered, each time.
-use Rattle.std.specs.Prelude.{List, [], ◌∷◌, ◌++◌, ℕ, zero, suc, length, drop}
+use Rattle.std.specs.Prelude.{List, [], ◌∷◌, ◌++◌, ℕ, zero, suc, length, drop, Option, Some, None, Result, Ok, Err}
 use Rattle.settings.specs.declared.Settings.{Settings}
 use Rattle.stream.specs.Stream.{Judged, judged}
 use Rattle.stream.specs.Scan.{read_of}
+use Rattle.refusal.specs.declared.Refusal.{Refusal}
 use Rattle.stream.specs.declared.Reader.{Reader}
-use Rattle.stream.specs.declared.Answer.{Answer}
-use Rattle.stream.specs.declared.Answer.TheVariants.{Refused, Pending, Found}
+use Rattle.stream.specs.declared.Found.{Found}
 
 -- the verdicts that the caller was given, and the reader and the buffer that it has then
 pub record Served : Type 0 where
@@ -17,16 +17,16 @@ abbrev pub served : List Judged → Reader → List ℕ → Served
 served l r b = record { says = l; reader = r; buffer = b }
 
 -- the verdict of one call: the data is looked up in the buffer after the call
-abbrev pub spoken : Settings → Answer → List ℕ → List Judged
-spoken g (Found s v) b = judged g s v b ∷ []
-spoken g Pending b = []
-spoken g (Refused n) b = []
+abbrev pub spoken : Settings → Result (Option Found) Refusal → List ℕ → List Judged
+spoken g (Ok (Some f)) b = judged g f.block_offset f.verdict b ∷ []
+spoken g (Ok None) b = []
+spoken g (Err n) b = []
 
 -- after a verdict the caller goes on, otherwise it stops
-abbrev pub go_on : Answer → Served → Served → Served
-go_on (Found s v) later stop = later
-go_on Pending later stop = stop
-go_on (Refused n) later stop = stop
+abbrev pub go_on : Result (Option Found) Refusal → Served → Served → Served
+go_on (Ok (Some f)) later stop = later
+go_on (Ok None) later stop = stop
+go_on (Err n) later stop = stop
 
 abbrev pub and_then : List Judged → Served → Served
 and_then l t = served (l ++ t.says) t.reader t.buffer

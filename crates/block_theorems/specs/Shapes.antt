@@ -1,4 +1,5 @@
 -- What the theorems on blocks speak of.
+use Rattle.refusal.specs.Refusal.{accepted_as}
 use Rattle.std.specs.Prelude.{◌≡◌, List, [], ◌∷◌, ◌++◌, true, ◌⊎◌, ℕ, ◌+◌, ◌≤◌, length}
 use Prim.Native.Char.{code}
 use Rattle.lists.specs.Bytes.{bytes}
@@ -8,7 +9,6 @@ use Rattle.settings.specs.Settings.{by_kind, valid}
 use Rattle.block.specs.Judge.{type_matches}
 use Rattle.settings.specs.declared.Kind.TheVariants.{Hybrid, Minimal}
 use Rattle.settings.specs.declared.Settings.{Settings}
-use Rattle.refusal.specs.declared.Verdict.TheVariants.{Accepted}
 use Rattle.stream.specs.Stream.{Judged, between, run, after, verdicts}
 use Rattle.whole_block.specs.Whole.{initial, whole_of}
 use Rattle.writer.specs.Write.{type_valid}
@@ -30,7 +30,7 @@ pub record Writable (g : Settings) (t : ℕ) (d : List ℕ) : Type 0 where
 
 -- the verdict on a block of type t with data d, whose SB is at offset s
 abbrev pub accepted : ℕ → ℕ → List ℕ → Judged
-accepted s t d = record { offset = s; verdict = Accepted t (length d); content = d }
+accepted s t d = record { offset = s; verdict = accepted_as t (length d); content = d }
 
 -- A block of the bytes bs reads as type t and data d: at every offset, with any bytes after it. The reader is between blocks then, and there is no verdict before its last byte.
 pub record ReadsBack (g : Settings) (bs : List ℕ) (t : ℕ) (d : List ℕ) : Type 0 where
@@ -38,7 +38,7 @@ pub record ReadsBack (g : Settings) (bs : List ℕ) (t : ℕ) (d : List ℕ) : T
   pub rest : (k : ℕ) → after g k between bs ≡ between
   pub silent : (k : ℕ) → run g k between (initial bs) ≡ []
   pub only_one : verdicts g bs ≡ accepted 0 t d ∷ []
-  pub whole : whole_of g bs ≡ Accepted t (length d)
+  pub whole : whole_of g bs ≡ accepted_as t (length d)
 
 -- the bytes at the writer's place are the block, and read back as its type and data
 pub record Wrote (g : Settings) (t : ℕ) (d bs : List ℕ) : Type 0 where

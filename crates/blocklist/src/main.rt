@@ -3,13 +3,12 @@
 
 #![tactic(auto)]
 
-use refusal::Verdict;
-use settings::{Made, Settings};
+use settings::Settings;
 use std::env::FillError;
 use std::io;
 use std::io::{ErrorKind, Read, Write};
 use std::rt::Env;
-use stream::{Answer, Reader};
+use stream::{Found, Reader};
 
 const DATA_LIMIT: u64 = 4096;
 // What the reader keeps of a block: the data, and twelve bytes more.
@@ -17,17 +16,11 @@ const BUFFER_LENGTH: usize = 4108;
 
 const PART_LENGTH: usize = 65536;
 
-fn print_line(output: &mut impl Write, start: usize, verdict: Verdict) -> io::Result<()> {
-    let number = verdict.number();
-    let data_length = verdict.data_length();
+fn print_found(output: &mut impl Write, found: Found) -> io::Result<()> {
+    let start = found.block_offset;
+    let number = refusal::number_in(found.verdict.err());
+    let data_length = refusal::length_of(found.verdict);
     writeln!(output, "{start} {number} {data_length}")
-}
-
-fn print_answer(output: &mut impl Write, answer: Answer) -> io::Result<()> {
-    let Answer::Found(start, verdict) = answer else {
-        return Ok(());
-    };
-    print_line(output, start, verdict)
 }
 
 // Reads all of the part, and prints a line for each verdict.
@@ -44,7 +37,9 @@ fn list_part(
         let reading = stream::read(settings, reader, rest, buffer);
         let used = reading.used;
         reader = reading.reader;
-        print_answer(output, reading.answer)?;
+        if let Ok(Some(found)) = reading.answer {
+            print_found(output, found)?;
+        }
         if used == 0 || rest.len() < used {
             break;
         }
@@ -117,7 +112,7 @@ fn main(rt: HostRuntime) -> io::Result<()> {
         u64::from(Settings::END_BLOCK),
         DATA_LIMIT,
     );
-    let Made::Valid(settings) = made else {
+    let Some(settings) = made else {
         return Ok(());
     };
     let mut buffer = [0u8; BUFFER_LENGTH];

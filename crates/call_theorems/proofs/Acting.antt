@@ -1,4 +1,5 @@
 -- Each C function of the sender, called with words that encode a sender, is the act on that sender.
+use Rattle.std.specs.Prelude.{Option, Some, None, Result}
 use mathlib.Core.Path.{◌≡◌, refl, sym, ap, ◌∙◌, subst}
 use mathlib.Core.List.{List, []}
 use mathlib.Core.Bool.{Bool, true, false, cond}
@@ -12,15 +13,14 @@ use Rattle.lists.specs.Bytes.{over}
 use Rattle.lists.specs.Outcome.{called}
 use Rattle.settings.specs.Settings.{valid_link_limit}
 use Rattle.refusal.specs.Refusal.{number_of, type_of}
-use Rattle.refusal.specs.declared.Verdict.{Verdict}
+use Rattle.refusal.specs.declared.Accepted.{Accepted}
+use Rattle.refusal.specs.declared.Refusal.{Refusal}
 use Rattle.sender.specs.Sender.{valid_sender, open_of, ended_of, reset_of, timer_of, block_read_of, submit_of}
 use Rattle.sender.specs.declared.Sender.{Sender}
-use Rattle.sender.specs.declared.NumberedMessage.{NumberedMessage}
-use Rattle.sender.specs.declared.NumberedMessage.TheVariants.{Nothing}
+use Rattle.numbers.specs.declared.SequenceNumber.{SequenceNumber}
 use Rattle.sender.specs.declared.Event.{Event}
 use Rattle.sender.specs.declared.Acted.{Acted}
 use Rattle.sender_calls.specs.SenderCalls.{sender_words, sender_in, act_words, act_written, sender_call, open_call, ended_call, reset_call, timer_call, block_call, submit_call}
-use Rattle.sender_calls.specs.declared.Decoded.TheVariants.{Known}
 use Rattle.sender_calls.proofs.Laws.{timer_resends, block_resends}
 use Rattle.sender_calls.proofs.ReadBack.{words_read}
 use Rattle.link.specs.SenderActs.{Act, opened, ended, reset, timer, block, submit, act_of}
@@ -31,7 +31,7 @@ use Rattle.call_theorems.proofs.Verdicts.{made_again, sends_the_same}
 use Rattle.call_theorems.proofs.Shows.{Behind, behind_length, report_length, Does, done, refused}
 
 -- a refused act leaves the sender and names nothing
-step-refused : {r n : ℕ} {s t : Sender} {k : ℕ} {c : NumberedMessage} {e : Event} → Step r s n t c k e → leb 1 n ≡ true → (t ≡ s) × (c ≡ Nothing)
+step-refused : {r n : ℕ} {s t : Sender} {k : ℕ} {c : Option SequenceNumber} {e : Event} → Step r s n t c k e → leb 1 n ≡ true → (t ≡ s) × (c ≡ None)
 step-refused (refuses l) h = (refl, refl)
 step-refused (keeps w g j u) h = not_both (sym h)
 step-refused (starts g j f) h = not_both (sym h)
@@ -40,7 +40,7 @@ step-refused (abandons j l w) h = not_both (sym h)
 step-refused (shuts g j) h = not_both (sym h)
 
 module _ (s : Sender) (valid : valid_sender s ≡ true) (st p : List ℕ) (b : Behind (sender_words s) st) (h : 8 ≤ length p) where
-  encoded : sender_in st ≡ Known s
+  encoded : sender_in st ≡ Some s
   encoded = ap sender_in b.is ∙ words_read s b.rest
 
   call_is : (f : Sender → Acted) → sender_call f st p ≡ act_written st p (f s)
@@ -97,7 +97,7 @@ module _ (s : Sender) (valid : valid_sender s ≡ true) (st p : List ℕ) (b : B
       go true z = does (submit limit d) (λ (k : Sender). submit_of limit k d) refl
       go false z = let same = step-refused (steps s valid (submit limit d)) (limit_refused limit d z) in refused (limit_refused limit d z) (sym (limit_setting limit d z)) refl refl same.0 same.1 (inl (limit_setting limit d z))
 
-  pub block_does : (r : ℕ) → r ≤ 99 → (v : Verdict) (d : List ℕ) → reader_gives v ≡ true → Does s st p (block_read_of r s v d) (block_call r (number_of v) (type_of v) d st p)
+  pub block_does : (r : ℕ) → r ≤ 99 → (v : Result Accepted Refusal) (d : List ℕ) → reader_gives v ≡ true → Does s st p (block_read_of r s v d) (block_call r (number_of v) (type_of v) d st p)
   block_does r l v d given =
       subst (Does s st p (block_read_of r s v d)) (sym (block_resends r (number_of v) (type_of v) (passed_on v) d st p (made_again v given)))
       (subst (λ (z : Bool). Does s st p (block_read_of r s v d) (cond z (sender_call (λ (k : Sender). block_read_of r k (passed_on v) d) st p) (called 1 st [] p))) (sym (le-leb r 99 l))

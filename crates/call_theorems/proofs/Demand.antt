@@ -1,4 +1,5 @@
 -- Demand 3 of the C functions: every run of two drivers that call them is a run of the link, and so what they hold and have stored is as the demand says.
+use Rattle.std.specs.Prelude.{Option, Some, None, Result, Ok, Err}
 use mathlib.Core.Path.{◌≡◌, refl, sym, ap, ◌∙◌, subst}
 use mathlib.Core.List.{List, [], ◌∷◌, ◌++◌, map}
 use mathlib.Core.Bool.{Bool, true, false, cond, not, ◌&&◌}
@@ -13,9 +14,9 @@ use Rattle.lists.specs.Bytes.{same, over}
 use Rattle.lists.specs.Outcome.{Called, called}
 use Rattle.lists.proofs.Tests.{and_left, and_right}
 use Rattle.settings.specs.declared.Settings.{Settings}
-use Rattle.refusal.specs.Refusal.{number_of, type_of}
-use Rattle.refusal.specs.declared.Verdict.{Verdict}
-use Rattle.refusal.specs.declared.Verdict.TheVariants.{Accepted, Refused}
+use Rattle.refusal.specs.Refusal.{number_of, type_of, accepted_as}
+use Rattle.refusal.specs.declared.Accepted.{Accepted}
+use Rattle.refusal.specs.declared.Refusal.{Refusal}
 use Rattle.block.specs.Format.{block_of}
 use Rattle.writer.specs.Write.{need_of}
 use Rattle.fields.specs.Fields.{bytes_of}
@@ -25,17 +26,12 @@ use Rattle.header.specs.Header.{answer_field}
 use Rattle.stream.specs.Stream.{Judged}
 use Rattle.receiver.specs.Receiver.{reply_space, valid_expected}
 use Rattle.receiver.specs.declared.Application.{Application}
-use Rattle.receiver.specs.declared.Expected.{Expected}
-use Rattle.receiver.specs.declared.Expected.TheVariants.{Unknown, Next}
-use Rattle.receiver.specs.declared.Open.TheVariants.{NoDecision}
 use Rattle.receiver_calls.specs.ReceiverCalls.{expected_word, expected_from, application_from, is_type, decide_call}
-use Rattle.receiver_calls.specs.declared.ApplicationMade.TheVariants.{Known}
 use Rattle.words.specs.Words.{verdict_from}
 use Rattle.sender.specs.Sender.{valid_sender, is_open, waiting_message, waits_of, fresh_sender, sender_of, open_of}
 use Rattle.sender.specs.declared.Waiting.TheVariants.{Resynchronizing, Querying}
 use Rattle.sender.specs.declared.Sender.{Sender}
-use Rattle.sender.specs.declared.NumberedMessage.{NumberedMessage}
-use Rattle.sender.specs.declared.NumberedMessage.TheVariants.{Nothing, Numbered}
+use Rattle.numbers.specs.declared.SequenceNumber.{SequenceNumber}
 use Rattle.sender.specs.declared.Acted.{Acted}
 use Rattle.sender_calls.specs.SenderCalls.{flag_word, waiting_of, sender_words, send_words, fresh_call, open_call, submit_call}
 use Rattle.link.specs.Duties.{every, one_at, others_at}
@@ -84,13 +80,13 @@ flag_off true e = absurd (omega (arith, e))
 flag_off false e = refl
 
 -- a verdict with the number 0 and the type D is that of an accepted data block
-record AcceptedData (v : Verdict) : Type 0 where
+record AcceptedData (v : Result Accepted Refusal) : Type 0 where
   size : ℕ
-  is : v ≡ Accepted (code "D") size
+  is : v ≡ accepted_as (code "D") size
 
-accepted_data : (v : Verdict) → reader_gives v ≡ true → number_of v ≡ 0 → type_of v ≡ code "D" → AcceptedData v
-accepted_data (Accepted t n) g z d = record { size = n; is = ap (λ (k : ℕ). Accepted k n) d }
-accepted_data (Refused n i) g z d = let a = leb-true 3 n (and_left (leb 3 n) (leb n 8) g) in absurd (omega arith)
+accepted_data : (v : Result Accepted Refusal) → reader_gives v ≡ true → number_of v ≡ 0 → type_of v ≡ code "D" → AcceptedData v
+accepted_data (Ok v) g z d = record { size = v.data_length; is = ap (λ (k : ℕ). accepted_as k v.data_length) d }
+accepted_data (Err v) g z d = let a = leb-true 3 v.number (and_left (leb 3 v.number) (leb v.number 8) g) in absurd (omega arith)
 
 module _ (k : Passed) (ag : Agrees k) (rd : Ready k.link) where
   abbrev l : Link
@@ -216,7 +212,7 @@ module _ (k : Passed) (ag : Agrees k) (rd : Ready k.link) where
 
   module _ (left : DriversLeft) (given : all_given left.answers ≡ true) (m : SenderMemory) (n : ReceiverMemory) (w : ℕ) (enough : enough_to_send g m ≡ true) (space : enough_to_receive g n ≡ true)
       (state : valid_expected (expected_from w) ≡ true) where
-    abbrev e : Expected
+    abbrev e : Option ℕ
     e = expected_from w
 
     abbrev begun : Drivers
@@ -224,7 +220,7 @@ module _ (k : Passed) (ag : Agrees k) (rd : Ready k.link) where
 
     -- the same as the link has it
     abbrev remains : Remains
-    remains = record { forward = []; back = left.back; pending = left.pending; requests = []; answers = left.answers; decision = NoDecision; message = [] }
+    remains = record { forward = []; back = left.back; pending = left.pending; requests = []; answers = left.answers; decision = None; message = [] }
 
     only : OnlyAnswers remains
     only = record { forward = refl; requests = refl }
@@ -233,7 +229,7 @@ module _ (k : Passed) (ag : Agrees k) (rd : Ready k.link) where
     word_is : expected_word (expected_from w) ≡ w
     word_is = go (eqb w 0) refl
       where
-        go : (b : Bool) → eqb w 0 ≡ b → expected_word (cond b Unknown (Next w)) ≡ w
+        go : (b : Bool) → eqb w 0 ≡ b → expected_word (cond b None (Some w)) ≡ w
         go true z = sym (eqb-true w 0 z)
         go false z = refl
 
@@ -411,17 +407,17 @@ module _ (k : Passed) (ag : Agrees k) (rd : Ready k.link) where
             ap (λ (ws : List ℕ). sends_shown ws (report_of c ∷ x.sender.reports)) then_waits
             ∙ sends_shown_lem (waits_of a.sender) (each_more {y = reported a} (call_showed k rd (driven_by k begun ds) (link_end ds) sender_valid (calls_run ds) q o) (calls_run ds).sender.reports)
 
-        named : (m : NumberedMessage) → waits_of a.sender ≡ m → (waits_words c.state ≡ send_words_of c) ⊎ ((waits_words c.state ≡ 0 ∷ 0 ∷ []) ⊎ (waits_words c.state ≡ waits_words st))
-        named Nothing z = inr (inl (then_waits ∙ ap send_words z))
-        named (Numbered m) z = go (sends_at_once l rd remains only e state run (act_by k q) m z)
+        named : (m : Option SequenceNumber) → waits_of a.sender ≡ m → (waits_words c.state ≡ send_words_of c) ⊎ ((waits_words c.state ≡ 0 ∷ 0 ∷ []) ⊎ (waits_words c.state ≡ waits_words st))
+        named None z = inr (inl (then_waits ∙ ap send_words z))
+        named (Some m) z = go (sends_at_once l rd remains only e state run (act_by k q) m z)
           where
-            go : (a.send ≡ Numbered m) ⊎ (waits_of s ≡ Numbered m) → (waits_words c.state ≡ send_words_of c) ⊎ ((waits_words c.state ≡ 0 ∷ 0 ∷ []) ⊎ (waits_words c.state ≡ waits_words st))
+            go : (a.send ≡ Some m) ⊎ (waits_of s ≡ Some m) → (waits_words c.state ≡ send_words_of c) ⊎ ((waits_words c.state ≡ 0 ∷ 0 ∷ []) ⊎ (waits_words c.state ≡ waits_words st))
             go (inl y) = inl (then_waits ∙ ap send_words (z ∙ sym y) ∙ sym words.send)
             go (inr y) = inr (inr (then_waits ∙ ap send_words (z ∙ sym y) ∙ sym before_waits))
 
-        names_waiting : (m : NumberedMessage) → a.send ≡ m → (send_words_of c ≡ 0 ∷ 0 ∷ []) ⊎ (send_words_of c ≡ waits_words c.state)
-        names_waiting Nothing z = inl (words.send ∙ ap send_words z)
-        names_waiting (Numbered m) z = inr (words.send ∙ ap send_words (z ∙ sym (named_waits l rd remains only e state run (act_by k q) m z)) ∙ sym then_waits)
+        names_waiting : (m : Option SequenceNumber) → a.send ≡ m → (send_words_of c ≡ 0 ∷ 0 ∷ []) ⊎ (send_words_of c ≡ waits_words c.state)
+        names_waiting None z = inl (words.send ∙ ap send_words z)
+        names_waiting (Some m) z = inr (words.send ∙ ap send_words (z ∙ sym (named_waits l rd remains only e state run (act_by k q) m z)) ∙ sym then_waits)
 
         sent_again : eqb c.number 0 ≡ true → falls_due (act_by k q) ≡ true → abandoned_word c ≡ false → (send_words_of c ≡ waits_words st) × (waits_words c.state ≡ waits_words st)
         sent_again done d u =
@@ -506,11 +502,11 @@ module _ (k : Passed) (ag : Agrees k) (rd : Ready k.link) where
       calls_send = named_goes_out k ag rd (driven_by k begun ds) (link_end ds) (standing ds) (calls_run ds)
 
       -- an accepted block is decided on by gmv_receiver_decide while no decision is open, and refused by 11 while one is
-      pub calls_decide : (application t : ℕ) (a : Application) → application_from application ≡ Known a → is_type t ≡ true → (d : List ℕ) → is_open_word x.receiver.memory.state ≡ false
+      pub calls_decide : (application t : ℕ) (a : Application) → application_from application ≡ Some a → is_type t ≡ true → (d : List ℕ) → is_open_word x.receiver.memory.state ≡ false
           → (decide_call application t d x.receiver.memory.state x.receiver.memory.decision).number ≡ 0
       calls_decide = decide_done k ag rd (driven_by k begun ds) (link_end ds) (standing ds) (calls_run ds)
 
-      pub calls_held : (application t : ℕ) (a : Application) → application_from application ≡ Known a → is_type t ≡ true → (d : List ℕ) → is_open_word x.receiver.memory.state ≡ true
+      pub calls_held : (application t : ℕ) (a : Application) → application_from application ≡ Some a → is_type t ≡ true → (d : List ℕ) → is_open_word x.receiver.memory.state ≡ true
           → decide_call application t d x.receiver.memory.state x.receiver.memory.decision ≡ called 11 x.receiver.memory.state [] x.receiver.memory.decision
       calls_held = decide_held k ag rd (driven_by k begun ds) (link_end ds) (standing ds) (calls_run ds)
 

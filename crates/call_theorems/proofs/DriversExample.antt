@@ -1,4 +1,5 @@
 -- The drivers do their work: a run by the C functions alone, computed, in which a transaction is delivered, of either kind of block.
+use Rattle.refusal.specs.Refusal.{accepted_as}
 use mathlib.Core.Path.{◌≡◌, refl}
 use mathlib.Core.List.{List, [], ◌∷◌, ◌++◌}
 use mathlib.Core.Bool.{true, false}
@@ -22,7 +23,6 @@ use Rattle.numbers.specs.Numbers.{number_field, decimal, text_of}
 use Rattle.numbers.specs.declared.SequenceNumber.{SequenceNumber}
 use Rattle.numbers.specs.declared.SequenceNumber.TheVariants.{MinusOne, Number}
 use Rattle.header.specs.declared.Code.TheVariants.{AA}
-use Rattle.refusal.specs.declared.Verdict.TheVariants.{Accepted}
 use Rattle.messages.specs.Messages.{answer_message, control_message, valid_control_id, valid_type, message_type}
 use Rattle.control_block.specs.ControlBlock.{control_block_of}
 use Rattle.control_id.specs.ControlId.{packed, unpacked, in_words, word_bytes, bytes_in}
@@ -96,7 +96,7 @@ answers_left k =
     record {
       back = old_answer k MinusOne ++ old_answer k (Number 1);
       pending = old_answer k (Number 1) ∷ [];
-      answers = record { offset = 0; verdict = Accepted (code "D") 42; content = answer_message (text_of (Number 1)) AA (Number 1) } ∷ [];
+      answers = record { offset = 0; verdict = accepted_as (code "D") 42; content = answer_message (text_of (Number 1)) AA (Number 1) } ∷ [];
     }
 
 none_left : DriversLeft

@@ -1,4 +1,5 @@
 -- Each act of the drivers is some acts of the link, or none.
+use Rattle.std.specs.Prelude.{Some}
 use mathlib.Core.Path.{◌≡◌, refl, sym, ap, ◌∙◌, subst}
 use mathlib.Core.List.{List, [], ◌∷◌, ◌++◌}
 use mathlib.Core.Bool.{Bool, true, false, cond, ◌&&◌}
@@ -12,7 +13,6 @@ use Rattle.lists.specs.Outcome.{Called, called}
 use Rattle.lists.proofs.Tests.{and_left, and_right}
 use Rattle.settings.specs.Settings.{valid, capacity_of, link_of}
 use Rattle.settings.specs.declared.Settings.{Settings}
-use Rattle.settings.specs.declared.Made.TheVariants.{Valid}
 use Rattle.stream.specs.Stream.{Judged, between}
 use Rattle.stream.specs.Scan.{fresh}
 use Rattle.block_calls.specs.ReaderWords.{reader_words}
@@ -61,13 +61,13 @@ module _ (k : Passed) (ag : Agrees k) (rd : Ready k.link) where
   pub settings_valid : valid g ≡ true
   settings_valid = link-valid g rd.settings
 
-  pub link_made : link_of (made_from k.numbers) ≡ Valid g
+  pub link_made : link_of (made_from k.numbers) ≡ Some g
   link_made = ap link_of ag.settings ∙ rw (le-leb 128 g.data_limit (link_limit g rd.settings))
 
   taken : Taken (made_from k.numbers) g
   taken = go k.numbers ag.settings
     where
-      go : (n : SettingNumbers) → made_from n ≡ Valid g → Taken (made_from n) g
+      go : (n : SettingNumbers) → made_from n ≡ Some g → Taken (made_from n) g
       go (hybrid_numbers sb eb d) e = hybrid sb eb d e
       go (minimal_numbers d) e = minimal d e
 

@@ -1,4 +1,5 @@
 -- One call of gmv_*_read: what its words say of the answer. From any words whatever it uses at most the part, and a verdict takes at least one byte.
+use Rattle.std.specs.Prelude.{Option, Some, None, Result, Ok, Err}
 use mathlib.Core.Path.{◌≡◌, refl, sym, ap, ◌∙◌}
 use mathlib.Core.List.{List, ◌++◌}
 use mathlib.Core.Bool.{Bool, true, false, cond, ◌&&◌, true≢false}
@@ -14,23 +15,18 @@ use Rattle.lists.proofs.Tests.{and_left, and_right, cond_ind}
 use Rattle.lists.proofs.Calls.{over-is}
 use Rattle.settings.specs.Settings.{valid, capacity_of, data_offset_of}
 use Rattle.settings.specs.declared.Settings.{Settings}
-use Rattle.settings.specs.declared.Made.{Made}
-use Rattle.settings.specs.declared.Made.TheVariants.{Valid, Refused as BadSetting}
-use Rattle.refusal.specs.declared.Verdict.{Verdict}
-use Rattle.refusal.specs.declared.Verdict.TheVariants.{Accepted, Refused as RefusedBlock}
+use Rattle.refusal.specs.declared.Accepted.{Accepted}
+use Rattle.refusal.specs.declared.Refusal.{Refusal}
 use Rattle.stream.specs.Stream.{judged}
 use Rattle.stream.specs.Scan.{read_of}
 use Rattle.block.specs.Content.{content_of}
 use Rattle.stream.specs.declared.Reader.{Reader}
 use Rattle.stream.specs.declared.Reading.{Reading}
-use Rattle.stream.specs.declared.Answer.{Answer}
-use Rattle.stream.specs.declared.Answer.TheVariants.{Refused, Pending, Found}
+use Rattle.stream.specs.declared.Found.{Found}
 use Rattle.block_theorems.proofs.Calls.{call_most, call_goes, call_whole}
 use Rattle.block_calls.specs.ReaderWords.{reader_words, decoded, verdict_words, pending_words}
 use Rattle.block_calls.specs.Internal.{read_known}
 use Rattle.block_calls.specs.ReadCalls.{read_answered, read_finished, read_decoded, read_call}
-use Rattle.block_calls.specs.declared.Decoded.{Decoded}
-use Rattle.block_calls.specs.declared.Decoded.TheVariants.{Unknown, Known}
 use Rattle.block_calls.proofs.ReadLaws.{read_enough}
 use Rattle.call_theorems.specs.Reading.{shown, found_block, used_bytes, shown_by, new_verdict, Driven, driven, followed_by, part_calls}
 use Rattle.call_theorems.proofs.Verdicts.{answer_gives, read_gives}
@@ -62,10 +58,10 @@ pub record Leaves (c : Called) (r : Reader) (b : List ℕ) (n : ℕ) (d : Called
   pub beyond : drop 8 d.report ≡ drop 8 c.report
 
 module _ (g : Settings) (c : Called) (h : 8 ≤ length c.report) (r : Reader) (b : List ℕ) (n : ℕ) where
-  abbrev answered : Answer → Called
+  abbrev answered : Result (Option Found) Refusal → Called
   answered a = read_answered g c.state c.report r b n a
 
-  pub pending_leaves : Leaves c r b n (answered Pending)
+  pub pending_leaves : Leaves c r b n (answered (Ok None))
   unfolding pending_words
   pending_leaves =
       record {
@@ -77,12 +73,12 @@ module _ (g : Settings) (c : Called) (h : 8 ≤ length c.report) (r : Reader) (b
         beyond = over_beyond c.report (pending_words n) h;
       }
 
-  pub pending_none : found_block (answered Pending) ≡ false
+  pub pending_none : found_block (answered (Ok None)) ≡ false
   unfolding pending_words
   pending_none = rw (over-is c.report (pending_words n) h)
 
-  module _ (s : ℕ) (v : Verdict) where
-    pub found_leaves : Leaves c r b n (answered (Found s v))
+  module _ (s : ℕ) (v : Result Accepted Refusal) where
+    pub found_leaves : Leaves c r b n (answered (Ok (Some (record { block_offset = s; verdict = v }))))
     unfolding verdict_words
     found_leaves =
         let ws = verdict_words s v (data_offset_of g) n in
@@ -95,23 +91,23 @@ module _ (g : Settings) (c : Called) (h : 8 ≤ length c.report) (r : Reader) (b
           beyond = over_beyond c.report ws h;
         }
 
-    pub found_one : found_block (answered (Found s v)) ≡ true
+    pub found_one : found_block (answered (Ok (Some (record { block_offset = s; verdict = v })))) ≡ true
     unfolding verdict_words
     found_one = rw (over-is c.report (verdict_words s v (data_offset_of g) n) h)
 
   -- the data that the words name is that of the verdict
-  words_show : (s : ℕ) (v : Verdict) (rest : List ℕ) → shown_by (called 0 c.state b (verdict_words s v (data_offset_of g) n ++ rest)) ≡ shown g (judged g s v b)
+  words_show : (s : ℕ) (v : Result Accepted Refusal) (rest : List ℕ) → shown_by (called 0 c.state b (verdict_words s v (data_offset_of g) n ++ rest)) ≡ shown g (judged g s v b)
   unfolding verdict_words content_of
-  words_show s (Accepted t m) rest = refl
-  words_show s (RefusedBlock k i) rest = refl
+  words_show s (Ok v) rest = refl
+  words_show s (Err v) rest = refl
 
-  pub found_shows : (s : ℕ) (v : Verdict) → shown_by (answered (Found s v)) ≡ shown g (judged g s v b)
+  pub found_shows : (s : ℕ) (v : Result Accepted Refusal) → shown_by (answered (Ok (Some (record { block_offset = s; verdict = v })))) ≡ shown g (judged g s v b)
   unfolding verdict_words
   found_shows s v = rw (over-is c.report (verdict_words s v (data_offset_of g) n) h) (words_show s v (drop 8 c.report))
 
 -- ---- from words that encode a reader, the call is its reading
-pub call_is : (g : Settings) (c : Called) (xs : List ℕ) (r : Reader) → 4 ≤ length c.state → 8 ≤ length c.report → decoded c.state ≡ Known r
-    → read_call (Valid g) c.state xs c.buffer c.report ≡ read_finished g c.state c.report (read_of g r xs c.buffer)
+pub call_is : (g : Settings) (c : Called) (xs : List ℕ) (r : Reader) → 4 ≤ length c.state → 8 ≤ length c.report → decoded c.state ≡ Some r
+    → read_call (Some g) c.state xs c.buffer c.report ≡ read_finished g c.state c.report (read_of g r xs c.buffer)
 call_is g c xs r h l e =
     sym (read_enough g c.state xs c.buffer c.report (rw (le-leb 4 (length c.state) h, le-leb 8 (length c.report) l)))
     ∙ ap (read_known g c.state xs c.buffer c.report) e
@@ -136,8 +132,8 @@ module _ (g : Settings) (r : Reader) (xs b : List ℕ) (c : Called) (h : 8 ≤ l
   abbrev reading : Reading
   reading = (read_of g r xs b).answer
 
-  reading_uses : (a : Answer) → reading.answer ≡ a → Uses xs (read_answered g c.state c.report reading.reader (read_of g r xs b).buffer reading.used a)
-  reading_uses Pending e =
+  reading_uses : (a : Result (Option Found) Refusal) → reading.answer ≡ a → Uses xs (read_answered g c.state c.report reading.reader (read_of g r xs b).buffer reading.used a)
+  reading_uses (Ok None) e =
       let n = reading.used in
       let f = (pending_leaves g c h reading.reader (read_of g r xs b).buffer n).used in
       record {
@@ -145,24 +141,24 @@ module _ (g : Settings) (r : Reader) (xs b : List ℕ) (c : Called) (h : 8 ≤ l
         all = λ z o. f ∙ call_whole g r xs b e;
         some = λ o. absurd (true≢false (sym o ∙ pending_none g c h reading.reader (read_of g r xs b).buffer n));
       }
-  reading_uses (Found s v) e =
+  reading_uses (Ok (Some found)) e =
       let n = reading.used in
-      let f = (found_leaves g c h reading.reader (read_of g r xs b).buffer n s v).used in
+      let f = (found_leaves g c h reading.reader (read_of g r xs b).buffer n found.block_offset found.verdict).used in
       record {
         most = λ z. rw f (call_most g r xs b);
-        all = λ z o. absurd (true≢false (sym (found_one g c h reading.reader (read_of g r xs b).buffer n s v) ∙ o));
-        some = λ o. rw f (call_goes g r xs b s v e);
+        all = λ z o. absurd (true≢false (sym (found_one g c h reading.reader (read_of g r xs b).buffer n found.block_offset found.verdict) ∙ o));
+        some = λ o. rw f (call_goes g r xs b found.block_offset found.verdict e);
       }
-  reading_uses (Refused n) e = refused_uses xs _ _ _ n (ap answer_gives (sym e) ∙ read_gives g r xs b)
+  reading_uses (Err why) e = refused_uses xs _ _ _ why.number (ap answer_gives (sym e) ∙ read_gives g r xs b)
 
-decoded_uses : (g : Settings) (c : Called) (xs : List ℕ) (d : Decoded) → 8 ≤ length c.report → Uses xs (read_decoded g c.state xs c.buffer c.report d)
-decoded_uses g c xs Unknown h = refused_uses xs _ _ _ 11 refl
-decoded_uses g c xs (Known r) h = reading_uses g r xs c.buffer c h (read_of g r xs c.buffer).answer.answer refl
+decoded_uses : (g : Settings) (c : Called) (xs : List ℕ) (d : Option Reader) → 8 ≤ length c.report → Uses xs (read_decoded g c.state xs c.buffer c.report d)
+decoded_uses g c xs None h = refused_uses xs _ _ _ 11 refl
+decoded_uses g c xs (Some r) h = reading_uses g r xs c.buffer c h (read_of g r xs c.buffer).answer.answer refl
 
-pub call_uses : (s : Made) (c : Called) (xs : List ℕ) → Uses xs (read_call s c.state xs c.buffer c.report)
+pub call_uses : (s : Option Settings) (c : Called) (xs : List ℕ) → Uses xs (read_call s c.state xs c.buffer c.report)
 unfolding read_call
-call_uses BadSetting c xs = refused_uses xs _ _ _ 1 refl
-call_uses (Valid g) c xs =
+call_uses None c xs = refused_uses xs _ _ _ 1 refl
+call_uses (Some g) c xs =
     let states = leb 4 (length c.state) in
     let reports = leb 8 (length c.report) in
     cond_ind (Uses xs) (valid g) _ _
@@ -173,13 +169,13 @@ call_uses (Valid g) c xs =
     (λ v. refused_uses xs _ _ _ 1 refl)
 
 -- a driver goes on after a call only where it used at least one byte
-abbrev call_on : Made → Called → List ℕ → Called
+abbrev call_on : Option Settings → Called → List ℕ → Called
 call_on s c xs = read_call s c.state xs c.buffer c.report
 
-goes_less : (s : Made) (c : Called) (xs : List ℕ) → (eqb (call_on s c xs).number 0 && ltb (used_bytes (call_on s c xs)) (length xs)) ≡ true → used_bytes (call_on s c xs) < length xs
+goes_less : (s : Option Settings) (c : Called) (xs : List ℕ) → (eqb (call_on s c xs).number 0 && ltb (used_bytes (call_on s c xs)) (length xs)) ≡ true → used_bytes (call_on s c xs) < length xs
 goes_less s c xs z = ltb-true (used_bytes (call_on s c xs)) (length xs) (and_right (eqb (call_on s c xs).number 0) (ltb (used_bytes (call_on s c xs)) (length xs)) z)
 
-goes_on_lem : (s : Made) (c : Called) (xs : List ℕ) → (eqb (call_on s c xs).number 0 && ltb (used_bytes (call_on s c xs)) (length xs)) ≡ true → 1 ≤ used_bytes (call_on s c xs)
+goes_on_lem : (s : Option Settings) (c : Called) (xs : List ℕ) → (eqb (call_on s c xs).number 0 && ltb (used_bytes (call_on s c xs)) (length xs)) ≡ true → 1 ≤ used_bytes (call_on s c xs)
 goes_on_lem s c xs z = go (found_block (call_on s c xs)) refl
   where
     e : (call_on s c xs).number ≡ 0
@@ -190,7 +186,7 @@ goes_on_lem s c xs z = go (found_block (call_on s c xs)) refl
     go false f = let k = (call_uses s c xs).all e f in let l = goes_less s c xs z in absurd (omega arith)
 
 -- so the loop over a part ends: each call that is followed by another has used a byte, and with more calls allowed than bytes one more changes nothing
-pub part_ends : (s : Made) (n : ℕ) (c : Called) (xs : List ℕ) → length xs < n → part_calls s (suc n) c xs ≡ part_calls s n c xs
+pub part_ends : (s : Option Settings) (n : ℕ) (c : Called) (xs : List ℕ) → length xs < n → part_calls s (suc n) c xs ≡ part_calls s n c xs
 unfolding part_calls
 part_ends s zero c xs h = absurd (omega arith)
 part_ends s (suc n) c xs h =

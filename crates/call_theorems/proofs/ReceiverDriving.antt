@@ -1,4 +1,5 @@
 -- The receiver's driver reads, decides, stores, reports, replies and crashes: each is a run of the link.
+use Rattle.std.specs.Prelude.{Option, Some, None, Result, Ok, Err}
 use mathlib.Core.Path.{◌≡◌, refl, sym, ap, ◌∙◌, subst}
 use mathlib.Core.List.{List, [], ◌∷◌, ◌++◌, append_assoc, append-nil}
 use mathlib.Core.Bool.{Bool, true, false, cond, not, ◌&&◌}
@@ -14,30 +15,22 @@ use Rattle.lists.proofs.Calls.{over-is}
 use Rattle.lists.proofs.Tests.{cond_ind, and_left, and_right}
 use Rattle.settings.specs.Settings.{valid_link}
 use Rattle.settings.specs.declared.Settings.{Settings}
-use Rattle.settings.specs.declared.Made.{Made}
-use Rattle.settings.specs.declared.Made.TheVariants.{Valid}
 use Rattle.words.specs.Words.{report_words}
 use Prim.Native.Char.{code}
 use Rattle.settings.specs.DataBytes.{all_allowed}
 use Rattle.fields.specs.Fields.{bytes_of}
 use Rattle.numbers.specs.declared.SequenceNumber.TheVariants.{MinusOne, Number}
-use Rattle.numbers.specs.declared.NumberField.{NumberField}
-use Rattle.numbers.specs.declared.NumberField.TheVariants.{Missing, NotNumber, Present}
+use Rattle.numbers.specs.declared.SequenceNumber.{SequenceNumber}
+use Rattle.numbers.specs.declared.NumberError.{NumberError}
 use Rattle.header.specs.Header.{header_of}
 use Rattle.header.specs.declared.Header.{Header}
-use Rattle.header.specs.declared.Header.TheVariants.{Unreadable, Readable}
 use Rattle.header.specs.declared.Code.{Code}
 use Rattle.header.specs.declared.Code.TheVariants.{AA, AE, AR}
 use Rattle.stream.specs.Stream.{Judged, run}
 use Rattle.receiver.specs.Receiver.{reply_space, valid_receiver, closed, is_closed, same_expected, row_of, header_decided, is_block_number, refused, replied, reported_of, nak_reply, decide_of, answer_of, nak_of}
 use Rattle.receiver.specs.declared.Application.{Application}
-use Rattle.receiver.specs.declared.Expected.{Expected}
-use Rattle.receiver.specs.declared.Expected.TheVariants.{Unknown, Next}
-use Rattle.receiver.specs.declared.Transaction.{Transaction}
-use Rattle.receiver.specs.declared.Transaction.TheVariants.{NoTransaction, Numbered}
 use Rattle.receiver.specs.declared.Row.{Row}
-use Rattle.receiver.specs.declared.Open.{Open}
-use Rattle.receiver.specs.declared.Open.TheVariants.{NoDecision, Decision}
+use Rattle.receiver.specs.declared.Decision.{Decision}
 use Rattle.receiver.specs.declared.Receiver.{Receiver}
 use Rattle.receiver.specs.declared.Decided.{Decided}
 use Rattle.receiver.specs.declared.Answered.{Answered}
@@ -48,12 +41,6 @@ use Rattle.control_id.specs.ControlId.{in_words}
 use Rattle.control_id.specs.declared.ControlId.{ControlId}
 use Rattle.numbers.specs.Numbers.{text_of}
 use Rattle.receiver_calls.specs.ReceiverCalls.{answered_as, answer_words, answer_with, answer_call, nak_as, nak_words, nak_with, nak_call}
-use Rattle.receiver_calls.specs.declared.ApplicationMade.{ApplicationMade}
-use Rattle.receiver_calls.specs.declared.ApplicationMade.TheVariants.{Unknown as NoApplication, Known as AnApplication}
-use Rattle.receiver_calls.specs.declared.OutcomeMade.{OutcomeMade}
-use Rattle.receiver_calls.specs.declared.OutcomeMade.TheVariants.{Known as AnOutcome}
-use Rattle.receiver_calls.specs.declared.Decoded.{Decoded}
-use Rattle.receiver_calls.specs.declared.Decoded.TheVariants.{Known as AReceiver}
 use Rattle.receiver_calls.proofs.ReadBack.{words_read}
 use Rattle.link.specs.Duties.{every, one_at, others_at}
 use Rattle.link.specs.Line.{Reader, Line, line, empty_line, reads_byte, reader_after}
@@ -79,9 +66,9 @@ use Rattle.call_theorems.proofs.Driving.{Goes, stays, by_act, settings_valid, li
 use Rattle.call_theorems.proofs.SenderDriving.{each_others, each_both, repeated-run}
 
 -- the transaction is there where its word is not 0
-transaction_is : (t : Transaction) → ((n : ℕ) → t ≡ Numbered n → 1 ≤ n) → (d : List ℕ) (ts : List (List ℕ)) → cond (eqb (transaction_word t) 0) ts (ts ++ d ∷ []) ≡ has_with t d ts
-transaction_is NoTransaction s d ts = refl
-transaction_is (Numbered n) s d ts = let l = s n refl in rw (ne_eqb n 0 (λ (e : n ≡ 0). omega arith))
+transaction_is : (t : Option ℕ) → ((n : ℕ) → t ≡ Some n → 1 ≤ n) → (d : List ℕ) (ts : List (List ℕ)) → cond (eqb (transaction_word t) 0) ts (ts ++ d ∷ []) ≡ has_with t d ts
+transaction_is None s d ts = refl
+transaction_is (Some n) s d ts = let l = s n refl in rw (ne_eqb n 0 (λ (e : n ≡ 0). omega arith))
 
 code_some : (c : Code) → eqb (code_word c) 0 ≡ false
 code_some AA = refl
@@ -92,16 +79,16 @@ code_some AR = refl
 open_is : (s : Receiver) (rest : List ℕ) → is_open_word (receiver_words s ++ rest) ≡ not (is_closed s.decision)
 open_is s rest = go s.decision
   where
-    go : (o : Open) → is_open_word (receiver_words (record { expected = s.expected; decision = o }) ++ rest) ≡ not (is_closed o)
-    go NoDecision = refl
-    go (Decision id r) = ap not (code_some r.code)
+    go : (o : Option Decision) → is_open_word (receiver_words (record { expected = s.expected; decision = o }) ++ rest) ≡ not (is_closed o)
+    go None = refl
+    go (Some o) = ap not (code_some o.row.code)
 
 nine : (s : Receiver) → 9 ≡ length (receiver_words s)
 nine s = go s.decision
   where
-    go : (o : Open) → 9 ≡ length (receiver_words (record { expected = s.expected; decision = o }))
-    go NoDecision = refl
-    go (Decision id r) = refl
+    go : (o : Option Decision) → 9 ≡ length (receiver_words (record { expected = s.expected; decision = o }))
+    go None = refl
+    go (Some o) = refl
 
 and_none : (u : Bool) → (u && false) ≡ false
 and_none true = refl
@@ -111,14 +98,14 @@ and-all : (u : Bool) → (u && true) ≡ u
 and-all true = refl
 and-all false = refl
 
-outcome_made : (b : Bool) → outcome_from (flag b) ≡ AnOutcome b
+outcome_made : (b : Bool) → outcome_from (flag b) ≡ Some b
 outcome_made true = refl
 outcome_made false = refl
 
 -- a decision where none is open is not refused, and where one is it is 11
-header_taken : (a : Application) (s : Receiver) (d : List ℕ) (h : Header) → (header_decided a s d h).refusal ≡ 0
-header_taken a s d Unreadable = refl
-header_taken a s d (Readable id seq) = cond_ind (λ (x : Decided). x.refusal ≡ 0) (all_allowed (bytes_of id d)) _ _ (λ e. refl) (λ e. refl)
+header_taken : (a : Application) (s : Receiver) (d : List ℕ) (h : Option Header) → (header_decided a s d h).refusal ≡ 0
+header_taken a s d None = refl
+header_taken a s d (Some h) = cond_ind (λ (x : Decided). x.refusal ≡ 0) (all_allowed (bytes_of h.control_id d)) _ _ (λ e. refl) (λ e. refl)
 
 decide_taken : (a : Application) (s : Receiver) (t : ℕ) (d : List ℕ) → valid_receiver s ≡ true → is_closed s.decision ≡ true → (decide_of a s t d).refusal ≡ 0
 unfolding decide_of
@@ -126,17 +113,16 @@ decide_taken a s t d v c =
     rw (v, c) (cond_ind (λ (x : Decided). x.refusal ≡ 0) (eqb t (code "N")) _ _ (λ e. refl) (λ e. header_taken a s d (header_of d)))
 
 -- a row that changes nothing has no transaction
-unchanged-row : (a : Application) (e : Expected) (f : NumberField) → (row_of a e f).persisted.expected ≡ e → (row_of a e f).persisted.transaction ≡ NoTransaction
+unchanged-row : (a : Application) (e : Option ℕ) (f : Result SequenceNumber NumberError) → (row_of a e f).persisted.expected ≡ e → (row_of a e f).persisted.transaction ≡ None
 unfolding row_of
-unchanged-row a e Missing = λ z. refl
-unchanged-row a e NotNumber = λ z. refl
-unchanged-row a e (Present MinusOne) = λ z. refl
-unchanged-row a Unknown (Present (Number n)) =
-    cond_ind (λ (r : Row). r.persisted.expected ≡ Unknown → r.persisted.transaction ≡ NoTransaction) (eqb n 0) _ _ (λ z u. refl) (λ z (u : Next (n + 1) ≡ Unknown). not_both cc)
-unchanged-row a (Next e) (Present (Number n)) =
-    cond_ind (λ (r : Row). r.persisted.expected ≡ Next e → r.persisted.transaction ≡ NoTransaction) (eqb n 0) _ _ (λ z u. refl)
-    (λ z. cond_ind (λ (r : Row). r.persisted.expected ≡ Next e → r.persisted.transaction ≡ NoTransaction) (eqb n e) _ _
-    (λ y (u : Next (n + 1) ≡ Next e). let m = eqb-true n e y in let k : n + 1 ≡ e = cc in absurd (omega arith)) (λ y u. refl))
+unchanged-row a e (Err why) = λ z. refl
+unchanged-row a e (Ok MinusOne) = λ z. refl
+unchanged-row a None (Ok (Number n)) =
+    cond_ind (λ (r : Row). r.persisted.expected ≡ None → r.persisted.transaction ≡ None) (eqb n 0) _ _ (λ z u. refl) (λ z (u : Some (n + 1) ≡ None). not_both cc)
+unchanged-row a (Some e) (Ok (Number n)) =
+    cond_ind (λ (r : Row). r.persisted.expected ≡ Some e → r.persisted.transaction ≡ None) (eqb n 0) _ _ (λ z u. refl)
+    (λ z. cond_ind (λ (r : Row). r.persisted.expected ≡ Some e → r.persisted.transaction ≡ None) (eqb n e) _ _
+    (λ y (u : Some (n + 1) ≡ Some e). let m = eqb-true n e y in let k : n + 1 ≡ e = cc in absurd (omega arith)) (λ y u. refl))
 
 -- a report's words: the reply's length is the first of them
 report_word_lem : (p : List ℕ) (n : ℕ) → 2 ≤ length p → get_or (over p (report_words n 0)) 0 0 ≡ n
@@ -181,7 +167,7 @@ module _ (k : Passed) (ag : Agrees k) (rd : Ready k.link) (x : Drivers) (y : Sys
   state_long : 9 ≤ length st
   state_long = let n = nine s in let m = behind_length h.receiver.state in omega arith
 
-  state_read : receiver_in st ≡ AReceiver s
+  state_read : receiver_in st ≡ Some s
   state_read = ap receiver_in h.receiver.state.is ∙ words_read s h.receiver.state.rest i.ends.receiver_valid
 
   -- ---- reading
@@ -247,11 +233,11 @@ module _ (k : Passed) (ag : Agrees k) (rd : Ready k.link) (x : Drivers) (y : Sys
             }
 
   -- ---- a decision
-  module _ (application : ℕ) (a : Application) (known : application_from application ≡ AnApplication a) (t : ℕ) (d : List ℕ) (type : is_type t ≡ true) where
+  module _ (application : ℕ) (a : Application) (known : application_from application ≡ Some a) (t : ℕ) (d : List ℕ) (type : is_type t ≡ true) where
     decision_is : decide_call application t d st q ≡ decided_as st q (decide_of a s t d)
     unfolding decide_call
     decision_is =
-        ap (λ (z : ApplicationMade). decide_for z t d st q) known
+        ap (λ (z : Option Application). decide_for z t d st q) known
         ∙ rw (type, le-leb 9 (length st) state_long, le-leb 5 (length q) h.receiver.decision)
         (ap (decide_with a t d st q) state_read)
 
@@ -268,16 +254,16 @@ module _ (k : Passed) (ag : Agrees k) (rd : Ready k.link) (x : Drivers) (y : Sys
     abbrev report : List ℕ
     report = over q (decision_words x')
 
-    five : (o : Open) → over q (x'.block ∷ flag x'.opened ∷ to_store x' o) ≡ (x'.block ∷ flag x'.opened ∷ to_store x' o) ++ drop 5 q
-    five NoDecision = over-is q _ h.receiver.decision
-    five (Decision id r) = over-is q _ h.receiver.decision
+    five : (o : Option Decision) → over q (x'.block ∷ flag x'.opened ∷ to_store x' o) ≡ (x'.block ∷ flag x'.opened ∷ to_store x' o) ++ drop 5 q
+    five None = over-is q _ h.receiver.decision
+    five (Some o) = over-is q _ h.receiver.decision
 
     report_long : 5 ≤ length report
-    report_long = go (cond x'.opened x'.receiver.decision NoDecision)
+    report_long = go (cond x'.opened x'.receiver.decision None)
       where
-        go : (o : Open) → 5 ≤ length (over q (x'.block ∷ flag x'.opened ∷ to_store x' o))
-        go NoDecision = let z = over-length q (x'.block ∷ flag x'.opened ∷ to_store x' NoDecision) h.receiver.decision in let m = h.receiver.decision in omega arith
-        go (Decision id r) = let z = over-length q (x'.block ∷ flag x'.opened ∷ to_store x' (Decision id r)) h.receiver.decision in let m = h.receiver.decision in omega arith
+        go : (o : Option Decision) → 5 ≤ length (over q (x'.block ∷ flag x'.opened ∷ to_store x' o))
+        go None = let z = over-length q (x'.block ∷ flag x'.opened ∷ to_store x' None) h.receiver.decision in let m = h.receiver.decision in omega arith
+        go (Some o) = let z = over-length q (x'.block ∷ flag x'.opened ∷ to_store x' (Some (record { control_id = o.control_id; row = o.row }))) h.receiver.decision in let m = h.receiver.decision in omega arith
 
     abbrev done_call : Called
     done_call = called 0 (cond x'.opened (over st (receiver_words x'.receiver)) st) [] report
@@ -310,18 +296,18 @@ module _ (k : Passed) (ag : Agrees k) (rd : Ready k.link) (x : Drivers) (y : Sys
           back = h.back;
         }
 
-    note_new : x'.opened ≡ true → (o : Open) → x'.receiver.decision ≡ o → SameNote (noted_by x.receiver.noted d done_call) d x'.receiver.expected o
-    note_new z NoDecision e = refl
-    note_new z (Decision id r) e =
+    note_new : x'.opened ≡ true → (o : Option Decision) → x'.receiver.decision ≡ o → SameNote (noted_by x.receiver.noted d done_call) d x'.receiver.expected o
+    note_new z None e = refl
+    note_new z (Some held) e =
         ap (λ (ws : List ℕ). cond (eqb (get_or ws 1 0) 0) x.receiver.noted (noted (get_or ws 2 0) (get_or ws 3 0) (get_or ws 4 0) d))
-        (ap (λ (u : Bool). over q (x'.block ∷ flag u ∷ to_store x' (cond u x'.receiver.decision NoDecision))) z
-        ∙ ap (λ (o : Open). over q (x'.block ∷ 1 ∷ to_store x' o)) e
+        (ap (λ (u : Bool). over q (x'.block ∷ flag u ∷ to_store x' (cond u x'.receiver.decision None))) z
+        ∙ ap (λ (o : Option Decision). over q (x'.block ∷ 1 ∷ to_store x' o)) e
         ∙ over-is q _ h.receiver.decision)
 
     note_old : x'.opened ≡ false → noted_by x.receiver.noted d done_call ≡ x.receiver.noted
     note_old z =
         ap (λ (ws : List ℕ). cond (eqb (get_or ws 1 0) 0) x.receiver.noted (noted (get_or ws 2 0) (get_or ws 3 0) (get_or ws 4 0) d))
-        (ap (λ (u : Bool). over q (x'.block ∷ flag u ∷ to_store x' (cond u x'.receiver.decision NoDecision))) z ∙ over-is q _ h.receiver.decision)
+        (ap (λ (u : Bool). over q (x'.block ∷ flag u ∷ to_store x' (cond u x'.receiver.decision None))) z ∙ over-is q _ h.receiver.decision)
 
     decided_shows : (x'.opened ≡ false → x'.receiver ≡ s) → Shows l decided_drivers decided_system
     decided_shows same = go x'.opened refl
@@ -366,18 +352,18 @@ module _ (k : Passed) (ag : Agrees k) (rd : Ready k.link) (x : Drivers) (y : Sys
     refused_goes : offered.number ≡ 1 → decided_by x w.content ws offered ≡ x
     refused_goes e = ap (λ (n : ℕ). cond (eqb n 0) (after_decision w.content ws offered) x) e
 
-    unknown_refused : (z : ApplicationMade) → application_from application ≡ z → z ≡ NoApplication → offered.number ≡ 1
+    unknown_refused : (z : Option Application) → application_from application ≡ z → z ≡ None → offered.number ≡ 1
     unfolding decide_call
-    unknown_refused z e u = ap (λ (n : ApplicationMade). (decide_for n w.type w.content st q).number) (e ∙ u)
+    unknown_refused z e u = ap (λ (n : Option Application). (decide_for n w.type w.content st q).number) (e ∙ u)
 
-    type_refused : (a : Application) → application_from application ≡ AnApplication a → is_type w.type ≡ false → offered.number ≡ 1
+    type_refused : (a : Application) → application_from application ≡ Some a → is_type w.type ≡ false → offered.number ≡ 1
     unfolding decide_call
-    type_refused a e u = ap (λ (n : ApplicationMade). (decide_for n w.type w.content st q).number) e ∙ rw u
+    type_refused a e u = ap (λ (n : Option Application). (decide_for n w.type w.content st q).number) e ∙ rw u
 
-    one_decided : (z : ApplicationMade) → application_from application ≡ z → Goes l (decides_on z (w ∷ ws)) (oldest_decided application x (w ∷ ws)) y
-    one_decided NoApplication e =
-        stays l _ y (cond_ind (λ (u : Drivers). Shows l u y) (eqb w.number 0) _ _ (λ n. subst (λ (u : Drivers). Shows l u y) (sym (refused_goes (unknown_refused NoApplication e refl))) h) (λ n. h))
-    one_decided (AnApplication a) e = go (eqb w.number 0) (is_type w.type) refl refl
+    one_decided : (z : Option Application) → application_from application ≡ z → Goes l (decides_on z (w ∷ ws)) (oldest_decided application x (w ∷ ws)) y
+    one_decided None e =
+        stays l _ y (cond_ind (λ (u : Drivers). Shows l u y) (eqb w.number 0) _ _ (λ n. subst (λ (u : Drivers). Shows l u y) (sym (refused_goes (unknown_refused None e refl))) h) (λ n. h))
+    one_decided (Some a) e = go (eqb w.number 0) (is_type w.type) refl refl
       where
         go : (n t : Bool) → eqb w.number 0 ≡ n → is_type w.type ≡ t → Goes l (once (n && t) (receiver_decides 0 a)) (cond n (decided_by x w.content ws offered) x) y
         go false t p u = stays l x y h
@@ -391,9 +377,9 @@ module _ (k : Passed) (ag : Agrees k) (rd : Ready k.link) (x : Drivers) (y : Sys
   pub decides_goes : (application : ℕ) → Goes l (acts_of k (decides application) x) (after_driver k (decides application) x) y
   decides_goes application = go x.receiver.arrived h.receiver.arrived
     where
-      none : (z : ApplicationMade) → Goes l (decides_on z []) x y
-      none NoApplication = stays l x y h
-      none (AnApplication a) = stays l x y h
+      none : (z : Option Application) → Goes l (decides_on z []) x y
+      none None = stays l x y h
+      none (Some a) = stays l x y h
 
       first : (w : Shown) (ws : List Shown) → Front (SameVerdict g) w ws y.receiving.arrived → Goes l (decides_on (application_from application) (w ∷ ws)) (oldest_decided application x (w ∷ ws)) y
       first w ws (front v vs q is rest) = one_decided application w ws v vs q is rest (application_from application) refl
@@ -453,14 +439,14 @@ module _ (k : Passed) (ag : Agrees k) (rd : Ready k.link) (x : Drivers) (y : Sys
   decided_long x' =
       cond_ind Long (eqb x'.refusal 0) _ _ (λ z. report_long x' [] [] [] each_none) (λ z. h.receiver.decision)
 
-  tried_long : (application t : ℕ) (d : List ℕ) (z : ApplicationMade) → application_from application ≡ z → Long (decide_call application t d st q)
+  tried_long : (application t : ℕ) (d : List ℕ) (z : Option Application) → application_from application ≡ z → Long (decide_call application t d st q)
   unfolding decide_call
-  tried_long application t d NoApplication e = subst (λ (n : ApplicationMade). Long (decide_for n t d st q)) (sym e) h.receiver.decision
-  tried_long application t d (AnApplication a) e =
-      subst (λ (n : ApplicationMade). Long (decide_for n t d st q)) (sym e)
+  tried_long application t d None e = subst (λ (n : Option Application). Long (decide_for n t d st q)) (sym e) h.receiver.decision
+  tried_long application t d (Some a) e =
+      subst (λ (n : Option Application). Long (decide_for n t d st q)) (sym e)
       (cond_ind Long (is_type t) _ _
       (λ u. cond_ind Long (leb 9 (length st) && leb 5 (length q)) _ _
-      (λ v. subst (λ (r : Decoded). Long (decide_with a t d st q r)) (sym state_read) (decided_long (decide_of a s t d))) (λ v. h.receiver.decision)) (λ u. h.receiver.decision))
+      (λ v. subst (λ (r : Option Receiver). Long (decide_with a t d st q r)) (sym state_read) (decided_long (decide_of a s t d))) (λ v. h.receiver.decision)) (λ u. h.receiver.decision))
 
   pub tries_goes : (application : ℕ) → Goes l [] (after_driver k (tries application) x) y
   tries_goes application = go x.receiver.arrived
@@ -502,18 +488,18 @@ module _ (k : Passed) (ag : Agrees k) (rd : Ready k.link) (x : Drivers) (y : Sys
 
   -- ---- storing
   -- what is noted is what the open decision says
-  pub stored_is : (o : Open) → s.decision ≡ o → is_closed o ≡ false
+  pub stored_is : (o : Option Decision) → s.decision ≡ o → is_closed o ≡ false
       → (x.receiver.noted.expected ∷ [] ≡ expected_word (to_persist y.receiving).expected ∷ []) × (with_transaction x.receiver.stored_has x.receiver.noted ≡ (to_persist y.receiving).has)
-  stored_is NoDecision e z = not_both z
-  stored_is (Decision id r) e z =
-      let w = opened s id r i.ends.receiver_valid e in
-      let note : x.receiver.noted ≡ noted (transaction_word r.persisted.transaction) (expected_word r.persisted.expected) (flag (not (same_expected r.persisted.expected s.expected))) y.receiving.message =
+  stored_is None e z = not_both z
+  stored_is (Some o) e z =
+      let w = opened s o.control_id o.row i.ends.receiver_valid e in
+      let note : x.receiver.noted ≡ noted (transaction_word o.row.persisted.transaction) (expected_word o.row.persisted.expected) (flag (not (same_expected o.row.persisted.expected s.expected))) y.receiving.message =
       subst (SameNote x.receiver.noted y.receiving.message s.expected) e h.receiver.note in (
-        ap (λ (n : Noted). n.expected ∷ []) note ∙ ap (λ (t : Open). expected_word (stored_by y.receiving.persisted y.receiving.message t).expected ∷ []) (sym e),
+        ap (λ (n : Noted). n.expected ∷ []) note ∙ ap (λ (t : Option Decision). expected_word (stored_by y.receiving.persisted y.receiving.message t).expected ∷ []) (sym e),
         ap (with_transaction x.receiver.stored_has) note
-            ∙ transaction_is r.persisted.transaction (open_transaction s.expected w.expected r w.in_table) y.receiving.message x.receiver.stored_has
-            ∙ ap (has_with r.persisted.transaction y.receiving.message) h.receiver.stored_has_lem
-            ∙ ap (λ (t : Open). (stored_by y.receiving.persisted y.receiving.message t).has) (sym e),
+            ∙ transaction_is o.row.persisted.transaction (open_transaction s.expected w.expected o.row w.in_table) y.receiving.message x.receiver.stored_has
+            ∙ ap (has_with o.row.persisted.transaction y.receiving.message) h.receiver.stored_has_lem
+            ∙ ap (λ (t : Option Decision). (stored_by y.receiving.persisted y.receiving.message t).has) (sym e),
       )
 
   -- the driver's test is the link's
@@ -588,15 +574,15 @@ module _ (k : Passed) (ag : Agrees k) (rd : Ready k.link) (x : Drivers) (y : Sys
     answer_long : space ≡ true → answer_on k success start x.receiver.memory ≡ answered_as st p o
     unfolding answer_call
     answer_long f =
-        ap (λ (m : Made). answer_with m (outcome_from (flag success)) st b start p) (link_made k ag rd)
-        ∙ ap (λ (z : OutcomeMade). answer_with (Valid g) z st b start p) (outcome_made success)
+        ap (λ (m : Option Settings). answer_with m (outcome_from (flag success)) st b start p) (link_made k ag rd)
+        ∙ ap (λ (z : Option Bool). answer_with (Some g) z st b start p) (outcome_made success)
         ∙ rw (rd.settings, le-leb 9 (length st) state_long, le-leb 2 (length p) h.receiver.report, f) (ap (answer_words g success st b start p) state_read)
 
     answer_too_short : space ≡ false → answer_on k success start x.receiver.memory ≡ answered_as st p o
     unfolding answer_call
     answer_too_short f =
-        ap (λ (m : Made). answer_with m (outcome_from (flag success)) st b start p) (link_made k ag rd)
-        ∙ ap (λ (z : OutcomeMade). answer_with (Valid g) z st b start p) (outcome_made success)
+        ap (λ (m : Option Settings). answer_with m (outcome_from (flag success)) st b start p) (link_made k ag rd)
+        ∙ ap (λ (z : Option Bool). answer_with (Some g) z st b start p) (outcome_made success)
         ∙ rw (rd.settings, le-leb 9 (length st) state_long, le-leb 2 (length p) h.receiver.report, f)
         (sym (ap (answered_as st p) (answer_short g rd.settings s i.ends.receiver_valid start b success f)))
 
@@ -612,9 +598,9 @@ module _ (k : Passed) (ag : Agrees k) (rd : Ready k.link) (x : Drivers) (y : Sys
     report_test false u v e = ap not e
 
     -- no decision is open then
-    note_closed : (d : List ℕ) (t : Open) → is_closed t ≡ true → SameNote x.receiver.noted d o.answer.receiver.expected t
-    note_closed d NoDecision e = refl
-    note_closed d (Decision id r) e = not_both (sym e)
+    note_closed : (d : List ℕ) (t : Option Decision) → is_closed t ≡ true → SameNote x.receiver.noted d o.answer.receiver.expected t
+    note_closed d None e = refl
+    note_closed d (Some o) e = not_both (sym e)
 
     abbrev answered : Drivers
     answered =
@@ -730,10 +716,10 @@ module _ (k : Passed) (ag : Agrees k) (rd : Ready k.link) (x : Drivers) (y : Sys
     call_is : nak_on k number start x.receiver.memory ≡ cond (is_block_number number) (cond fits (nak_as p n) (called 2 [] b p)) (called 1 [] b p)
     unfolding nak_call
     call_is =
-        ap (λ (m : Made). nak_with m number st b start p) (link_made k ag rd)
+        ap (λ (m : Option Settings). nak_with m number st b start p) (link_made k ag rd)
         ∙ ap (λ (u : Bool). cond (u && is_block_number number) (cond enough (nak_words g number b start p (receiver_in st)) (called 2 [] b p)) (called 1 [] b p)) rd.settings
         ∙ ap (λ (u : Bool). cond (is_block_number number) (cond u (nak_words g number b start p (receiver_in st)) (called 2 [] b p)) (called 1 [] b p)) enough_is
-        ∙ ap (λ (r : Decoded). cond (is_block_number number) (cond fits (nak_words g number b start p r) (called 2 [] b p)) (called 1 [] b p)) state_read
+        ∙ ap (λ (r : Option Receiver). cond (is_block_number number) (cond fits (nak_words g number b start p r) (called 2 [] b p)) (called 1 [] b p)) state_read
 
     nak_is : nak_on k number start x.receiver.memory ≡ nak_as p n
     nak_is = call_is ∙ go (is_block_number number) fits refl refl
@@ -912,7 +898,7 @@ module _ (k : Passed) (ag : Agrees k) (rd : Ready k.link) (x : Drivers) (y : Sys
   open_word : is_open_word st ≡ true → is_closed s.decision ≡ false
   open_word e = not-closed (is_closed s.decision) (sym (ap is_open_word h.receiver.state.is ∙ open_is s h.receiver.state.rest) ∙ e)
 
-  module _ (application t : ℕ) (a : Application) (known : application_from application ≡ AnApplication a) (type : is_type t ≡ true) (d : List ℕ) where
+  module _ (application t : ℕ) (a : Application) (known : application_from application ≡ Some a) (type : is_type t ≡ true) (d : List ℕ) where
     -- a block that was accepted is decided on, while no decision is open
     pub decide_done : is_open_word st ≡ false → (decide_call application t d st q).number ≡ 0
     decide_done e =
@@ -934,7 +920,7 @@ module _ (k : Passed) (ag : Agrees k) (rd : Ready k.link) (x : Drivers) (y : Sys
     flag_false true e = refl
     flag_false false e = absurd (omega arith)
 
-    row_same : (id : ControlId) (r : Row) → s.decision ≡ Decision id r → s.expected ≡ y.receiving.persisted.expected → Same
+    row_same : (id : ControlId) (r : Row) → s.decision ≡ Some (record { control_id = id; row = r }) → s.expected ≡ y.receiving.persisted.expected → Same
     row_same id r e now =
         let w = opened s id r i.ends.receiver_valid e in
         let table = is-row s.expected w.expected r w.in_table in
@@ -942,12 +928,12 @@ module _ (k : Passed) (ag : Agrees k) (rd : Ready k.link) (x : Drivers) (y : Sys
         subst (SameNote x.receiver.noted y.receiving.message s.expected) e h.receiver.note in
         let same : r.persisted.expected ≡ s.expected =
         expected_is r.persisted.expected s.expected (flag_false (same_expected r.persisted.expected s.expected) (sym (ap (λ (n : Noted). n.changes) note) ∙ unchanged)) in
-        let none : r.persisted.transaction ≡ NoTransaction =
+        let none : r.persisted.transaction ≡ None =
         ap (λ (z : Row). z.persisted.transaction) table.is
         ∙ unchanged-row table.application s.expected table.field (sym (ap (λ (z : Row). z.persisted.expected) table.is) ∙ same) in (
-          ap (λ (n : Noted). n.expected ∷ []) note ∙ ap (λ (z : Expected). expected_word z ∷ []) (same ∙ now) ∙ sym h.receiver.stored,
+          ap (λ (n : Noted). n.expected ∷ []) note ∙ ap (λ (z : Option ℕ). expected_word z ∷ []) (same ∙ now) ∙ sym h.receiver.stored,
           ap (with_transaction x.receiver.stored_has) note
-              ∙ ap (λ (z : Transaction). cond (eqb (transaction_word z) 0) x.receiver.stored_has (x.receiver.stored_has ++ y.receiving.message ∷ [])) none,
+              ∙ ap (λ (z : Option ℕ). cond (eqb (transaction_word z) 0) x.receiver.stored_has (x.receiver.stored_has ++ y.receiving.message ∷ [])) none,
         )
 
     pub stores_nothing : Same
@@ -966,7 +952,7 @@ module _ (k : Passed) (ag : Agrees k) (rd : Ready k.link) (x : Drivers) (y : Sys
       ∙ cond_ind (λ (c : Called). c.number ≡ 0) (eqb (answer_of g success s start b).answer.refusal 0) _ _ (λ z. refl)
       (λ z. ap (λ (n : Outcome Answered). n.answer.refusal) (reported-is g rd.settings s i.ends.receiver_valid start b success fits) ∙ open_taken s.decision (open_word e) success)
     where
-      open_taken : (t : Open) → is_closed t ≡ false → (q : Bool) → (reported_of g q s start b t).answer.refusal ≡ 0
-      open_taken NoDecision z q = not_both z
-      open_taken (Decision id r) z true = refl
-      open_taken (Decision id r) z false = refl
+      open_taken : (t : Option Decision) → is_closed t ≡ false → (q : Bool) → (reported_of g q s start b t).answer.refusal ≡ 0
+      open_taken None z q = not_both z
+      open_taken (Some o) z true = refl
+      open_taken (Some o) z false = refl

@@ -1,4 +1,5 @@
 -- What a call of the sender's driver reports: how many sends were made, that it gave up, and what is to be sent.
+use Rattle.std.specs.Prelude.{Option, Result, Some, None}
 use mathlib.Core.Path.{◌≡◌, refl, sym, ap, ◌∙◌, subst}
 use mathlib.Core.List.{List, [], ◌∷◌, ◌++◌}
 use mathlib.Core.Bool.{Bool, true, false, cond, not, ◌&&◌}
@@ -17,13 +18,12 @@ use Rattle.numbers.specs.declared.SequenceNumber.{SequenceNumber}
 use Rattle.numbers.specs.declared.SequenceNumber.TheVariants.{MinusOne, Number}
 use Rattle.stream.specs.Stream.{Judged}
 use Rattle.words.specs.Words.{verdict_from}
-use Rattle.words.specs.declared.VerdictMade.{VerdictMade}
+use Rattle.refusal.specs.declared.Accepted.{Accepted}
+use Rattle.refusal.specs.declared.Refusal.{Refusal}
 use Rattle.sender.specs.Sender.{valid_sender, is_open, waits_of, block_read_of}
 use Rattle.sender.specs.declared.Waiting.{Waiting}
 use Rattle.sender.specs.declared.Waiting.TheVariants.{Closed, Idle, Resynchronizing, Querying, Sending}
 use Rattle.sender.specs.declared.Sender.{Sender}
-use Rattle.sender.specs.declared.NumberedMessage.{NumberedMessage}
-use Rattle.sender.specs.declared.NumberedMessage.TheVariants.{Nothing, Numbered}
 use Rattle.sender.specs.declared.Event.{Event}
 use Rattle.sender.specs.declared.Event.TheVariants.{NoEvent, Delivered, DeliveredUnknown, Abandoned, Froze, Dropped}
 use Rattle.sender.specs.declared.Acted.{Acted}
@@ -52,7 +52,7 @@ pub record Words (a : Acted) (c : Called) : Type 0 where
   pub state : Behind (sender_words a.sender) c.state
 
 -- the words behind what is sent
-listed : (m : NumberedMessage) (n : ℕ) (e : Event) (x y : ℕ) (rest : List ℕ) → (get_or ((send_words m ++ n ∷ event_words e ++ x ∷ y ∷ []) ++ rest) 2 0 ≡ n)
+listed : (m : Option SequenceNumber) (n : ℕ) (e : Event) (x y : ℕ) (rest : List ℕ) → (get_or ((send_words m ++ n ∷ event_words e ++ x ∷ y ∷ []) ++ rest) 2 0 ≡ n)
     × (eqb (get_or ((send_words m ++ n ∷ event_words e ++ x ∷ y ∷ []) ++ rest) 3 0) 2 ≡ is_abandoned e)
 listed m n e x y rest = go m
   where
@@ -64,11 +64,11 @@ listed m n e x y rest = go m
     event Froze = refl
     event Dropped = refl
 
-    go : (m : NumberedMessage) → (get_or ((send_words m ++ n ∷ event_words e ++ x ∷ y ∷ []) ++ rest) 2 0 ≡ n)
+    go : (m : Option SequenceNumber) → (get_or ((send_words m ++ n ∷ event_words e ++ x ∷ y ∷ []) ++ rest) 2 0 ≡ n)
         × (eqb (get_or ((send_words m ++ n ∷ event_words e ++ x ∷ y ∷ []) ++ rest) 3 0) 2 ≡ is_abandoned e)
-    go Nothing = (refl, event e)
-    go (Numbered MinusOne) = (refl, event e)
-    go (Numbered (Number k)) = (refl, event e)
+    go None = (refl, event e)
+    go (Some MinusOne) = (refl, event e)
+    go (Some (Number k)) = (refl, event e)
 
 -- a call whose report was written: all but those that are refused by 1
 report_words_lem : (st p : List ℕ) (a : Acted) (c : Called) → 8 ≤ length p → c.report ≡ over p (act_words a) → Behind (sender_words a.sender) c.state → Words a c
@@ -91,52 +91,52 @@ call_report s st p a c b h (done o z) q =
     (subst (λ (k : Called). Behind (sender_words a.sender) k.state) (sym z) (over_behind (sender_words a.sender) st (behind_length b)))
 
 -- ---- the sends that the calls showed are those of the history
-is_same : (m : SequenceNumber) (n : NumberedMessage) → same (send_words (Numbered m)) (send_words n) ≡ is m n
+is_same : (m : SequenceNumber) (n : Option SequenceNumber) → same (send_words (Some m)) (send_words n) ≡ is m n
 unfolding same
-is_same MinusOne Nothing = refl
-is_same MinusOne (Numbered MinusOne) = refl
-is_same MinusOne (Numbered (Number k)) = go (eqb k 0)
+is_same MinusOne None = refl
+is_same MinusOne (Some MinusOne) = refl
+is_same MinusOne (Some (Number k)) = go (eqb k 0)
   where
     go : (b : Bool) → (eqb 1 (cond b 2 3) && (eqb 0 k && true)) ≡ false
     go true = refl
     go false = refl
-is_same (Number n) Nothing = go (eqb n 0)
+is_same (Number n) None = go (eqb n 0)
   where
     go : (b : Bool) → (eqb (cond b 2 3) 0 && (eqb n 0 && true)) ≡ false
     go true = refl
     go false = refl
-is_same (Number n) (Numbered MinusOne) = go (eqb n 0)
+is_same (Number n) (Some MinusOne) = go (eqb n 0)
   where
     go : (b : Bool) → (eqb (cond b 2 3) 1 && (eqb n 0 && true)) ≡ false
     go true = refl
     go false = refl
-is_same (Number n) (Numbered (Number k)) = go (eqb n k) refl
+is_same (Number n) (Some (Number k)) = go (eqb n k) refl
   where
-    go : (b : Bool) → eqb n k ≡ b → same (send_words (Numbered (Number n))) (send_words (Numbered (Number k))) ≡ b
-    go true e = ap (λ (j : ℕ). same (send_words (Numbered (Number n))) (send_words (Numbered (Number j)))) (sym (eqb-true n k e)) ∙ same_self (send_words (Numbered (Number n)))
+    go : (b : Bool) → eqb n k ≡ b → same (send_words (Some (Number n))) (send_words (Some (Number k))) ≡ b
+    go true e = ap (λ (j : ℕ). same (send_words (Some (Number n))) (send_words (Some (Number j)))) (sym (eqb-true n k e)) ∙ same_self (send_words (Some (Number n)))
     go false e = ap (λ (b : Bool). eqb (cond (eqb n 0) 2 3) (cond (eqb k 0) 2 3) && (b && true)) e ∙ never (eqb (cond (eqb n 0) 2 3) (cond (eqb k 0) 2 3))
       where
         never : (b : Bool) → (b && false) ≡ false
         never true = refl
         never false = refl
 
-counted_is : (m : SequenceNumber) {rs : List CallReport} {h : List Entry} → Each SameReport rs h → counted_words (send_words (Numbered m)) rs ≡ counted m h
+counted_is : (m : SequenceNumber) {rs : List CallReport} {h : List Entry} → Each SameReport rs h → counted_words (send_words (Some m)) rs ≡ counted m h
 unfolding counted_words
 counted_is m each_none = refl
 counted_is m (each_more {x = r} {y = crashed} p ps) =
-    let waits = ap (same (send_words (Numbered m))) p ∙ is_same m Nothing in
+    let waits = ap (same (send_words (Some m))) p ∙ is_same m None in
     rw waits
 counted_is m (each_more {x = r} {y = reported a} p ps) =
-    let w = send_words (Numbered m) in
+    let w = send_words (Some m) in
     let waits = ap (same w) p.1 ∙ is_same m (waits_of a.sender) in
     let sends = ap (same w) p.0 ∙ is_same m a.send in
     let more = counted_is m ps in
     rw (waits, sends, more)
 
-pub sends_shown_lem : (w : NumberedMessage) {rs : List CallReport} {h : List Entry} → Each SameReport rs h → sends_shown (send_words w) rs ≡ counted_of w h
-sends_shown_lem Nothing e = refl
-sends_shown_lem (Numbered MinusOne) e = counted_is MinusOne e
-sends_shown_lem (Numbered (Number n)) {rs} e = ap (λ (b : Bool). cond b 0 (counted_words (send_words (Numbered (Number n))) rs)) (kind_some (eqb n 0)) ∙ counted_is (Number n) e
+pub sends_shown_lem : (w : Option SequenceNumber) {rs : List CallReport} {h : List Entry} → Each SameReport rs h → sends_shown (send_words w) rs ≡ counted_of w h
+sends_shown_lem None e = refl
+sends_shown_lem (Some MinusOne) e = counted_is MinusOne e
+sends_shown_lem (Some (Number n)) {rs} e = ap (λ (b : Bool). cond b 0 (counted_words (send_words (Some (Number n))) rs)) (kind_some (eqb n 0)) ∙ counted_is (Number n) e
 
 -- no circuit is open exactly where GMV_SENDER_WAITING is 0
 pub word_closed : (w : Waiting) → eqb (waiting_word w) 0 ≡ not (is_open w)
@@ -177,7 +177,7 @@ module _ (k : Passed) (rd : Ready k.link) (x : Drivers) (y : System) (valid : va
       let g = k.link.settings in
       let j = v.verdict in
       subst (λ (z : Shown). Does s st p (act_of (act_by k (taking z)) s) (called_by k x.sender.memory (taking z))) (sym v.is)
-      (subst (λ (z : VerdictMade). Does s st p (block_read_of r s (verdict_by z) j.content) (called_by k x.sender.memory (taking (shown g j)))) (sym (made_again j.verdict v.given))
+      (subst (λ (z : Option (Result Accepted Refusal)). Does s st p (block_read_of r s (verdict_by z) j.content) (called_by k x.sender.memory (taking (shown g j)))) (sym (made_again j.verdict v.given))
       (subst (λ (a : Acted). Does s st p a (called_by k x.sender.memory (taking (shown g j)))) (sym (sends_the_same r s j.verdict j.content))
       (block_does s valid st p h.sender.state h.sender.report r rd.resends j.verdict j.content v.given)))
 

@@ -1,4 +1,5 @@
 -- What two drivers have, as words and bytes, stands for the two ends of a link.
+use Rattle.std.specs.Prelude.{Option, Some, None}
 use mathlib.Core.Path.{◌≡◌, refl, sym, ap, ◌∙◌, subst}
 use mathlib.Core.List.{List, [], ◌∷◌, ◌++◌}
 use mathlib.Core.Bool.{Bool, true, false, cond, not, ◌&&◌}
@@ -19,16 +20,12 @@ use Rattle.sender.specs.Sender.{is_open, waiting_message, waits_of}
 use Rattle.sender.specs.declared.Waiting.{Waiting}
 use Rattle.sender.specs.declared.Waiting.TheVariants.{Closed, Idle, Resynchronizing, Querying, Sending}
 use Rattle.sender.specs.declared.Sender.{Sender}
-use Rattle.sender.specs.declared.NumberedMessage.{NumberedMessage}
-use Rattle.sender.specs.declared.NumberedMessage.TheVariants.{Nothing, Numbered}
 use Rattle.sender.specs.declared.Event.{Event}
 use Rattle.sender.specs.declared.Event.TheVariants.{NoEvent, Delivered, DeliveredUnknown, Abandoned, Froze, Dropped}
 use Rattle.sender.specs.declared.Acted.{Acted}
 use Rattle.sender_calls.specs.SenderCalls.{waiting_word, persisted_words, sender_words, send_words, event_words, act_words}
 use Rattle.receiver.specs.Receiver.{same_expected}
-use Rattle.receiver.specs.declared.Expected.{Expected}
-use Rattle.receiver.specs.declared.Open.{Open}
-use Rattle.receiver.specs.declared.Open.TheVariants.{NoDecision, Decision}
+use Rattle.receiver.specs.declared.Decision.{Decision}
 use Rattle.receiver_calls.specs.ReceiverCalls.{expected_word, transaction_word, flag, receiver_words}
 use Rattle.link.specs.SenderHistory.{Entry, reported, crashed}
 use Rattle.link.specs.Line.{Line}
@@ -43,7 +40,7 @@ use Rattle.call_theorems.proofs.Streams.{StandsAt}
 -- ---- the relation
 -- a message named, and a verdict handed on
 abbrev pub SameSend : Named → SequenceNumber → Type 0
-SameSend m v = m.kind ∷ m.number ∷ [] ≡ send_words (Numbered v)
+SameSend m v = m.kind ∷ m.number ∷ [] ≡ send_words (Some v)
 
 pub record SameVerdict (g : Settings) (s : Shown) (w : Judged) : Type 0 where
   pub is : s ≡ shown g w
@@ -74,10 +71,10 @@ pub record SenderShows (g : Settings) (e : SenderEnd) (y : SendingEnd) (x : Line
   pub reader : StandsOn g e.memory.reader x
 
 -- what the driver noted of the open decision
-abbrev pub SameNote : Noted → List ℕ → Expected → Open → Type 0
-SameNote n d e NoDecision = n ≡ n
-SameNote n d e (Decision id r) =
-    n ≡ noted (transaction_word r.persisted.transaction) (expected_word r.persisted.expected) (flag (not (same_expected r.persisted.expected e))) d
+abbrev pub SameNote : Noted → List ℕ → Option ℕ → Option Decision → Type 0
+SameNote n d e None = n ≡ n
+SameNote n d e (Some o) =
+    n ≡ noted (transaction_word o.row.persisted.transaction) (expected_word o.row.persisted.expected) (flag (not (same_expected o.row.persisted.expected e))) d
 
 pub record ReceiverShows (g : Settings) (e : ReceiverEnd) (y : ReceivingEnd) (x : Line) : Type 0 where
   pub state : Behind (receiver_words y.receiver) e.memory.state
@@ -131,7 +128,7 @@ waits_is s st b = ap waits_words b.is ∙ go s.waiting
 -- ---- a call of an act of the sender: it was done, or it was refused and left the state. 1 writes no report
 pub data Does (s : Sender) (st p : List ℕ) (a : Acted) (c : Called) : Type 0 where
   done : a.refusal ≡ 0 → c ≡ called 0 (over st (sender_words a.sender)) [] (over p (act_words a)) → Does s st p a c
-  refused : leb 1 a.refusal ≡ true → c.number ≡ a.refusal → c.state ≡ st → length c.report ≡ length p → a.sender ≡ s → a.send ≡ Nothing
+  refused : leb 1 a.refusal ≡ true → c.number ≡ a.refusal → c.state ≡ st → length c.report ≡ length p → a.sender ≡ s → a.send ≡ None
       → (a.refusal ≡ 1) ⊎ (c.report ≡ over p (act_words a)) → Does s st p a c
 
 -- what the report names
@@ -146,10 +143,10 @@ eight a = go a.send a.event
     events Froze n m = refl
     events Dropped n m = refl
 
-    go : (m : NumberedMessage) (e : Event) → length (send_words m ++ a.sends ∷ event_words e ++ a.block ∷ a.offset ∷ []) ≡ 8
-    go Nothing e = let z = events e a.block a.offset in omega (arith, z)
-    go (Numbered MinusOne) e = let z = events e a.block a.offset in omega (arith, z)
-    go (Numbered (Number n)) e = let z = events e a.block a.offset in omega (arith, z)
+    go : (m : Option SequenceNumber) (e : Event) → length (send_words m ++ a.sends ∷ event_words e ++ a.block ∷ a.offset ∷ []) ≡ 8
+    go None e = let z = events e a.block a.offset in omega (arith, z)
+    go (Some MinusOne) e = let z = events e a.block a.offset in omega (arith, z)
+    go (Some (Number n)) e = let z = events e a.block a.offset in omega (arith, z)
 
 -- GMV_ACT_SEND of a message by its number is not 0
 pub kind_some : (b : Bool) → eqb (cond b 2 3) 0 ≡ false
@@ -157,7 +154,7 @@ kind_some true = refl
 kind_some false = refl
 
 -- one message
-one_named : (k n : ℕ) (v : SequenceNumber) (st rest : List ℕ) → eqb k 0 ≡ false → k ∷ n ∷ [] ≡ send_words (Numbered v) → Each SameSend (named_by (called 0 st [] (k ∷ n ∷ rest))) (v ∷ [])
+one_named : (k n : ℕ) (v : SequenceNumber) (st rest : List ℕ) → eqb k 0 ≡ false → k ∷ n ∷ [] ≡ send_words (Some v) → Each SameSend (named_by (called 0 st [] (k ∷ n ∷ rest))) (v ∷ [])
 one_named k n v st rest e q =
     subst (λ (b : Bool). Each SameSend (cond (not b) (record { kind = k; number = n } ∷ []) []) (v ∷ [])) (sym e) (each_more {y = v} q each_none)
 
@@ -169,20 +166,20 @@ module _ (a : Acted) (st p : List ℕ) (h : 8 ≤ length p) where
   pub named_is : Each SameSend (named_by (called 0 st [] (over p (act_words a)))) (sends_of a.send)
   named_is = subst (λ (r : List ℕ). Each SameSend (named_by (called 0 st [] r)) (sends_of a.send)) (sym report_is) (go a.send)
     where
-      go : (m : NumberedMessage) → Each SameSend (named_by (called 0 st [] ((send_words m ++ a.sends ∷ event_words a.event ++ a.block ∷ a.offset ∷ []) ++ drop (length (act_words a)) p))) (sends_of m)
-      go Nothing = each_none
-      go (Numbered MinusOne) = each_more refl each_none
-      go (Numbered (Number n)) =
+      go : (m : Option SequenceNumber) → Each SameSend (named_by (called 0 st [] ((send_words m ++ a.sends ∷ event_words a.event ++ a.block ∷ a.offset ∷ []) ++ drop (length (act_words a)) p))) (sends_of m)
+      go None = each_none
+      go (Some MinusOne) = each_more refl each_none
+      go (Some (Number n)) =
           one_named (cond (eqb n 0) 2 3) n (Number n) st ((a.sends ∷ event_words a.event ++ a.block ∷ a.offset ∷ []) ++ drop (length (act_words a)) p) (kind_some (eqb n 0)) refl
 
   pub send_is : get_or (over p (act_words a)) 0 0 ∷ get_or (over p (act_words a)) 1 0 ∷ [] ≡ send_words a.send
   send_is = ap (λ (r : List ℕ). get_or r 0 0 ∷ get_or r 1 0 ∷ []) report_is ∙ go a.send
     where
-      go : (m : NumberedMessage) → get_or ((send_words m ++ a.sends ∷ event_words a.event ++ a.block ∷ a.offset ∷ []) ++ drop (length (act_words a)) p) 0 0
+      go : (m : Option SequenceNumber) → get_or ((send_words m ++ a.sends ∷ event_words a.event ++ a.block ∷ a.offset ∷ []) ++ drop (length (act_words a)) p) 0 0
           ∷ get_or ((send_words m ++ a.sends ∷ event_words a.event ++ a.block ∷ a.offset ∷ []) ++ drop (length (act_words a)) p) 1 0 ∷ [] ≡ send_words m
-      go Nothing = refl
-      go (Numbered MinusOne) = refl
-      go (Numbered (Number n)) = refl
+      go None = refl
+      go (Some MinusOne) = refl
+      go (Some (Number n)) = refl
 
   pub report_length : length (over p (act_words a)) ≡ length p
   report_length = over-length p (act_words a) (let e = eight a in omega arith)
@@ -247,7 +244,7 @@ module _ (g : Settings) (e : SenderEnd) (y : SendingEnd) (x : Line) (i : SenderS
                 subst (λ (t : List ℕ). Each SameSend (cond (eqb (get_or t 5 0) 0) [] (e.named ++ named_by c)) (named_after y.named a)) (sym (z ∙ i.state.is))
                 (subst (λ (b : Bool). Each SameSend (cond (eqb (waiting_word y.sender.waiting) 0) [] (e.named ++ cond (b && not (eqb (get_or c.report 0 0) 0)) (record { kind = get_or c.report 0 0; number = get_or c.report 1 0 } ∷ []) []))
                 (named_after y.named a)) (sym number)
-                (subst (λ (m : NumberedMessage). Each SameSend (cond (eqb (waiting_word y.sender.waiting) 0) [] (e.named ++ [])) (cond (is_open a.sender.waiting) (y.named ++ sends_of m) [])) (sym none)
+                (subst (λ (m : Option SequenceNumber). Each SameSend (cond (eqb (waiting_word y.sender.waiting) 0) [] (e.named ++ [])) (cond (is_open a.sender.waiting) (y.named ++ sends_of m) [])) (sym none)
                 (subst (λ (k : Sender). Each SameSend (cond (eqb (waiting_word y.sender.waiting) 0) [] (e.named ++ [])) (cond (is_open k.waiting) (y.named ++ []) [])) (sym same)
                 (named_with y.sender.waiting i.named each_none))));
             arrived = arrived;

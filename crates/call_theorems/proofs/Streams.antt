@@ -1,4 +1,5 @@
 -- Document 01, 'Reading a stream', of the C functions: "Verdicts are those a definition gives for the whole input, in however many parts it came, provided the same buffer is lent unaltered each time."
+use Rattle.std.specs.Prelude.{Option, Some, None}
 use mathlib.Core.Path.{◌≡◌, refl, sym, ap, ◌∙◌}
 use mathlib.Core.List.{List, [], map}
 use mathlib.Core.Bool.{Bool, true, false}
@@ -13,8 +14,6 @@ use Rattle.lists.proofs.Tests.{cond_ind}
 use Rattle.settings.specs.Settings.{limit_valid, hybrid_valid, valid, capacity_of, made_of, hybrid_of, minimal_of}
 use Rattle.settings.specs.declared.Kind.TheVariants.{Hybrid, Minimal}
 use Rattle.settings.specs.declared.Settings.{Settings}
-use Rattle.settings.specs.declared.Made.{Made}
-use Rattle.settings.specs.declared.Made.TheVariants.{Valid, Refused as BadSetting}
 use Rattle.stream.specs.Stream.{Mode, between, run, after, held, verdicts}
 use Rattle.stream.specs.Scan.{fresh}
 use Rattle.stream.specs.declared.Reader.{Reader}
@@ -29,26 +28,26 @@ use Rattle.call_theorems.proofs.OneCall.{over-length, over_beyond}
 use Rattle.call_theorems.proofs.Simulation.{Encodes, Matches, matches_encodes, parts_match}
 
 -- ---- settings as C has them
-abbrev valid_of : Made → Bool
-valid_of (Valid g) = valid g
-valid_of BadSetting = false
+abbrev valid_of : Option Settings → Bool
+valid_of (Some g) = valid g
+valid_of None = false
 
 module _ (g : Settings) where
-  abbrev Makes : Made → Type 0
-  Makes s = s ≡ Valid g → valid g ≡ true
+  abbrev Makes : Option Settings → Type 0
+  Makes s = s ≡ Some g → valid g ≡ true
 
-  not_made : Makes BadSetting
+  not_made : Makes None
   not_made e = let z : ◌≡◌ {A = ℕ} 0 1 = cc in absurd (omega arith)
 
   made : (x : Settings) → Makes (made_of x)
   made x = cond_ind Makes (valid x) _ _ (λ h e. sym (ap valid_of e) ∙ h) (λ h. not_made)
 
-pub taken_valid : (s : Made) (g : Settings) → Taken s g → valid g ≡ true
+pub taken_valid : (s : Option Settings) (g : Settings) → Taken s g → valid g ≡ true
 taken_valid s g (hybrid sb eb d e) =
     cond_ind (Makes g) (ltb 255 sb) _ _ (λ h. not_made g) (λ h. cond_ind (Makes g) (ltb 255 eb) _ _ (λ i. not_made g) (λ i. made g _)) e
 taken_valid s g (minimal d e) = made g _ e
 
-taken_made : (s : Made) (g : Settings) → Taken s g → s ≡ Valid g
+taken_made : (s : Option Settings) (g : Settings) → Taken s g → s ≡ Some g
 taken_made s g (hybrid sb eb d e) = e
 taken_made s g (minimal d e) = e
 
@@ -57,14 +56,14 @@ pub hybrid_taken : (sb eb d : ℕ) → sb ≤ 255 → eb ≤ 255 → hybrid_vali
     → Taken (hybrid_of sb eb d) (record { kind = Hybrid; start_block = sb; end_block = eb; data_limit = d })
 unfolding valid
 hybrid_taken sb eb d h l v =
-    let made : hybrid_of sb eb d ≡ Valid (record { kind = Hybrid; start_block = sb; end_block = eb; data_limit = d }) = rw (le-ltb 255 sb h, le-ltb 255 eb l, v) in
+    let made : hybrid_of sb eb d ≡ Some (record { kind = Hybrid; start_block = sb; end_block = eb; data_limit = d }) = rw (le-ltb 255 sb h, le-ltb 255 eb l, v) in
     hybrid sb eb d made
 
 pub minimal_taken : (d : ℕ) → limit_valid d ≡ true
     → Taken (minimal_of d) (record { kind = Minimal; start_block = 0x0B; end_block = 0x1C; data_limit = d })
 unfolding valid
 minimal_taken d v =
-    let made : minimal_of d ≡ Valid (record { kind = Minimal; start_block = 0x0B; end_block = 0x1C; data_limit = d }) = rw v in
+    let made : minimal_of d ≡ Some (record { kind = Minimal; start_block = 0x0B; end_block = 0x1C; data_limit = d }) = rw v in
     minimal d made
 
 -- ---- from anywhere in a stream
@@ -87,7 +86,7 @@ four_beyond : (st : List ℕ) (r : Reader) → 4 ≤ length st → drop 4 (over 
 unfolding reader_words
 four_beyond st r h = over_beyond st (reader_words r) h
 
-module _ (s : Made) (g : Settings) (taken : Taken s g) where
+module _ (s : Option Settings) (g : Settings) (taken : Taken s g) where
   follows : (parts : List (List ℕ)) (k : ℕ) (m : Mode) (c : Called) → k + length (joined parts) ≤ greatest_word → (h : StandsAt g k m c)
       → Matches g c (session g h.reader c.buffer parts) (parts_calls s c parts)
   follows parts k m c l h = rw (taken_made s g taken) (parts_match g (taken_valid s g taken) parts k m h.reader c.buffer c l refl h.stands h.encodes)

@@ -1,4 +1,5 @@
 -- One call of gmv_*_read on the bytes of a line: what it tells the driver is what these bytes bring, and the memory stands behind them then.
+use Rattle.std.specs.Prelude.{Option, Some, None, Result, Ok, Err}
 use mathlib.Core.Path.{◌≡◌, refl, sym, ap, ◌∙◌, subst}
 use mathlib.Core.List.{List, [], ◌∷◌}
 use mathlib.Core.Bool.{Bool, true, false, cond}
@@ -13,14 +14,12 @@ use Rattle.lists.specs.Bytes.{greatest_word}
 use Rattle.lists.specs.Outcome.{Outcome, Called, called}
 use Rattle.settings.specs.Settings.{valid, capacity_of}
 use Rattle.settings.specs.declared.Settings.{Settings}
-use Rattle.settings.specs.declared.Made.{Made}
-use Rattle.settings.specs.declared.Made.TheVariants.{Valid}
 use Rattle.stream.specs.Stream.{Judged, Mode, judged, run, after}
 use Rattle.stream.specs.Scan.{read_of}
+use Rattle.refusal.specs.declared.Refusal.{Refusal}
 use Rattle.stream.specs.declared.Reader.{Reader as ReaderState}
 use Rattle.stream.specs.declared.Reading.{Reading}
-use Rattle.stream.specs.declared.Answer.{Answer}
-use Rattle.stream.specs.declared.Answer.TheVariants.{Refused, Pending, Found}
+use Rattle.stream.specs.declared.Found.{Found}
 use Rattle.block_theorems.specs.Session.{spoken}
 use Rattle.block_theorems.proofs.Simulation.{Stands, Ends, Reaches, read_reaches}
 use Rattle.block_calls.specs.ReaderWords.{reader_words, decoded}
@@ -142,23 +141,23 @@ module _ (g : Settings) (v : valid g ≡ true) (m : ReaderMemory) (x : Line) (h 
           stands = stands_past reading.answer.reader reading.buffer used c l (omega arith) (omega arith) stands_there;
         }
 
-    answered : (a : Answer) → reading.answer.answer ≡ a → Ends used (length part) a → Took g x (read_answered g m.state m.verdict reading.answer.reader reading.buffer used a)
-    answered (Refused _) e i = elim i [ ]
-    answered Pending e i =
+    answered : (a : Result (Option Found) Refusal) → reading.answer.answer ≡ a → Ends used (length part) a → Took g x (read_answered g m.state m.verdict reading.answer.reader reading.buffer used a)
+    answered (Err _) e i = elim i [ ]
+    answered (Ok None) e i =
         let k = h.stands.encodes.verdict_words_lem in
-        took_of (read_answered g m.state m.verdict reading.answer.reader reading.buffer used Pending) [] (pending_leaves g memory k reading.answer.reader reading.buffer used)
-        (subst (λ (b : Bool). Each (SameVerdict g) (cond b (shown_by (read_answered g m.state m.verdict reading.answer.reader reading.buffer used Pending) ∷ []) []) [])
+        took_of (read_answered g m.state m.verdict reading.answer.reader reading.buffer used (Ok None)) [] (pending_leaves g memory k reading.answer.reader reading.buffer used)
+        (subst (λ (b : Bool). Each (SameVerdict g) (cond b (shown_by (read_answered g m.state m.verdict reading.answer.reader reading.buffer used (Ok None)) ∷ []) []) [])
         (sym (pending_none g memory k reading.answer.reader reading.buffer used)) each_none)
-        (ap (λ (z : Answer). spoken g z reading.buffer) (sym e) ∙ says)
-    answered (Found s w) e i =
+        (ap (λ (z : Result (Option Found) Refusal). spoken g z reading.buffer) (sym e) ∙ says)
+    answered (Ok (Some f)) e i =
         let k = h.stands.encodes.verdict_words_lem in
-        let c = read_answered g m.state m.verdict reading.answer.reader reading.buffer used (Found s w) in
-        took_of (read_answered g m.state m.verdict reading.answer.reader reading.buffer used (Found s w)) (judged g s w reading.buffer ∷ [])
-        (found_leaves g memory k reading.answer.reader reading.buffer used s w)
-        (subst (λ (b : Bool). Each (SameVerdict g) (cond b (shown_by (read_answered g m.state m.verdict reading.answer.reader reading.buffer used (Found s w)) ∷ []) []) (judged g s w reading.buffer ∷ []))
-        (sym (found_one g memory k reading.answer.reader reading.buffer used s w))
-        (each_more (record { is = found_shows g memory k reading.answer.reader reading.buffer used s w; given = reader_gives_lem g state part m.buffer s w e }) each_none))
-        (ap (λ (z : Answer). spoken g z reading.buffer) (sym e) ∙ says)
+        let c = read_answered g m.state m.verdict reading.answer.reader reading.buffer used (Ok (Some (record { block_offset = f.block_offset; verdict = f.verdict }))) in
+        took_of (read_answered g m.state m.verdict reading.answer.reader reading.buffer used (Ok (Some (record { block_offset = f.block_offset; verdict = f.verdict })))) (judged g f.block_offset f.verdict reading.buffer ∷ [])
+        (found_leaves g memory k reading.answer.reader reading.buffer used f.block_offset f.verdict)
+        (subst (λ (b : Bool). Each (SameVerdict g) (cond b (shown_by (read_answered g m.state m.verdict reading.answer.reader reading.buffer used (Ok (Some (record { block_offset = f.block_offset; verdict = f.verdict })))) ∷ []) []) (judged g f.block_offset f.verdict reading.buffer ∷ []))
+        (sym (found_one g memory k reading.answer.reader reading.buffer used f.block_offset f.verdict))
+        (each_more (record { is = found_shows g memory k reading.answer.reader reading.buffer used f.block_offset f.verdict; given = reader_gives_lem g state part m.buffer f.block_offset f.verdict e }) each_none))
+        (ap (λ (z : Result (Option Found) Refusal). spoken g z reading.buffer) (sym e) ∙ says)
 
     finished : Took g x (read_finished g m.state m.verdict reading)
     finished = answered reading.answer.answer refl reached.ends
@@ -169,12 +168,12 @@ module _ (g : Settings) (v : valid g ≡ true) (m : ReaderMemory) (x : Line) (h 
       reading_refused g v state part m.buffer m.state m.verdict h.stands.stands.enough
       (subst (λ (k : ℕ). leb (length part) (greatest_word - k) ≡ false) (sym h.stands.stands.position) e)
 
-  pub read_took : (s : Made) → s ≡ Valid g → eqb (read_call s m.state part m.buffer m.verdict).number 0 ≡ true → Took g x (read_call s m.state part m.buffer m.verdict)
+  pub read_took : (s : Option Settings) → s ≡ Some g → eqb (read_call s m.state part m.buffer m.verdict).number 0 ≡ true → Took g x (read_call s m.state part m.buffer m.verdict)
   read_took s made done = subst (Took g x) (sym is) (go (leb (length part) (greatest_word - offset)) refl)
     where
       is : read_call s m.state part m.buffer m.verdict ≡ read_finished g m.state m.verdict reading
       is =
-          ap (λ (z : Made). read_call z m.state part m.buffer m.verdict) made
+          ap (λ (z : Option Settings). read_call z m.state part m.buffer m.verdict) made
           ∙ call_is g memory part state h.stands.encodes.state_words_lem h.stands.encodes.verdict_words_lem h.stands.encodes.reader
 
       go : (b : Bool) → leb (length part) (greatest_word - offset) ≡ b → Took g x (read_finished g m.state m.verdict reading)

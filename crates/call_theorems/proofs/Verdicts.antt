@@ -1,4 +1,5 @@
 -- Theorems: a verdict that goes through the C functions as its number and its type is decided on as the verdict itself.
+use Rattle.std.specs.Prelude.{Option, Some, None, Result, Ok, Err}
 use mathlib.Core.Path.{◌≡◌, refl, sym, ap, ◌∙◌}
 use mathlib.Core.List.{List, [], ◌∷◌}
 use mathlib.Core.Bool.{Bool, true, true≢false}
@@ -16,9 +17,9 @@ use Rattle.settings.specs.DataBytes.{all_allowed}
 use Rattle.settings.specs.declared.Kind.{Kind}
 use Rattle.settings.specs.declared.Kind.TheVariants.{Hybrid, Minimal}
 use Rattle.settings.specs.declared.Settings.{Settings}
-use Rattle.refusal.specs.Refusal.{number_of, type_of, length_of}
-use Rattle.refusal.specs.declared.Verdict.{Verdict}
-use Rattle.refusal.specs.declared.Verdict.TheVariants.{Accepted, Refused}
+use Rattle.refusal.specs.Refusal.{number_of, type_of, length_of, accepted_as}
+use Rattle.refusal.specs.declared.Accepted.{Accepted}
+use Rattle.refusal.specs.declared.Refusal.{Refusal}
 use Rattle.block.specs.Format.{count_field}
 use Rattle.block.specs.Judge.{type_matches, header_ok, checksum_matches, judge_parts, judge_hybrid, judge_minimal, judge}
 use Rattle.stream.specs.Scan.{Scan, stored_verdict, phase_step, step, fold, read_of}
@@ -26,20 +27,18 @@ use Rattle.stream.specs.declared.Phase.{Phase}
 use Rattle.stream.specs.declared.Phase.TheVariants.{Between, Inside, Ended}
 use Rattle.stream.specs.declared.Reader.{Reader}
 use Rattle.stream.specs.declared.Reading.{Reading}
-use Rattle.stream.specs.declared.Answer.{Answer}
-use Rattle.stream.specs.declared.Answer.TheVariants.{Refused as RefusedCall, Pending, Found}
+use Rattle.stream.specs.declared.Found.{Found}
 use Rattle.words.specs.Words.{verdict_from}
-use Rattle.words.specs.declared.VerdictMade.TheVariants.{Known}
 use Rattle.sender.specs.Sender.{block_read_of}
 use Rattle.sender.specs.declared.Sender.{Sender}
 use Rattle.call_theorems.specs.Verdicts.{passed_on, reader_gives}
 
 -- the verdict that the C functions make again
-pub made_again : (v : Verdict) → reader_gives v ≡ true → verdict_from (number_of v) (type_of v) ≡ Known (passed_on v)
-made_again (Accepted t n) h = rw (le-ltb 255 t (leb-true t 255 h))
-made_again (Refused n i) h =
-    let least = leb-true 3 n (and_left (leb 3 n) (leb n 8) h) in
-    rw (ne_eqb n 0 (λ (e : n ≡ 0). omega arith), h)
+pub made_again : (v : Result Accepted Refusal) → reader_gives v ≡ true → verdict_from (number_of v) (type_of v) ≡ Some (passed_on v)
+made_again (Ok v) h = rw (le-ltb 255 v.block_type (leb-true v.block_type 255 h))
+made_again (Err v) h =
+    let least = leb-true 3 v.number (and_left (leb 3 v.number) (leb v.number 8) h) in
+    rw (ne_eqb v.number 0 (λ (e : v.number ≡ 0). omega arith), h)
 
 -- every verdict that the reader gives is one of these, whatever its state, its buffer and the bytes
 type_gives : (t : ℕ) (d : List ℕ) → type_matches t d ≡ true → leb t 255 ≡ true
@@ -48,7 +47,7 @@ type_gives t d =
     cond_ind (λ (z : Bool). z ≡ true → leb t 255 ≡ true) (eqb t (code "D")) _ _ (λ e h. rw (eqb-true t (code "D") e))
     (λ e. cond_ind (λ (z : Bool). z ≡ true → leb t 255 ≡ true) (eqb t (code "N")) _ _ (λ f h. rw (eqb-true t (code "N") f)) (λ f h. absurd (true≢false (sym h))))
 
-abbrev Gives : Verdict → Type 0
+abbrev Gives : Result Accepted Refusal → Type 0
 Gives v = reader_gives v ≡ true
 
 parts_give : (sb t : ℕ) (d ccccc xxx : List ℕ) → Gives (judge_parts sb t d ccccc xxx)
@@ -74,10 +73,10 @@ stored_gives g n b x =
     cond_ind Gives (ltb (capacity_of g) n) _ _ (λ e. refl) (λ e. cond_ind Gives (eqb x 0x0D) _ _ (λ f. judge_gives g (take n b)) (λ f. refl))
 
 -- and a call that it refuses has a number
-abbrev pub answer_gives : Answer → Bool
-answer_gives (RefusedCall n) = leb 1 n
-answer_gives Pending = true
-answer_gives (Found s v) = reader_gives v
+abbrev pub answer_gives : Result (Option Found) Refusal → Bool
+answer_gives (Err r) = leb 1 r.number
+answer_gives (Ok None) = true
+answer_gives (Ok (Some f)) = reader_gives f.verdict
 
 abbrev Scanned : Scan → Type 0
 Scanned t = answer_gives t.answer ≡ true
@@ -90,11 +89,11 @@ phase_gives g Inside n s k b x =
 phase_gives g Ended n s k b x =
     cond_ind Scanned (eqb x g.start_block) _ _ (λ e. stored_gives g n b x) (λ e. stored_gives g n b x)
 
-step_gives : (g : Settings) (a : Answer) (r : Reader) (b : List ℕ) (x : ℕ) → answer_gives a ≡ true → Scanned (step g a r b x)
+step_gives : (g : Settings) (a : Result (Option Found) Refusal) (r : Reader) (b : List ℕ) (x : ℕ) → answer_gives a ≡ true → Scanned (step g a r b x)
 unfolding step
-step_gives g Pending r b x h = phase_gives g r.phase r.body_length r.block_offset r.position b x
-step_gives g (Found s v) r b x h = h
-step_gives g (RefusedCall n) r b x h = h
+step_gives g (Ok None) r b x h = phase_gives g r.phase r.body_length r.block_offset r.position b x
+step_gives g (Ok (Some f)) r b x h = h
+step_gives g (Err n) r b x h = h
 
 fold_gives : (g : Settings) (t : Scan) (xs : List ℕ) → Scanned t → Scanned (fold g t xs)
 unfolding fold
@@ -109,26 +108,26 @@ unfolding read_of
 read_gives g r xs b =
     cond_ind Read (valid g) _ _
     (λ e. cond_ind Read (leb (capacity_of g) (length b)) _ _
-    (λ f. cond_ind Read (leb (length xs) (greatest_word - r.position)) _ _ (λ h. fold_gives g (record { answer = Pending; reader = r; buffer = b }) xs refl) (λ h. refl))
+    (λ f. cond_ind Read (leb (length xs) (greatest_word - r.position)) _ _ (λ h. fold_gives g (record { answer = (Ok None); reader = r; buffer = b }) xs refl) (λ h. refl))
     (λ f. refl))
     (λ e. refl)
 
-pub reader_gives_lem : (g : Settings) (r : Reader) (xs b : List ℕ) (s : ℕ) (v : Verdict) → (read_of g r xs b).answer.answer ≡ Found s v
+pub reader_gives_lem : (g : Settings) (r : Reader) (xs b : List ℕ) (s : ℕ) (v : Result Accepted Refusal) → (read_of g r xs b).answer.answer ≡ Ok (Some (record { block_offset = s; verdict = v }))
     → reader_gives v ≡ true
 reader_gives_lem g r xs b s v e = ap answer_gives (sym e) ∙ read_gives g r xs b
 
 -- so the C functions make again every verdict that the reader gave
-pub read_again : (g : Settings) (r : Reader) (xs b : List ℕ) (s : ℕ) (v : Verdict) → (read_of g r xs b).answer.answer ≡ Found s v
-    → verdict_from (number_of v) (type_of v) ≡ Known (passed_on v)
+pub read_again : (g : Settings) (r : Reader) (xs b : List ℕ) (s : ℕ) (v : Result Accepted Refusal) → (read_of g r xs b).answer.answer ≡ Ok (Some (record { block_offset = s; verdict = v }))
+    → verdict_from (number_of v) (type_of v) ≡ Some (passed_on v)
 read_again g r xs b s v e = made_again v (reader_gives_lem g r xs b s v e)
 
 -- an accepted block goes to the receiver's decision with its type and data; a refused one has a number
-pub accepted_number : (v : Verdict) → reader_gives v ≡ true → eqb (number_of v) 0 ≡ true → v ≡ Accepted (type_of v) (length_of v)
-accepted_number (Accepted t n) h z = refl
-accepted_number (Refused n i) h z = let least = leb-true 3 n (and_left (leb 3 n) (leb n 8) h) in let same = eqb-true n 0 z in absurd (omega arith)
+pub accepted_number : (v : Result Accepted Refusal) → reader_gives v ≡ true → eqb (number_of v) 0 ≡ true → v ≡ accepted_as (type_of v) (length_of v)
+accepted_number (Ok v) h z = refl
+accepted_number (Err v) h z = let least = leb-true 3 v.number (and_left (leb 3 v.number) (leb v.number 8) h) in let same = eqb-true v.number 0 z in absurd (omega arith)
 
 -- and the sender acts on it as on the verdict itself
-pub sends_the_same : (r : ℕ) (s : Sender) (v : Verdict) (d : List ℕ) → block_read_of r s (passed_on v) d ≡ block_read_of r s v d
+pub sends_the_same : (r : ℕ) (s : Sender) (v : Result Accepted Refusal) (d : List ℕ) → block_read_of r s (passed_on v) d ≡ block_read_of r s v d
 unfolding block_read_of
-sends_the_same r s (Accepted t n) d = refl
-sends_the_same r s (Refused n i) d = refl
+sends_the_same r s (Ok v) d = refl
+sends_the_same r s (Err v) d = refl

@@ -1,4 +1,5 @@
 -- The block of a message that a report named: where the call was done, the driver has the block of that message.
+use Rattle.std.specs.Prelude.{Option, Some, Result}
 use mathlib.Core.Path.{◌≡◌, refl, sym, ap, ◌∙◌, subst}
 use mathlib.Core.List.{List, [], ◌∷◌}
 use mathlib.Core.Bool.{Bool, true, false, cond}
@@ -14,9 +15,7 @@ use Rattle.lists.proofs.Calls.{over-is}
 use Rattle.lists.proofs.Put.{part_put}
 use Rattle.settings.specs.Settings.{valid_link, link_of}
 use Rattle.settings.specs.declared.Settings.{Settings}
-use Rattle.settings.specs.declared.Made.{Made}
-use Rattle.settings.specs.declared.Made.TheVariants.{Valid}
-use Rattle.refusal.specs.declared.Written.{Written}
+use Rattle.refusal.specs.declared.Refusal.{Refusal}
 use Rattle.block.specs.Format.{block_of}
 use Rattle.writer.specs.Write.{need_of, refused, wrote, frame_of}
 use Rattle.writer.proofs.Laws.{write_framed, frame_too_short, frame_all}
@@ -26,15 +25,13 @@ use Rattle.numbers.specs.declared.SequenceNumber.TheVariants.{MinusOne, Number}
 use Rattle.messages.specs.Messages.{control_message, message_type}
 use Rattle.messages.specs.declared.Control.{Control}
 use Rattle.messages.specs.declared.Control.TheVariants.{Resynchronize, Query}
-use Rattle.messages.specs.declared.TypeMade.{TypeMade}
-use Rattle.messages.specs.declared.TypeMade.TheVariants.{Known as KnownType}
+use Rattle.messages.specs.declared.MessageType.{MessageType}
 use Rattle.control_block.specs.ControlBlock.{control_block_of}
 use Rattle.control_block.proofs.Framed.{control_framed}
 use Rattle.words.specs.Words.{write_finished, with_report}
 use Rattle.block_calls.specs.WriteCalls.{write_call}
 use Rattle.message_calls.specs.MessageCalls.{minus_one, control_from}
 use Rattle.message_calls.specs.ControlCalls.{control_block_with, control_block_call}
-use Rattle.sender.specs.declared.NumberedMessage.TheVariants.{Numbered}
 use Rattle.sender_calls.specs.SenderCalls.{send_words}
 use Rattle.link.specs.System.{Link, request_of}
 use Rattle.link.specs.Promise.{Ready}
@@ -46,7 +43,7 @@ use Rattle.call_theorems.proofs.Driving.{settings_valid, link_made}
 
 -- ---- a writer's call that was done
 module _ (g : Settings) (d : List ℕ) (w : Writable g (code "D") d) (start : ℕ) (b p : List ℕ) where
-  abbrev calls : Outcome Written → Called
+  abbrev calls : Outcome (Result ℕ Refusal) → Called
   calls o = with_report b p o
 
   abbrev block : List ℕ
@@ -69,10 +66,10 @@ module _ (g : Settings) (d : List ℕ) (w : Writable g (code "D") d) (start : �
   framed_writes false m f e = subst (λ (z : Bool). Writes (cond z (write_finished (frame_of g (code "D") d start b).buffer p (frame_of g (code "D") d start b).answer) (called 2 [] b p))) (sym m) (λ done. not_both (sym done))
   framed_writes true m true e =
       subst (λ (z : Bool). Writes (cond z (write_finished (frame_of g (code "D") d start b).buffer p (frame_of g (code "D") d start b).answer) (called 2 [] b p))) (sym m)
-      (subst (λ (o : Outcome Written). Writes (write_finished o.buffer p o.answer)) (frame_all g (code "D") d start b e w.fits w.type w.bytes) (fits_writes m e))
+      (subst (λ (o : Outcome (Result ℕ Refusal)). Writes (write_finished o.buffer p o.answer)) (frame_all g (code "D") d start b e w.fits w.type w.bytes) (fits_writes m e))
   framed_writes true m false e =
       subst (λ (z : Bool). Writes (cond z (write_finished (frame_of g (code "D") d start b).buffer p (frame_of g (code "D") d start b).answer) (called 2 [] b p))) (sym m)
-      (subst (λ (o : Outcome Written). Writes (write_finished o.buffer p o.answer)) (frame_too_short g (code "D") d start b e) short_writes)
+      (subst (λ (o : Outcome (Result ℕ Refusal)). Writes (write_finished o.buffer p o.answer)) (frame_too_short g (code "D") d start b e) short_writes)
 
   pub writes : Writes (calls (frame_of g (code "D") d start b))
   writes = framed_writes (leb 2 (length p)) refl (leb (start + need_of g d) (length b)) refl
@@ -82,7 +79,7 @@ module _ (g : Settings) (d : List ℕ) (w : Writable g (code "D") d) (start : �
   unfolding write_finished
   frame_done f m =
       ap (λ (z : Bool). (cond z (write_finished (frame_of g (code "D") d start b).buffer p (frame_of g (code "D") d start b).answer) (called 2 [] b p)).number) (le-leb 2 (length p) m)
-      ∙ ap (λ (o : Outcome Written). (write_finished o.buffer p o.answer).number)
+      ∙ ap (λ (o : Outcome (Result ℕ Refusal)). (write_finished o.buffer p o.answer).number)
       (sym (frame_all g (code "D") d start b (le-leb (start + need_of g d) (length b) f) w.fits w.type w.bytes))
 
 -- ---- the call for each message
@@ -104,12 +101,12 @@ module _ (k : Passed) (ag : Agrees k) (rd : Ready k.link) (start : ℕ) (m : Sen
       ap (with_report m.block m.written)
       (sym (write_framed g (code "D") (control_message l.name c) start m.block (settings_valid k ag rd) ∙ control_framed g l.name c start m.block rd.settings rd.name))
 
-  control_call : (n : ℕ) (c : Control) → control_block_with (Valid g) (KnownType l.name) (control_from n) m.block start m.written ≡ cond (valid_link g) (control c) (called 1 [] m.block m.written)
+  control_call : (n : ℕ) (c : Control) → control_block_with (Some g) (Some l.name) (control_from n) m.block start m.written ≡ cond (valid_link g) (control c) (called 1 [] m.block m.written)
       → control_block_call (link_of (made_from k.numbers)) k.letters n m.block start m.written ≡ frame (control_message l.name c)
   unfolding control_block_call
   control_call n c e =
-      ap (λ (s : Made). control_block_with s (message_type k.letters) (control_from n) m.block start m.written) (link_made k ag rd)
-      ∙ ap (λ (t : TypeMade). control_block_with (Valid g) t (control_from n) m.block start m.written) ag.letters
+      ap (λ (s : Option Settings). control_block_with s (message_type k.letters) (control_from n) m.block start m.written) (link_made k ag rd)
+      ∙ ap (λ (t : Option MessageType). control_block_with (Some g) t (control_from n) m.block start m.written) ag.letters
       ∙ e
       ∙ ap (λ (b : Bool). cond b (control c) (called 1 [] m.block m.written)) rd.settings
       ∙ control_is c
@@ -121,10 +118,10 @@ module _ (k : Passed) (ag : Agrees k) (rd : Ready k.link) (start : ℕ) (m : Sen
   unfolding write_call
   numbered n true e = control_call 0 Query refl
   numbered n false e =
-      ap (λ (s : Made). write_call s (code "D") (l.log n) m.block start m.written) ag.settings
+      ap (λ (s : Option Settings). write_call s (code "D") (l.log n) m.block start m.written) ag.settings
       ∙ ap (λ (b : Bool). cond b (frame (l.log n)) (called 1 [] m.block m.written)) (settings_valid k ag rd)
 
-  call_is : (v : SequenceNumber) → (s : List ℕ) → s ≡ send_words (Numbered v) → by_words (get_or s 0 0) (get_or s 1 0) ≡ frame (request_of l v)
+  call_is : (v : SequenceNumber) → (s : List ℕ) → s ≡ send_words (Some v) → by_words (get_or s 0 0) (get_or s 1 0) ≡ frame (request_of l v)
   call_is MinusOne s e = ap (λ (z : List ℕ). by_words (get_or z 0 0) (get_or z 1 0)) e ∙ control_call minus_one Resynchronize refl
   call_is (Number n) s e = ap (λ (z : List ℕ). by_words (get_or z 0 0) (get_or z 1 0)) e ∙ numbered n (eqb n 0) refl
 
@@ -144,7 +141,7 @@ module _ (k : Passed) (ag : Agrees k) (rd : Ready k.link) (start : ℕ) (m : Sen
       number i true = refl
       number i false = refl
 
-      go : (v : SequenceNumber) → message_named k (record { kind = get_or (send_words (Numbered v)) 0 0; number = get_or (send_words (Numbered v)) 1 0 }) ≡ request_of l v
+      go : (v : SequenceNumber) → message_named k (record { kind = get_or (send_words (Some v)) 0 0; number = get_or (send_words (Some v)) 1 0 }) ≡ request_of l v
       go MinusOne = refl
       go (Number i) = number i (eqb i 0)
 

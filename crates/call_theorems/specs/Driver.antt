@@ -1,12 +1,11 @@
 -- include/giamuvich.h: two drivers that run a link by the C functions and keep their duties. All that they have is words and bytes: what they lend to a call, what they
 -- store and restore, what a report showed them, and a verdict handed on as its number, its type and its data.
-use Rattle.std.specs.Prelude.{List, [], ◌∷◌, ◌++◌, map, Bool, true, false, cond, not, ◌&&◌, ℕ, ◌+◌, length, take, drop, get_or, leb, eqb}
+use Rattle.std.specs.Prelude.{List, [], ◌∷◌, ◌++◌, map, Bool, true, false, cond, not, ◌&&◌, ℕ, ◌+◌, length, take, drop, get_or, leb, eqb, Option}
 use Prim.Native.Char.{code}
 use Rattle.lists.specs.Bytes.{same, over}
 use Rattle.lists.specs.Outcome.{Called}
 use Rattle.settings.specs.Settings.{capacity_of, hybrid_of, minimal_of, link_of}
 use Rattle.settings.specs.declared.Settings.{Settings}
-use Rattle.settings.specs.declared.Made.{Made}
 use Rattle.block_calls.specs.ReadCalls.{fresh_reader_call, read_call}
 use Rattle.block_calls.specs.WriteCalls.{write_call}
 use Rattle.message_calls.specs.MessageCalls.{minus_one}
@@ -25,7 +24,7 @@ pub data SettingNumbers : Type 0 where
   hybrid : ℕ → ℕ → ℕ → SettingNumbers
   minimal : ℕ → SettingNumbers
 
-abbrev pub made_from : SettingNumbers → Made
+abbrev pub made_from : SettingNumbers → Option Settings
 made_from (hybrid sb eb d) = hybrid_of sb eb d
 made_from (minimal d) = minimal_of d
 

@@ -1,17 +1,14 @@
 -- Demand 3 of what two drivers have: of the words and bytes that they hold and have stored, and of what the sender's calls report.
-use Rattle.std.specs.Prelude.{◌≡◌, List, [], ◌∷◌, Bool, true, false, cond, not, ◌&&◌, ◌⊎◌, ℕ, ◌+◌, ◌≤◌, get_or, eqb}
+use Rattle.refusal.specs.Refusal.{refused_by}
+use Rattle.std.specs.Prelude.{◌≡◌, List, [], ◌∷◌, Bool, true, false, cond, not, ◌&&◌, ◌⊎◌, ℕ, ◌+◌, ◌≤◌, get_or, eqb, Option, Some, None, Result}
 use Rattle.lists.specs.Bytes.{same}
 use Rattle.lists.specs.Outcome.{Called}
-use Rattle.settings.specs.declared.Made.TheVariants.{Valid}
-use Rattle.refusal.specs.declared.Verdict.{Verdict}
-use Rattle.refusal.specs.declared.Verdict.TheVariants.{Refused}
+use Rattle.refusal.specs.declared.Accepted.{Accepted}
+use Rattle.refusal.specs.declared.Refusal.{Refusal}
 use Rattle.stream.specs.Stream.{Judged}
 use Rattle.messages.specs.Messages.{control_message, message_type}
 use Rattle.messages.specs.declared.Control.TheVariants.{Resynchronize, Query}
-use Rattle.messages.specs.declared.TypeMade.TheVariants.{Known}
 use Rattle.words.specs.Words.{verdict_from}
-use Rattle.words.specs.declared.VerdictMade.{VerdictMade}
-use Rattle.words.specs.declared.VerdictMade.TheVariants.{Unknown as NoVerdict, Known as AVerdict}
 use Rattle.sender_calls.specs.SenderCalls.{open_call, ended_call, reset_call, timer_call, block_call, submit_call}
 use Rattle.link.specs.SenderActs.{Act, opened, ended, reset, timer, block, submit, falls_due}
 use Rattle.link.specs.System.{Link}
@@ -27,8 +24,8 @@ pub data In {A : Type 0} (x : A) : List A → Type 0 where
 
 -- the numbers and letters stand for the link's settings and type
 pub record Agrees (k : Passed) : Type 0 where
-  pub settings : made_from k.numbers ≡ Valid k.link.settings
-  pub letters : message_type k.letters ≡ Known k.link.name
+  pub settings : made_from k.numbers ≡ Some k.link.settings
+  pub letters : message_type k.letters ≡ Some k.link.name
 
 -- the verdicts that an earlier tenancy left are some that a reader gives
 abbrev pub all_given : List Judged → Bool
@@ -74,9 +71,9 @@ called_by k m timing = timer_call k.link.resends m.state m.report
 called_by k m (submitting limit d) = submit_call limit d m.state m.report
 called_by k m (taking w) = block_call k.link.resends w.number w.type w.content m.state m.report
 
-abbrev pub verdict_by : VerdictMade → Verdict
-verdict_by (AVerdict v) = v
-verdict_by NoVerdict = Refused 0 0
+abbrev pub verdict_by : Option (Result Accepted Refusal) → Result Accepted Refusal
+verdict_by (Some v) = v
+verdict_by None = refused_by 0 0
 
 abbrev pub act_by : Passed → SenderCall → Act
 act_by k opening = opened

@@ -1,10 +1,9 @@
 -- Which acts of the link an act of the drivers is.
-use Rattle.std.specs.Prelude.{List, [], ◌∷◌, ◌++◌, Bool, false, cond, ◌&&◌, ℕ, zero, suc, take, eqb}
+use Rattle.std.specs.Prelude.{List, [], ◌∷◌, ◌++◌, Bool, false, cond, ◌&&◌, ℕ, zero, suc, take, eqb, Option, Some, None}
 use Rattle.lists.specs.Bytes.{same}
 use Rattle.lists.specs.Outcome.{Called}
 use Rattle.receiver_calls.specs.ReceiverCalls.{application_from, is_type}
-use Rattle.receiver_calls.specs.declared.ApplicationMade.{ApplicationMade}
-use Rattle.receiver_calls.specs.declared.ApplicationMade.TheVariants.{Unknown, Known}
+use Rattle.receiver.specs.declared.Application.{Application}
 use Rattle.link.specs.System.{SystemAct, opens as link_opens, ends as link_ends, resets as link_resets, timer as link_timer, submits as link_submits, sender_persists, sender_writes, sender_forgets, sender_reads}
 use Rattle.link.specs.System.{sender_acts, sender_discards, sender_restores, sender_crashes, receiver_reads as link_receiver_reads, receiver_decides, receiver_reports, receiver_naks, receiver_discards, receiver_persists, receiver_writes}
 use Rattle.link.specs.System.{receiver_restores as link_receiver_restores, receiver_crashes as link_receiver_crashes, damages_forward as link_damages_forward, damages_back as link_damages_back}
@@ -30,10 +29,10 @@ goes_out k start x [] = false
 goes_out k start x (v ∷ ns) = eqb (block_of_named k start x.sender.memory v).number 0 && same (take 5 x.sender.memory.state) x.sender.stored
 
 -- a decision on the oldest block that was read, if it was accepted and the numbers stand for something
-abbrev pub decides_on : ApplicationMade → List Shown → List SystemAct
-decides_on Unknown ws = []
-decides_on (Known a) [] = []
-decides_on (Known a) (w ∷ ws) = once (eqb w.number 0 && is_type w.type) (receiver_decides 0 a)
+abbrev pub decides_on : Option Application → List Shown → List SystemAct
+decides_on None ws = []
+decides_on (Some a) [] = []
+decides_on (Some a) (w ∷ ws) = once (eqb w.number 0 && is_type w.type) (receiver_decides 0 a)
 
 abbrev pub acts_of : Passed → DriverAct → Drivers → List SystemAct
 acts_of k (opens r q) x = once (enough_to_read k.link.settings r && enough_to_read k.link.settings q) link_opens

@@ -1,10 +1,8 @@
 -- include/giamuvich.h, gmv_hybrid_read: what a driver does with a stream that comes in parts, in words and bytes. The same memory is lent, unaltered, each time.
-use Rattle.std.specs.Prelude.{◌≡◌, List, [], ◌∷◌, ◌++◌, Bool, cond, ◌&&◌, ℕ, zero, suc, length, take, drop, get_or, eqb, ltb}
+use Rattle.std.specs.Prelude.{◌≡◌, List, [], ◌∷◌, ◌++◌, Bool, cond, ◌&&◌, ℕ, zero, suc, length, take, drop, get_or, eqb, ltb, Option, Some}
 use Rattle.lists.specs.Outcome.{Called, called}
 use Rattle.settings.specs.Settings.{data_offset_of, hybrid_of, minimal_of}
 use Rattle.settings.specs.declared.Settings.{Settings}
-use Rattle.settings.specs.declared.Made.{Made}
-use Rattle.settings.specs.declared.Made.TheVariants.{Valid}
 use Rattle.refusal.specs.Refusal.{number_of, offset_of, type_of, length_of}
 use Rattle.stream.specs.Stream.{Judged}
 use Rattle.block_calls.specs.ReaderWords.{data_start}
@@ -72,21 +70,21 @@ abbrev pub new_verdict : Called → List Shown
 new_verdict d = cond (found_block d) (shown_by d ∷ []) []
 
 -- one part, in at most as many calls as the number says: "Where verdict[GMV_VERDICT_USED] is less than part_length, .. call again with the rest of the part"
-unfoldable pub part_calls : Made → ℕ → Called → List ℕ → Driven
+unfoldable pub part_calls : Option Settings → ℕ → Called → List ℕ → Driven
 part_calls s zero c xs = driven [] c
 part_calls s (suc n) c xs =
     let d = read_call s c.state xs c.buffer c.report in
     cond (eqb d.number 0 && ltb (used_bytes d) (length xs)) (followed_by (new_verdict d) (part_calls s n d (drop (used_bytes d) xs))) (driven (new_verdict d) d)
 
 -- one part after another, until a call is refused
-unfoldable pub parts_calls : Made → Called → List (List ℕ) → Driven
+unfoldable pub parts_calls : Option Settings → Called → List (List ℕ) → Driven
 parts_calls s c [] = driven [] c
 parts_calls s c (xs ∷ parts) =
     let u = part_calls s (suc (length xs)) c xs in
     cond (eqb u.last.number 0) (followed_by u.says (parts_calls s u.last parts)) u
 
 -- a stream from gmv_reader_fresh on, with any words st and v and any buffer b
-unfoldable pub stream_calls : Made → List ℕ → List ℕ → List ℕ → List (List ℕ) → Driven
+unfoldable pub stream_calls : Option Settings → List ℕ → List ℕ → List ℕ → List (List ℕ) → Driven
 stream_calls s st b v parts =
     let c = called (fresh_reader_call st).number (fresh_reader_call st).state b v in
     cond (eqb c.number 0) (parts_calls s c parts) (driven [] c)
@@ -96,6 +94,6 @@ abbrev pub without_report : Driven → Driven
 without_report u = driven u.says (called u.last.number u.last.state u.last.buffer [])
 
 -- the settings g that gmv_hybrid_read and gmv_minimal_read make of a driver's numbers, where they take them
-pub data Taken : Made → Settings → Type 0 where
-  hybrid : {g : Settings} (sb eb d : ℕ) → hybrid_of sb eb d ≡ Valid g → Taken (hybrid_of sb eb d) g
-  minimal : {g : Settings} (d : ℕ) → minimal_of d ≡ Valid g → Taken (minimal_of d) g
+pub data Taken : Option Settings → Settings → Type 0 where
+  hybrid : {g : Settings} (sb eb d : ℕ) → hybrid_of sb eb d ≡ Some g → Taken (hybrid_of sb eb d) g
+  minimal : {g : Settings} (d : ℕ) → minimal_of d ≡ Some g → Taken (minimal_of d) g

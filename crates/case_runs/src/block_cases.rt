@@ -1,18 +1,18 @@
 // Document 01, 'Cases by hand', the others that concern blocks: data of D and D + 1 bytes, byte 7F, empty input; and the data
 // of an accepted block as the part of the buffer that holds it. A line for each: what was tried, and what came.
 use refusal::Written;
-use settings::{Made, Settings};
+use settings::Settings;
 use std::io;
-use stream::{Answer, Reader};
+use stream::Reader;
 
 const DATA_LIMIT: usize = 16;
 
 // Prints the number and the offset of a forbidden byte, and returns the length of the block written.
 fn print_written(rt: &impl Print, written: Written) -> io::Result<usize> {
-    let number = written.number();
-    let offset = written.offset();
+    let number = refusal::number_in(written.err());
+    let offset = refusal::offset_in(written.err());
     print!(rt; " {number} {offset}")?;
-    Ok(written.length())
+    Ok(refusal::written_length(written))
 }
 
 // Writes a block of this data, and checks what was written: the writer's number and offset, then the check's number, offset
@@ -33,9 +33,9 @@ fn write_and_check(
 
 fn print_check(rt: &impl Print, settings: Settings, bytes: &[u8]) -> io::Result<()> {
     let verdict = whole_block::check_block(settings, bytes);
-    let number = verdict.number();
-    let offset = verdict.offset();
-    let data_length = verdict.data_length();
+    let number = refusal::number_in(verdict.err());
+    let offset = refusal::offset_in(verdict.err());
+    let data_length = refusal::length_of(verdict);
     print!(rt; " {number} {offset} {data_length}")
 }
 
@@ -43,12 +43,15 @@ fn print_reading(rt: &impl Print, settings: Settings, part: &[u8]) -> io::Result
     let mut buffer = [0u8; 64];
     let reading = stream::read(settings, Reader::new(), part, &mut buffer);
     match reading.answer {
-        Answer::Refused(number) => print!(rt; " {number}")?,
-        Answer::Pending => print!(rt; " pending")?,
-        Answer::Found(_, verdict) => {
-            let number = verdict.number();
+        Err(refusal) => {
+            let number = refusal.number;
+            print!(rt; " {number}")?
+        }
+        Ok(None) => print!(rt; " pending")?,
+        Ok(Some(found)) => {
+            let number = refusal::number_in(found.verdict.err());
             print!(rt; " {number} ")?;
-            rt.write_all(block::block_content(settings, verdict, &buffer))?;
+            rt.write_all(block::block_content(settings, found.verdict, &buffer))?;
         }
     }
     let used = reading.used;
@@ -88,7 +91,7 @@ pub(crate) fn run(rt: &impl Print) -> io::Result<()> {
         u64::from(Settings::END_BLOCK),
         DATA_LIMIT as u64,
     );
-    let Made::Valid(settings) = made else {
+    let Some(settings) = made else {
         return Ok(());
     };
     run_cases(rt, settings)

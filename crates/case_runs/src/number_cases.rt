@@ -1,7 +1,7 @@
 // Document 01, 'Cases by hand', the others that concern sequence numbers: number 999,999,999,999,998 and one more; submit of
 // f + 1 first. A line for each: what was tried, and what came.
-use sender::{Sender, SenderMade, SenderSettings, SettingsMade};
-use settings::{Made, Settings};
+use sender::{Sender, SenderSettings};
+use settings::Settings;
 use std::io;
 
 const DATA_LIMIT: usize = 128;
@@ -35,26 +35,31 @@ fn print_word(rt: &impl Print, word: u64) -> io::Result<()> {
 
 // The decision's number, the report's, the transaction to persist, the expected number then, and the end of the answer: MSA-1 to
 // MSA-4.
-fn print_received(rt: &impl Print, made: Made, expected: u64, content: &[u8]) -> io::Result<u64> {
+fn print_received(
+    rt: &impl Print,
+    made: Option<Settings>,
+    expected: u64,
+    content: &[u8],
+) -> io::Result<u64> {
     let mut state = [expected, 0, 0, 0, 0, 0, 0, 0, 0];
     let mut decision = [0u64; 5];
     let mut report = [0u64; 2];
     let mut buffer = [0u8; DATA_LIMIT + 15];
-    let decided = receiver_calls::decide_words(
+    let decided = refusal::number_in(receiver_calls::decide_words(
         CODE_AA,
         u64::from(b'D'),
         content,
         &mut state,
         &mut decision,
-    );
-    let answered = receiver_calls::answer_words(
+    ).err());
+    let answered = refusal::number_in(receiver_calls::answer_words(
         made,
         STORED,
         &mut state,
         &mut buffer,
         0,
         &mut report,
-    );
+    ).err());
     print!(rt; " {decided} {answered}")?;
     print_word(rt, decision[2])?;
     print_word(rt, state[0])?;
@@ -71,7 +76,7 @@ fn print_acknowledgment(rt: &impl Print, reply: &[u8]) -> io::Result<()> {
     rt.write_all(&reply[MSA_START..MSA_END])
 }
 
-fn run_receiver(rt: &impl Print, made: Made) -> io::Result<()> {
+fn run_receiver(rt: &impl Print, made: Option<Settings>) -> io::Result<()> {
     print!(rt; "received 999999999999998:")?;
     let expected = print_received(rt, made, 0, &TRANSACTION_GREATEST)?;
     print!(rt; "received one more:")?;
@@ -89,10 +94,10 @@ fn print_submitted(rt: &impl Print, sender: Sender, message: &[u8]) -> io::Resul
 }
 
 fn run_first(rt: &impl Print, first: u64, message: &[u8], next: &[u8]) -> io::Result<()> {
-    let SettingsMade::Valid(settings) = SenderSettings::new(first, SenderSettings::RESENDS) else {
+    let Some(settings) = SenderSettings::new(first, SenderSettings::RESENDS) else {
         return println!(rt; " refused");
     };
-    let SenderMade::Made(fresh) = sender::new_sender(settings) else {
+    let Some(fresh) = sender::new_sender(settings) else {
         return println!(rt; " refused");
     };
     let then = print_submitted(rt, fresh, message)?;

@@ -8,15 +8,12 @@ use messages::MessageType;
 use settings::{Settings, digit_of};
 
 // Writes the block's bytes from `at` on.
+#[tactic(auto, using(lists::proofs::Put::copied_whole))]
 fn put_bytes(out: &mut [u8], at: usize, block: &[u8])
     requires { at + length block.now ≤ length out.old }
     ensures { out.new ≡ put out.old at block.now }
 {
-    let mut i = 0;
-    while i < block.len() {
-        out[at + i] = block[i];
-        i += 1;
-    }
+    lists::copy_bytes(&mut out[at..at + block.len()], block);
 }
 
 pub(crate) fn put_hybrid_query(

@@ -4,7 +4,7 @@
 
 mod blocks;
 
-ghost use Rattle.std.specs.Prelude.{◌≡◌, cond, ◌+◌, ◌≤◌, leb, length};
+ghost use Rattle.std.specs.Prelude.{◌≡◌, ◌+◌, ◌≤◌, length};
 ghost use Rattle.lists.specs.Bytes.{put};
 ghost use Rattle.lists.specs.Outcome.{outcome};
 ghost use Rattle.control_block.specs.ControlBlock.{control_block_of};
@@ -14,45 +14,21 @@ use blocks::{
     put_hybrid_query, put_hybrid_resynchronize, put_minimal_query, put_minimal_resynchronize,
 };
 use messages::{Control, MessageType};
-use refusal::Written;
+use refusal::{Refusal, Written};
 use settings::{Kind, Settings};
 
 fn block_length(kind: Kind, control: Control) -> usize
     ensures { result ≡ block_length kind control }
 {
-    match kind {
-        Kind::Hybrid => match control {
-            Control::Resynchronize => 48,
-            Control::Query => 46,
-        },
-        Kind::Minimal => match control {
-            Control::Resynchronize => 36,
-            Control::Query => 34,
-        },
+    match (kind, control) {
+        (Kind::Hybrid, Control::Resynchronize) => 48,
+        (Kind::Hybrid, Control::Query) => 46,
+        (Kind::Minimal, Control::Resynchronize) => 36,
+        (Kind::Minimal, Control::Query) => 34,
     }
 }
 
-// Whether a block of `size` bytes, a small number, fits from the offset on.
-fn is_long_enough(have: usize, start: usize, size: usize) -> bool
-    ensures { result ≡ leb (start + size) have }
-{
-    if have < start {
-        return false;
-    }
-    size <= have - start
-}
-
-// The number of a refusal: 1, then 2.
-fn refusal_of(valid: bool) -> u64
-    ensures { result ≡ cond valid 2 1 }
-{
-    if valid {
-        refusal::TOO_SHORT
-    } else {
-        refusal::SETTING
-    }
-}
-
+#[tactic(auto, unfolding(block::specs::Format::block_of))]
 fn put_block(
     settings: Settings,
     name: MessageType,
@@ -63,20 +39,20 @@ fn put_block(
     requires { start + block_length settings.kind control ≤ length buffer.old }
     ensures { buffer.new ≡ put buffer.old start (control_block settings name control) }
 {
-    let kind = settings.kind;
-    match kind {
-        Kind::Hybrid => match control {
-            Control::Resynchronize => put_hybrid_resynchronize(settings, name, buffer, start),
-            Control::Query => put_hybrid_query(settings, name, buffer, start),
-        },
-        Kind::Minimal => match control {
-            Control::Resynchronize => put_minimal_resynchronize(settings, name, buffer, start),
-            Control::Query => put_minimal_query(settings, name, buffer, start),
-        },
+    match (settings.kind, control) {
+        (Kind::Hybrid, Control::Resynchronize) => {
+            put_hybrid_resynchronize(settings, name, buffer, start)
+        }
+        (Kind::Hybrid, Control::Query) => put_hybrid_query(settings, name, buffer, start),
+        (Kind::Minimal, Control::Resynchronize) => {
+            put_minimal_resynchronize(settings, name, buffer, start)
+        }
+        (Kind::Minimal, Control::Query) => put_minimal_query(settings, name, buffer, start),
     }
 }
 
 // Writes the block into the buffer from an offset on. A refusal (1, 2) writes nothing.
+#[tactic(auto, using(crate::proofs::Laws::size_is, crate::proofs::Laws::length_is), unfolding(crate::specs::ControlBlock::control_block_of))]
 pub fn write_control_block(
     settings: Settings,
     name: MessageType,
@@ -86,12 +62,13 @@ pub fn write_control_block(
 ) -> Written
     ensures { outcome result buffer.new ≡ control_block_of settings name control start buffer.old }
 {
-    let kind = settings.kind;
-    let size = block_length(kind, control);
-    let valid = settings.is_link() & messages::is_type(name);
-    if !(valid & is_long_enough(buffer.len(), start, size)) {
-        return Written::Refused(refusal_of(valid), 0);
+    if !(settings.is_link() && messages::is_type(name)) {
+        return Err(Refusal::SETTING);
+    }
+    let size = block_length(settings.kind, control);
+    if buffer.len().saturating_sub(start) < size {
+        return Err(Refusal::TOO_SHORT);
     }
     put_block(settings, name, control, buffer, start);
-    Written::Done(size)
+    Ok(size)
 }

@@ -1,14 +1,17 @@
--- Bytes taken into a word and written from it, one by one.
-use mathlib.Core.Path.{◌≡◌, refl, sym, ap}
+-- The bytes of a word taken together one by one, and apart as std has them.
+use mathlib.Core.Path.{◌≡◌, refl, sym, ap, ◌∙◌}
 use mathlib.Core.List.{List, ◌++◌, append_assoc, append-nil}
-use Prim.Native.Nat.{ℕ, zero, suc, ◌+◌, ◌-◌, ◌*◌, ◌/◌, ◌%◌, ◌^◌, ◌≤◌, ◌<◌}
-use native.Mathlib.Nat.{pow-suc, pow-le-pow_right}
-use native.Mathlib.Numerals.{add-one}
+use Prim.Native.Nat.{ℕ, zero, suc, ◌+◌, ◌-◌, ◌*◌, ◌/◌, ◌^◌, ◌≤◌, ◌<◌}
 use native.Mathlib.Omega.{arith}
-use lib.ListN.{length, take, drop, get_or, set, length-append, length-take}
-use Rattle.lists.specs.Bytes.{put}
+use native.Mathlib.Nat.{zero-add, pow-suc, pow-le-pow_right}
+use native.Mathlib.Numerals.{add-one}
+use mir.Syntax.{w64}
+use lib.ListN.{length, drop, get_or, length-append}
+use Rattle.std.specs.Int.{to_le_bytes}
+use Rattle.lists.specs.Bytes.{put, overwritten}
 use Rattle.lists.proofs.Parts.{drop_more, drop_none}
-use Rattle.lists.proofs.Put.{put-set, put_none, put-put}
+use Rattle.lists.proofs.Put.{put-put, copied, over-fits, length-put}
+use borrow.Rule.Slice.PartMut.{mid_of, put_mid}
 use Rattle.control_id.specs.ControlId.{packed, unpacked}
 
 pub packed_none : (s : List ℕ) (i : ℕ) → length s ≤ i → 0 ≡ packed (drop i s)
@@ -32,19 +35,16 @@ power_most word k h l =
     let p : 256 ^ k ≤ 72057594037927936 = pow-le-pow_right {n = 256} (omega arith) {i = k} {j = 7} (omega arith) in
     omega arith
 
--- the lowest byte is written, and the others are still to come
-pub put_more : (l : List ℕ) (n k word : ℕ) → n < length l
-    → put (set l n (word % 256)) (n + 1) (unpacked k (word / 256)) ≡ put l n (unpacked (suc k) word)
+pub bytes_of_word : (w : ℕ) → to_le_bytes w64 w ≡ unpacked 8 w
 unfolding unpacked
-put_more l n k word h = put-set l (unpacked k (word / 256)) n (word % 256) h
-
-pub put_done : (l : List ℕ) (n word : ℕ) → l ≡ put l n (unpacked 0 word)
-unfolding unpacked
-put_done l n word = sym (put_none l n)
-
--- a part of at most eight bytes
-pub part_most : (s part : List ℕ) → part ≡ take 8 s → length part ≤ 8
-part_most s part e = omega (arith, ap length e, length-take 8 s)
+bytes_of_word w =
+    let e7 : w / 256 / 256 / 256 / 256 / 256 / 256 / 256 ≡ w / 72057594037927936 = omega arith in
+    let e6 : w / 256 / 256 / 256 / 256 / 256 / 256 ≡ w / 281474976710656 = omega arith in
+    let e5 : w / 256 / 256 / 256 / 256 / 256 ≡ w / 1099511627776 = omega arith in
+    let e4 : w / 256 / 256 / 256 / 256 ≡ w / 4294967296 = omega arith in
+    let e3 : w / 256 / 256 / 256 ≡ w / 16777216 = omega arith in
+    let e2 : w / 256 / 256 ≡ w / 65536 = omega arith in
+    rw (e7, e6, e5, e4, e3, e2)
 
 -- what is written over all that is there
 put_all : (l vs : List ℕ) → length vs ≡ length l → put l 0 vs ≡ vs
@@ -64,3 +64,30 @@ pub unpacked-length : (n word : ℕ) → length (unpacked n word) ≡ n
 unfolding unpacked
 unpacked-length zero word = refl
 unpacked-length (suc n) word = ap suc (unpacked-length n (word / 256))
+
+-- a copy over the beginning, and one over a part of n bytes from a on
+copied_first : (l vs : List ℕ) → length vs ≤ length l → overwritten l vs ≡ put l 0 vs
+unfolding put
+copied_first l vs h = rw zero-add (over-fits l vs h)
+
+copied_at : (l vs last : List ℕ) (a n : ℕ) → a + n ≡ length l → length vs ≤ n → last ≡ overwritten (mid_of a n l) vs → put_mid a n l last ≡ put l a vs
+copied_at l vs last a n h f e =
+    let q : length l - a ≡ n = omega arith in
+    rw q at (copied l vs last a (omega arith) (rw q e))
+
+-- as three copies leave the bytes
+pub words_copied : (zeros all second third : List ℕ) (a b c : ℕ) → length zeros ≡ 24 → all ≡ overwritten zeros (to_le_bytes w64 a)
+    → second ≡ overwritten (mid_of 8 16 all) (to_le_bytes w64 b) → third ≡ overwritten (mid_of 16 8 (put_mid 8 16 all second)) (to_le_bytes w64 c)
+    → put_mid 16 8 (put_mid 8 16 all second) third ≡ unpacked 8 a ++ (unpacked 8 b ++ unpacked 8 c)
+unfolding unpacked
+words_copied zeros all second third a b c h p q r =
+    let i = unpacked-length 8 a in
+    let j = unpacked-length 8 b in
+    let k = unpacked-length 8 c in
+    let one : all ≡ put zeros 0 (unpacked 8 a) = rw bytes_of_word at p ∙ copied_first zeros (unpacked 8 a) (omega arith) in
+    let n : length all ≡ 24 = ap length one ∙ length-put zeros (unpacked 8 a) 0 (omega arith) ∙ h in
+    let two : put_mid 8 16 all second ≡ put all 8 (unpacked 8 b) = copied_at all (unpacked 8 b) second 8 16 (omega arith) (omega arith) (rw bytes_of_word at q) in
+    let m : length (put_mid 8 16 all second) ≡ 24 = ap length two ∙ length-put all (unpacked 8 b) 8 (omega arith) ∙ n in
+    copied_at (put_mid 8 16 all second) (unpacked 8 c) third 16 8 (omega arith) (omega arith) (rw bytes_of_word at r)
+    ∙ ap (λ (z : List ℕ). put z 16 (unpacked 8 c)) (two ∙ ap (λ (z : List ℕ). put z 8 (unpacked 8 b)) one)
+    ∙ put_words zeros (unpacked 8 a) (unpacked 8 b) (unpacked 8 c) h i j k

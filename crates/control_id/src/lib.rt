@@ -2,9 +2,9 @@
 
 #![tactic(auto)]
 
-ghost use Rattle.std.specs.Prelude.{◌≡◌, ◌+◌, ◌%◌, ◌≤◌, length};
-ghost use Rattle.lists.specs.Bytes.{overwritten, put};
-ghost use Rattle.control_id.specs.ControlId.{packed, unpacked, in_words, word_bytes};
+ghost use Rattle.std.specs.Prelude.{◌≡◌, ◌≤◌, length};
+ghost use Rattle.lists.specs.Bytes.{overwritten};
+ghost use Rattle.control_id.specs.ControlId.{packed, in_words, word_bytes};
 
 use lists::{copy_bytes, part_of};
 
@@ -17,33 +17,20 @@ pub struct ControlId {
     pub third: u64,
 }
 
-fn wide(byte: u8) -> u64
-    ensures { result ≡ byte }
-{
-    byte as u64
-}
-
-fn low_byte(word: u64) -> u8
-    ensures { result ≡ word % 256 }
-{
-    (word % 256) as u8
-}
-
-// From the last byte on, as the first one is the lowest.
+// Up to eight bytes in a word, the first one lowest. `from_le_bytes` of a copy would have the archive call memcpy (lists::copy_bytes).
 fn pack_word(part: &[u8]) -> u64
     requires { length part.now ≤ 8 }
     ensures { result ≡ packed part.now }
 {
-    let mut i = part.len();
     let mut word = 0;
-    while 0 < i {
-        i -= 1;
-        word = word * 256 + wide(part[i]);
+    for i in (0..part.len()).rev() {
+        word = word * 256 + u64::from(part[i]);
     }
     word
 }
 
 // The length, and the first 24 bytes.
+#[tactic(auto, unfolding(crate::specs::ControlId::in_words))]
 pub fn pack(content: &[u8]) -> ControlId
     ensures { result ≡ in_words content.now }
 {
@@ -58,27 +45,13 @@ pub fn pack(content: &[u8]) -> ControlId
     }
 }
 
-// Writes a word's eight bytes from `at` on.
-fn put_word(out: &mut [u8], at: usize, word: u64)
-    requires { at + 8 ≤ length out.old }
-    ensures { out.new ≡ put out.old at (unpacked 8 word) }
-{
-    let mut i = 0;
-    let mut rest = word;
-    while i < 8 {
-        out[at + i] = low_byte(rest);
-        rest = rest / 256;
-        i += 1;
-    }
-}
-
 // Writes all 24 bytes over the beginning, as many of them as fit.
 pub fn unpack(control_id: ControlId, bytes: &mut [u8])
     ensures { bytes.new ≡ overwritten bytes.old (word_bytes control_id) }
 {
     let mut all = [0u8; 24];
-    put_word(&mut all, 0, control_id.first);
-    put_word(&mut all, 8, control_id.second);
-    put_word(&mut all, 16, control_id.third);
+    copy_bytes(&mut all, &control_id.first.to_le_bytes());
+    copy_bytes(&mut all[8..], &control_id.second.to_le_bytes());
+    copy_bytes(&mut all[16..], &control_id.third.to_le_bytes());
     copy_bytes(bytes, &all);
 }

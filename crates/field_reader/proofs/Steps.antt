@@ -1,4 +1,5 @@
 -- Theorems: the reader goes on and comes to an end, and the k-th field that it gives of a segment is field k.
+use Rattle.std.specs.Prelude.{None}
 use mathlib.Core.Path.{◌≡◌, refl, sym, ap, ◌∙◌}
 use mathlib.Core.List.{List, [], ◌∷◌}
 use mathlib.Core.Bool.{Bool, true, false, ◌||◌, true≢false}
@@ -16,7 +17,6 @@ use Rattle.fields.proofs.Laws.{ends_in_return, at_bar as start-at-bar}
 use Rattle.fields.proofs.Segment.{field-add}
 use Rattle.field_reader.specs.FieldReader.{next_of, found_of, after_of}
 use Rattle.field_reader.specs.Steps.{position_after, has_bars}
-use Rattle.field_reader.specs.declared.NextField.TheVariants.{NoField}
 use Rattle.field_reader.proofs.Laws.{at_end, end_inside, next_is, to_end, to_bar, to_return}
 
 module _ (m : List ℕ) where
@@ -29,7 +29,7 @@ module _ (m : List ℕ) where
   end_is at = rw (first_field at) refl
 
   -- "the next field each time": every field leads on, and none is left exactly at the message's end
-  pub nothing_left_lem : (at : ℕ) → length m ≤ at → next_of m at ≡ NoField
+  pub nothing_left_lem : (at : ℕ) → length m ≤ at → next_of m at ≡ None
   nothing_left_lem at h = sym (at_end m at h)
 
   module _ (at : ℕ) (h : at < length m) where

@@ -4,7 +4,7 @@
 #![tactic(auto)]
 
 ghost use Rattle.std.specs.Prelude.{◌≡◌};
-ghost use Rattle.field_reader.specs.FieldReader.{next_of, after_of, advanced};
+ghost use Rattle.field_reader.specs.FieldReader.{next_of, advanced};
 
 use fields::{BAR, Field, find_field};
 
@@ -16,11 +16,12 @@ pub enum Delimiter {
     MessageEnd,
 }
 
-// The next field, what ended it, and the position after that; or the message's end was reached.
+// The next field, what ended it, and the position after that.
 #[derive(Clone, Copy)]
-pub enum NextField {
-    NoField,
-    Found(Field, Delimiter, usize),
+pub struct FoundField {
+    pub field: Field,
+    pub delimiter: Delimiter,
+    pub after: usize,
 }
 
 #[derive(Clone, Copy)]
@@ -30,31 +31,31 @@ pub struct FieldReader<'a> {
 }
 
 // The field that begins at `position`.
-fn field_at(message: &[u8], position: usize) -> NextField
+#[tactic(auto, using(crate::proofs::Laws::field_cases))]
+fn field_at(message: &[u8], position: usize) -> Option<FoundField>
     ensures { result ≡ next_of message.now position }
 {
-    if message.len() <= position {
-        return NextField::NoField;
+    if position >= message.len() {
+        return None;
     }
     let field = find_field(message, position, BAR, 0);
     let end = field.start + field.length;
-    if message.len() <= end {
-        return NextField::Found(field, Delimiter::MessageEnd, end);
-    }
-    let x = message[end];
-    if x == BAR {
-        return NextField::Found(field, Delimiter::Separator, end + 1);
-    }
-    NextField::Found(field, Delimiter::SegmentEnd, end + 1)
-}
-
-// The position after a field that was found at `position`.
-fn position_after(position: usize, found: NextField) -> usize
-    ensures { result ≡ after_of position found }
-{
-    match found {
-        NextField::NoField => position,
-        NextField::Found(_, _, after) => after,
+    match message.get(end) {
+        None => Some(FoundField {
+            field,
+            delimiter: Delimiter::MessageEnd,
+            after: end,
+        }),
+        Some(&BAR) => Some(FoundField {
+            field,
+            delimiter: Delimiter::Separator,
+            after: end + 1,
+        }),
+        Some(_) => Some(FoundField {
+            field,
+            delimiter: Delimiter::SegmentEnd,
+            after: end + 1,
+        }),
     }
 }
 
@@ -66,25 +67,25 @@ pub fn read_from<'a>(message: &'a [u8], position: usize) -> FieldReader<'a>
 }
 
 // The next field. The reader stays where it is.
-pub fn peek<'a>(reader: FieldReader<'a>) -> NextField
+pub fn peek<'a>(reader: FieldReader<'a>) -> Option<FoundField>
     ensures { result ≡ next_of reader.entry.message.now reader.entry.position }
 {
     field_at(reader.message, reader.position)
 }
 
 // The next field, each time: the reader goes on behind it.
-pub fn next<'s, 'a>(reader: &'s mut FieldReader<'a>) -> NextField
+pub fn next<'s, 'a>(reader: &'s mut FieldReader<'a>) -> Option<FoundField>
     ensures { (result ≡ next_of reader.old.message.now reader.old.position) × (reader.new ≡ advanced reader.old) }
 {
-    let position = reader.position;
-    let found = field_at(reader.message, position);
-    let after = position_after(position, found);
-    reader.position = after;
+    let found = peek(*reader);
+    if let Some(FoundField { after, .. }) = found {
+        reader.position = after;
+    }
     found
 }
 
 // The next field of a message from `position` on, for callers that hold the message themselves.
-pub fn next_field(message: &[u8], position: usize) -> NextField
+pub fn next_field(message: &[u8], position: usize) -> Option<FoundField>
     ensures { result ≡ next_of message.now position }
 {
     peek(read_from(message, position))

@@ -20,42 +20,32 @@ pub struct Field {
 pub fn field_end(message: &[u8], from: usize, separator: u8) -> usize
     ensures { result ≡ from + field_length separator (drop from message.now) }
 {
-    let mut i = from;
-    while i < message.len() {
+    for i in from..message.len() {
         let x = message[i];
-        if x == separator {
+        if x == separator || x == b'\r' {
             return i;
         }
-        if x == b'\r' {
-            return i;
-        }
-        i += 1;
     }
-    i
+    from.max(message.len())
 }
 
 // The offset after `count` separators of the segment that begins at `from`, or its end where it has fewer.
 fn field_start(message: &[u8], from: usize, separator: u8, count: usize) -> usize
     ensures { result ≡ from + field_start separator count (drop from message.now) }
 {
-    let mut i = from;
-    let mut left = count;
-    while 0 < left {
-        let end = field_end(message, i, separator);
-        if message.len() <= end {
+    let mut start = from;
+    for _ in 0..count {
+        let end = field_end(message, start, separator);
+        if end >= message.len() || message[end] != separator {
             return end;
         }
-        let x = message[end];
-        if x != separator {
-            return end;
-        }
-        i = end + 1;
-        left -= 1;
+        start = end + 1;
     }
-    i
+    start
 }
 
 // Field `count` of the segment that begins at `from`.
+#[tactic(auto, using(crate::proofs::Laws::found))]
 pub fn find_field(message: &[u8], from: usize, separator: u8, count: usize) -> Field
     ensures { result ≡ field_of separator from count message.now }
 {
@@ -68,6 +58,7 @@ pub fn find_field(message: &[u8], from: usize, separator: u8, count: usize) -> F
 }
 
 // The bytes of a field, as the part of the message that holds them.
+#[tactic(auto, unfolding(crate::specs::Fields::bytes_of))]
 pub fn field_content(message: &[u8], field: Field) -> &[u8]
     ensures { (result.now ≡ bytes_of field message.now) × (result.ref_ptr ≡ part_address message.entry field.start) }
 {

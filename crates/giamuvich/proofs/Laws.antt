@@ -1,21 +1,20 @@
 -- What refuses the settings of no link may be passed settings that nobody looked at.
+use Rattle.std.specs.Prelude.{Option, Some, None}
 use mathlib.Core.Path.{◌≡◌, refl}
 use mathlib.Core.Bool.{Bool, true, false}
 use Prim.Native.Nat.{ℕ}
 use lib.Dec.{leb, ltb}
 use Rattle.lists.specs.Outcome.{Called}
 use Rattle.settings.specs.Settings.{valid, valid_link, made_of, link_of, hybrid_link, minimal_link}
-use Rattle.settings.specs.declared.Made.{Made}
-use Rattle.settings.specs.declared.Made.TheVariants.{Valid, Refused}
 use Rattle.settings.specs.declared.Settings.{Settings}
 use Rattle.giamuvich.specs.Internal.{hybrid_numbers, minimal_numbers, unchecked_hybrid, unchecked_minimal}
 
-module _ (call : Made → Called) (refuses : (g : Settings) → valid_link g ≡ false → call (Valid g) ≡ call Refused) where
-  passed : (g : Settings) → call (Valid g) ≡ call (link_of (made_of g))
+module _ (call : Option Settings → Called) (refuses : (g : Settings) → valid_link g ≡ false → call (Some g) ≡ call None) where
+  passed : (g : Settings) → call (Some g) ≡ call (link_of (made_of g))
   unfolding valid_link
   passed g = go (valid g) (leb 128 g.data_limit) refl refl
     where
-      go : (v l : Bool) → valid g ≡ v → leb 128 g.data_limit ≡ l → call (Valid g) ≡ call (link_of (made_of g))
+      go : (v l : Bool) → valid g ≡ v → leb 128 g.data_limit ≡ l → call (Some g) ≡ call (link_of (made_of g))
       go true true e f = rw (e, f)
       go true false e f = rw (e, f) (refuses g (rw (e, f)))
       go false l e f = rw e (refuses g (rw e))

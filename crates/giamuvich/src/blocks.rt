@@ -6,12 +6,13 @@ ghost use Rattle.settings.specs.Settings.{hybrid_of, minimal_of};
 ghost use Rattle.std.specs.Prelude.{◌≡◌, []};
 ghost use Rattle.lists.specs.Outcome.{called};
 
+use refusal::number_in;
 use settings::Settings;
 
 pub fn gmv_reader_fresh(state: &mut [u64]) -> u64
     ensures { called result state.new [] [] ≡ fresh_reader_call state.old }
 {
-    block_calls::fresh_words(state)
+    number_in(block_calls::fresh_words(state).err())
 }
 
 pub fn gmv_hybrid_read(
@@ -25,13 +26,14 @@ pub fn gmv_hybrid_read(
 ) -> u64
     ensures { called result state.new buffer.new verdict.new ≡ read_call (hybrid_of start_block end_block data_limit) state.old part.now buffer.old verdict.old }
 {
-    block_calls::read_words(
+    number_in(block_calls::read_words(
         Settings::hybrid(start_block, end_block, data_limit),
         state,
         part,
         buffer,
         verdict,
     )
+    .err())
 }
 
 pub fn gmv_minimal_read(
@@ -43,7 +45,13 @@ pub fn gmv_minimal_read(
 ) -> u64
     ensures { called result state.new buffer.new verdict.new ≡ read_call (minimal_of data_limit) state.old part.now buffer.old verdict.old }
 {
-    block_calls::read_words(Settings::minimal(data_limit), state, part, buffer, verdict)
+    number_in(block_calls::read_words(
+        Settings::minimal(data_limit),
+        state,
+        part,
+        buffer,
+        verdict,
+    ).err())
 }
 
 pub fn gmv_hybrid_check(
@@ -55,17 +63,18 @@ pub fn gmv_hybrid_check(
 ) -> u64
     ensures { called result [] [] verdict.new ≡ check_call (hybrid_of start_block end_block data_limit) block.now verdict.old }
 {
-    block_calls::check_words(
+    number_in(block_calls::check_words(
         Settings::hybrid(start_block, end_block, data_limit),
         block,
         verdict,
     )
+    .err())
 }
 
 pub fn gmv_minimal_check(data_limit: u64, block: &[u8], verdict: &mut [u64]) -> u64
     ensures { called result [] [] verdict.new ≡ check_call (minimal_of data_limit) block.now verdict.old }
 {
-    block_calls::check_words(Settings::minimal(data_limit), block, verdict)
+    number_in(block_calls::check_words(Settings::minimal(data_limit), block, verdict).err())
 }
 
 pub fn gmv_hybrid_write(
@@ -80,7 +89,7 @@ pub fn gmv_hybrid_write(
 ) -> u64
     ensures { called result [] buffer.new report.new ≡ write_call (hybrid_of start_block end_block data_limit) t content.now buffer.old start report.old }
 {
-    block_calls::write_words(
+    number_in(block_calls::write_words(
         Settings::hybrid(start_block, end_block, data_limit),
         t,
         content,
@@ -88,6 +97,7 @@ pub fn gmv_hybrid_write(
         start,
         report,
     )
+    .err())
 }
 
 pub fn gmv_minimal_write(
@@ -99,7 +109,7 @@ pub fn gmv_minimal_write(
 ) -> u64
     ensures { called result [] buffer.new report.new ≡ minimal_write_call (minimal_of data_limit) content.now buffer.old start report.old }
 {
-    block_calls::write_words(
+    number_in(block_calls::write_words(
         Settings::minimal(data_limit),
         b'D' as u64,
         content,
@@ -107,4 +117,5 @@ pub fn gmv_minimal_write(
         start,
         report,
     )
+    .err())
 }

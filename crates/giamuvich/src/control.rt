@@ -5,6 +5,7 @@ ghost use Rattle.settings.specs.Settings.{hybrid_link, minimal_link};
 ghost use Rattle.message_calls.specs.ControlCalls.{control_block_call};
 
 use crate::unchecked::{unchecked_hybrid, unchecked_minimal};
+use refusal::number_in;
 
 pub fn gmv_hybrid_control_block(
     start_block: u64,
@@ -18,7 +19,7 @@ pub fn gmv_hybrid_control_block(
 ) -> u64
     ensures { called result [] buffer.new report.new ≡ control_block_call (hybrid_link start_block end_block data_limit) letters.now number buffer.old start report.old }
 {
-    message_calls::control_block_words(
+    number_in(message_calls::control_block_words(
         unchecked_hybrid(start_block, end_block, data_limit),
         letters,
         number,
@@ -26,6 +27,7 @@ pub fn gmv_hybrid_control_block(
         start,
         report,
     )
+    .err())
 }
 
 pub fn gmv_minimal_control_block(
@@ -38,7 +40,7 @@ pub fn gmv_minimal_control_block(
 ) -> u64
     ensures { called result [] buffer.new report.new ≡ control_block_call (minimal_link data_limit) letters.now number buffer.old start report.old }
 {
-    message_calls::control_block_words(
+    number_in(message_calls::control_block_words(
         unchecked_minimal(data_limit),
         letters,
         number,
@@ -46,4 +48,5 @@ pub fn gmv_minimal_control_block(
         start,
         report,
     )
+    .err())
 }

@@ -9,7 +9,7 @@ use crate::unchecked::{unchecked_hybrid, unchecked_minimal};
 pub fn gmv_receiver_fresh(state: &mut [u64]) -> u64
     ensures { called result state.new [] [] ≡ fresh_call state.old }
 {
-    receiver_calls::fresh_receiver_words(state)
+    refusal::number_in(receiver_calls::fresh_receiver_words(state).err())
 }
 
 pub fn gmv_receiver_decide(
@@ -21,7 +21,13 @@ pub fn gmv_receiver_decide(
 ) -> u64
     ensures { called result state.new [] report.new ≡ decide_call application block_type content.now state.old report.old }
 {
-    receiver_calls::decide_words(application, block_type, content, state, report)
+    refusal::number_in(receiver_calls::decide_words(
+        application,
+        block_type,
+        content,
+        state,
+        report,
+    ).err())
 }
 
 pub fn gmv_hybrid_answer(
@@ -36,7 +42,7 @@ pub fn gmv_hybrid_answer(
 ) -> u64
     ensures { called result state.new buffer.new report.new ≡ answer_call (hybrid_link start_block end_block data_limit) stored state.old buffer.old start report.old }
 {
-    receiver_calls::answer_words(
+    refusal::number_in(receiver_calls::answer_words(
         unchecked_hybrid(start_block, end_block, data_limit),
         stored,
         state,
@@ -44,6 +50,7 @@ pub fn gmv_hybrid_answer(
         start,
         report,
     )
+    .err())
 }
 
 pub fn gmv_minimal_answer(
@@ -56,7 +63,7 @@ pub fn gmv_minimal_answer(
 ) -> u64
     ensures { called result state.new buffer.new report.new ≡ answer_call (minimal_link data_limit) stored state.old buffer.old start report.old }
 {
-    receiver_calls::answer_words(
+    refusal::number_in(receiver_calls::answer_words(
         unchecked_minimal(data_limit),
         stored,
         state,
@@ -64,6 +71,7 @@ pub fn gmv_minimal_answer(
         start,
         report,
     )
+    .err())
 }
 
 pub fn gmv_hybrid_nak(
@@ -78,7 +86,7 @@ pub fn gmv_hybrid_nak(
 ) -> u64
     ensures { called result [] buffer.new report.new ≡ nak_call (hybrid_link start_block end_block data_limit) block_number state.now buffer.old start report.old }
 {
-    receiver_calls::nak_words(
+    refusal::number_in(receiver_calls::nak_words(
         unchecked_hybrid(start_block, end_block, data_limit),
         block_number,
         state,
@@ -86,4 +94,5 @@ pub fn gmv_hybrid_nak(
         start,
         report,
     )
+    .err())
 }

@@ -7,7 +7,7 @@ ghost use Rattle.sender_calls.specs.SenderCalls.{fresh_call, open_call, ended_ca
 pub fn gmv_sender_fresh(first: u64, state: &mut [u64]) -> u64
     ensures { called result state.new [] [] ≡ fresh_call first state.old }
 {
-    sender_calls::fresh_sender_words(first, state)
+    refusal::number_in(sender_calls::fresh_sender_words(first, state).err())
 }
 
 // A transaction is submitted.
@@ -19,35 +19,35 @@ pub fn gmv_sender_submit(
 ) -> u64
     ensures { called result state.new [] report.new ≡ submit_call data_limit message.now state.old report.old }
 {
-    sender_calls::submitted_words(data_limit, message, state, report)
+    refusal::number_in(sender_calls::submitted_words(data_limit, message, state, report).err())
 }
 
 // A circuit was opened.
 pub fn gmv_sender_open(state: &mut [u64], report: &mut [u64]) -> u64
     ensures { called result state.new [] report.new ≡ open_call state.old report.old }
 {
-    sender_calls::opened_words(state, report)
+    refusal::number_in(sender_calls::opened_words(state, report).err())
 }
 
 // The circuit ended.
 pub fn gmv_sender_ended(state: &mut [u64], report: &mut [u64]) -> u64
     ensures { called result state.new [] report.new ≡ ended_call state.old report.old }
 {
-    sender_calls::ended_words(state, report)
+    refusal::number_in(sender_calls::ended_words(state, report).err())
 }
 
 // An operator resets a frozen sender.
 pub fn gmv_sender_reset(state: &mut [u64], report: &mut [u64]) -> u64
     ensures { called result state.new [] report.new ≡ reset_call state.old report.old }
 {
-    sender_calls::reset_words(state, report)
+    refusal::number_in(sender_calls::reset_words(state, report).err())
 }
 
 // The timer ran out.
 pub fn gmv_sender_timer(resends: u64, state: &mut [u64], report: &mut [u64]) -> u64
     ensures { called result state.new [] report.new ≡ timer_call resends state.old report.old }
 {
-    sender_calls::timer_words(resends, state, report)
+    refusal::number_in(sender_calls::timer_words(resends, state, report).err())
 }
 
 // A block was read on the circuit.
@@ -61,5 +61,12 @@ pub fn gmv_sender_block(
 ) -> u64
     ensures { called result state.new [] report.new ≡ block_call resends block_number block_type content.now state.old report.old }
 {
-    sender_calls::block_words(resends, block_number, block_type, content, state, report)
+    refusal::number_in(sender_calls::block_words(
+        resends,
+        block_number,
+        block_type,
+        content,
+        state,
+        report,
+    ).err())
 }

@@ -7,14 +7,14 @@ ghost use Rattle.station.specs.StationCalls.{fresh_station_call, open_station_ca
 pub fn gmv_station_fresh(state: &mut [u64]) -> u64
     ensures { called result state.new [] [] ≡ fresh_station_call state.old }
 {
-    station_calls::fresh_station_words(state)
+    refusal::number_in(station_calls::fresh_station_words(state).err())
 }
 
 // The driver opened the station.
 pub fn gmv_station_open(state: &mut [u64], report: &mut [u64]) -> u64
     ensures { called result state.new [] report.new ≡ open_station_call state.old report.old }
 {
-    station_calls::opened_words(state, report)
+    refusal::number_in(station_calls::opened_words(state, report).err())
 }
 
 // A good block.
@@ -28,40 +28,42 @@ pub fn gmv_station_block(
 ) -> u64
     ensures { called result state.new buffer.new report.new ≡ good_block_call number ending text.now buffer.old state.old report.old }
 {
-    station_calls::block_words(number, ending, text, buffer, state, report)
+    refusal::number_in(station_calls::block_words(
+        number, ending, text, buffer, state, report,
+    ).err())
 }
 
 // A bad block.
 pub fn gmv_station_bad(state: &mut [u64], report: &mut [u64]) -> u64
     ensures { called result state.new [] report.new ≡ bad_block_call state.old report.old }
 {
-    station_calls::bad_words(state, report)
+    refusal::number_in(station_calls::bad_words(state, report).err())
 }
 
 // A block ended by ENQ.
 pub fn gmv_station_enquiry(state: &mut [u64], report: &mut [u64]) -> u64
     ensures { called result state.new [] report.new ≡ bad_block_call state.old report.old }
 {
-    station_calls::bad_words(state, report)
+    refusal::number_in(station_calls::bad_words(state, report).err())
 }
 
 // EOT was received.
 pub fn gmv_station_end(state: &mut [u64], report: &mut [u64]) -> u64
     ensures { called result state.new [] report.new ≡ eot_call state.old report.old }
 {
-    station_calls::end_words(state, report)
+    refusal::number_in(station_calls::end_words(state, report).err())
 }
 
 // A bare ENQ was received.
 pub fn gmv_station_bare_enq(state: &mut [u64], report: &mut [u64]) -> u64
     ensures { called result state.new [] report.new ≡ bare_enq_call state.old report.old }
 {
-    station_calls::bare_enq_words(state, report)
+    refusal::number_in(station_calls::bare_enq_words(state, report).err())
 }
 
 // The driver asks for a RINT.
 pub fn gmv_station_interrupt(state: &mut [u64], report: &mut [u64]) -> u64
     ensures { called result state.new [] report.new ≡ interrupt_call state.old report.old }
 {
-    station_calls::interrupt_words(state, report)
+    refusal::number_in(station_calls::interrupt_words(state, report).err())
 }

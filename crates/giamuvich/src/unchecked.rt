@@ -3,18 +3,22 @@
 ghost use Rattle.std.specs.Prelude.{◌≡◌};
 ghost use Rattle.giamuvich.specs.Internal.{unchecked_hybrid, unchecked_minimal};
 
-use settings::{Kind, Made, Settings};
+use settings::{Kind, Settings};
 
-pub(crate) fn unchecked_hybrid(start_block: u64, end_block: u64, data_limit: u64) -> Made
+pub(crate) fn unchecked_hybrid(
+    start_block: u64,
+    end_block: u64,
+    data_limit: u64,
+) -> Option<Settings>
     ensures { result ≡ unchecked_hybrid start_block end_block data_limit }
 {
     if 255 < start_block {
-        return Made::Refused;
+        return None;
     }
     if 255 < end_block {
-        return Made::Refused;
+        return None;
     }
-    Made::Valid(Settings {
+    Some(Settings {
         kind: Kind::Hybrid,
         start_block: start_block as u8,
         end_block: end_block as u8,
@@ -22,10 +26,10 @@ pub(crate) fn unchecked_hybrid(start_block: u64, end_block: u64, data_limit: u64
     })
 }
 
-pub(crate) fn unchecked_minimal(data_limit: u64) -> Made
+pub(crate) fn unchecked_minimal(data_limit: u64) -> Option<Settings>
     ensures { result ≡ unchecked_minimal data_limit }
 {
-    Made::Valid(Settings {
+    Some(Settings {
         kind: Kind::Minimal,
         start_block: Settings::START_BLOCK,
         end_block: Settings::END_BLOCK,

@@ -1,89 +1,24 @@
 -- The ways in which the readers return, held against the definitions.
+use Rattle.std.specs.Prelude.{Option, Some, None}
 use mathlib.Core.Path.{◌≡◌, refl, sym, ap, ◌∙◌}
-use mathlib.Core.List.{List, [], ◌∷◌, ◌++◌}
-use mathlib.Core.Bool.{Bool, true, false, ◌&&◌, and_assoc, and-true}
-use Prim.Native.Nat.{ℕ, ◌+◌, ◌-◌, ◌≤◌, ◌<◌, min}
-use Prim.Native.Char.{code}
+use mathlib.Core.List.{List, ◌++◌}
+use mathlib.Core.Bool.{Bool, true, false, ◌&&◌}
+use Prim.Native.Nat.{ℕ, ◌+◌, ◌≤◌, ◌<◌, min}
 use native.Mathlib.Omega.{arith}
 use native.Mathlib.Nat.{zero-add}
-use lib.ListN.{length, take, drop, get_or, length-drop, length-take, take-append-drop}
-use lib.Seq.{take_all}
-use lib.Dec.{leb, eqb}
-use borrow.Author.Tests.{lt-ltb, le-ltb, le-leb, lt-leb, eq-eqb, ne_eqb, ltb-true}
-use Rattle.lists.specs.Bytes.{bytes, clear, same}
+use lib.ListN.{length, take, drop, length-drop, length-take, take-append-drop}
+use lib.Dec.{leb}
+use borrow.Author.Tests.{lt-ltb, le-ltb, ltb-true}
+use Rattle.lists.specs.Bytes.{bytes, clear}
 use Rattle.lists.proofs.Tests.{and_left, and_right}
-use Rattle.lists.proofs.Same.{same-is, same_lengths}
+use Rattle.lists.proofs.Same.{same-is}
 use Rattle.fields.specs.Fields.{bar, field_start, field_of, segment_length}
 use Rattle.fields.specs.declared.Field.{Field}
 use Rattle.fields.proofs.Laws.{bar_no_return}
 use Rattle.fields.proofs.Segment.{segment_end, field-add, field_on, field_inside}
-use Rattle.header.specs.Header.{begins, ended, control_id_field, sequence_field, readable_header, header_of, readable_answer, acknowledgment_of, code_field}
+use Rattle.header.specs.Header.{begins, ended, control_id_field, sequence_field, readable_header, header_of, readable_answer, acknowledgment_of}
 use Rattle.header.specs.Internal.{scanned_of, acknowledgment_at}
 use Rattle.header.specs.declared.Scanned.{Scanned}
-use Rattle.header.specs.declared.Scanned.TheVariants.{Unreadable, Readable}
-use Rattle.header.specs.declared.Header.TheVariants.{Unreadable as NoHeader, Readable as AHeader}
-use Rattle.header.specs.declared.Acknowledgment.TheVariants.{Unreadable as NoAnswer, Readable as AnAnswer}
-use Rattle.header.specs.declared.CodeField.TheVariants.{Other, Known}
-use Rattle.header.specs.declared.Code.TheVariants.{AA, AE, AR}
-
-pub begins_short : (a b c : ℕ) (s : List ℕ) → length s < 4 → false ≡ begins (a ∷ b ∷ c ∷ bar ∷ []) s
-unfolding begins
-begins_short a b c s h = rw (take_all 4 s (omega arith)) (same_lengths s (a ∷ b ∷ c ∷ bar ∷ []) (λ e. omega (arith, e)))
-
-pub begins_four : (a b c : ℕ) (s : List ℕ) → 4 ≤ length s
-    → ((eqb (get_or s 0 0) a && eqb (get_or s 1 0) b) && (eqb (get_or s 2 0) c && eqb (get_or s 3 0) bar)) ≡ begins (a ∷ b ∷ c ∷ bar ∷ []) s
-unfolding begins same
-begins_four a b c [] h = absurd (omega arith)
-begins_four a b c (w ∷ []) h = absurd (omega arith)
-begins_four a b c (w ∷ x ∷ []) h = absurd (omega arith)
-begins_four a b c (w ∷ x ∷ y ∷ []) h = absurd (omega arith)
-begins_four a b c (w ∷ x ∷ y ∷ z ∷ r) h = simp (and_assoc, and-true)
-
--- the code of two bytes, by the first test that tells
-pub code_length : (s : List ℕ) → (length s ≡ 2 → ⊥) → Other ≡ code_field s
-unfolding code_field
-code_length s h = rw (sym (same_lengths s (bytes "AA") h), sym (same_lengths s (bytes "AE") h), sym (same_lengths s (bytes "AR") h))
-
-module _ (s : List ℕ) (h : length s ≡ 2) where
-  two : (x y : ℕ) → same s (x ∷ y ∷ []) ≡ (eqb (get_or s 0 0) x && eqb (get_or s 1 0) y)
-  unfolding same
-  two x y = go s h
-    where
-      go : (s : List ℕ) → length s ≡ 2 → same s (x ∷ y ∷ []) ≡ (eqb (get_or s 0 0) x && eqb (get_or s 1 0) y)
-      go [] h = absurd (omega arith)
-      go (a ∷ []) h = absurd (omega arith)
-      go (a ∷ b ∷ []) h = simp and-true
-      go (a ∷ b ∷ c ∷ r) h = absurd (omega arith)
-
-  pub code_first : (get_or s 0 0 ≡ code "A" → ⊥) → Other ≡ code_field s
-  unfolding code_field
-  code_first a =
-      let n = ne_eqb (get_or s 0 0) (code "A") a in
-      rw (two (code "A") (code "A"), two (code "A") (code "E"), two (code "A") (code "R"), n)
-
-  module _ (a : get_or s 0 0 ≡ code "A") where
-    second : (y : ℕ) → same s (code "A" ∷ y ∷ []) ≡ eqb (get_or s 1 0) y
-    second y = two (code "A") y ∙ rw (eq-eqb (get_or s 0 0) (code "A") a)
-
-    pub code_accept : get_or s 1 0 ≡ code "A" → Known AA ≡ code_field s
-    unfolding code_field
-    code_accept b = rw (second (code "A"), eq-eqb (get_or s 1 0) (code "A") b)
-
-    module _ (b : get_or s 1 0 ≡ code "A" → ⊥) where
-      pub code_error : get_or s 1 0 ≡ code "E" → Known AE ≡ code_field s
-      unfolding code_field
-      code_error c = rw (second (code "A"), second (code "E"), ne_eqb (get_or s 1 0) (code "A") b, eq-eqb (get_or s 1 0) (code "E") c)
-
-      module _ (c : get_or s 1 0 ≡ code "E" → ⊥) where
-        pub code_reject : get_or s 1 0 ≡ code "R" → Known AR ≡ code_field s
-        unfolding code_field
-        code_reject d =
-            rw (second (code "A"), second (code "E"), second (code "R"), ne_eqb (get_or s 1 0) (code "A") b, ne_eqb (get_or s 1 0) (code "E") c, eq-eqb (get_or s 1 0) (code "R") d)
-
-        pub code_none : (get_or s 1 0 ≡ code "R" → ⊥) → Other ≡ code_field s
-        unfolding code_field
-        code_none d =
-            rw (second (code "A"), second (code "E"), second (code "R"), ne_eqb (get_or s 1 0) (code "A") b, ne_eqb (get_or s 1 0) (code "E") c, ne_eqb (get_or s 1 0) (code "R") d)
 
 -- a field's end is in the message
 pub field_ends : (m : List ℕ) (from k : ℕ) (f : Field) → f ≡ field_of bar from k m → from ≤ length m → f.start + f.length ≤ length m
@@ -117,7 +52,7 @@ module _ (m : List ℕ) (from k : ℕ) where
   after_answer h = past-bar (first_bar (bytes "MSA|") (drop from m) refl h refl)
 
 -- the first segment in one pass: MSH-13 is counted on from MSH-10, and the CR from MSH-13
-pub scanned_begin : (m : List ℕ) → begins (bytes "MSH|") m ≡ false → Unreadable ≡ scanned_of m
+pub scanned_begin : (m : List ℕ) → begins (bytes "MSH|") m ≡ false → None ≡ scanned_of m
 unfolding scanned_of readable_header
 scanned_begin m h = rw h
 
@@ -139,32 +74,25 @@ module _ (m : List ℕ) (id seq : Field) (e : ℕ) (hi : id ≡ field_of bar 0 9
       ∙ sym (segment_end bar bar_no_return m 0 12) ∙ zero-add (segment_length m)
 
   module _ (b : begins (bytes "MSH|") m ≡ true) where
-    pub scanned_open : length m ≤ e → Unreadable ≡ scanned_of m
+    pub scanned_open : length m ≤ e → None ≡ scanned_of m
     unfolding scanned_of readable_header
     scanned_open h = rw (b, le-ltb (segment_length m) (length m) (rw (← end_is) h))
 
     closed : e < length m → ended m ≡ true
     closed h = lt-ltb (segment_length m) (length m) (rw (← end_is) h)
 
-    pub scanned_empty : e < length m → id.length < 1 → Unreadable ≡ scanned_of m
+    pub scanned_other : e < length m → (leb 1 id.length && leb id.length 20) ≡ false → None ≡ scanned_of m
     unfolding scanned_of readable_header
-    scanned_empty h l = rw (b, closed h, lt-leb 1 (control_id_field m).length (rw (← hi) l))
+    scanned_other h l =
+        let n : (leb 1 (control_id_field m).length && leb (control_id_field m).length 20) ≡ false = rw (← hi) l in rw (b, closed h, n)
 
-    pub scanned_long : e < length m → 1 ≤ id.length → 20 < id.length → Unreadable ≡ scanned_of m
+    pub scanned_read : e < length m → (leb 1 id.length && leb id.length 20) ≡ true → Some (record { control_id = id; sequence = seq; end = e }) ≡ scanned_of m
     unfolding scanned_of readable_header
-    scanned_long h l n = rw (b, closed h, le-leb 1 (control_id_field m).length (rw (← hi) l), lt-leb (control_id_field m).length 20 (rw (← hi) n))
-
-    pub scanned_read : e < length m → 1 ≤ id.length → id.length ≤ 20 → Readable id seq e ≡ scanned_of m
-    unfolding scanned_of readable_header
-    scanned_read h l n =
-        rw (hi, seq_is, end_is, b, closed h, le-leb 1 (control_id_field m).length (rw (← hi) l), le-leb (control_id_field m).length 20 (rw (← hi) n))
-
--- the bytes from an offset to the end
-pub rest : (m : List ℕ) (from : ℕ) → take (length m - from) (drop from m) ≡ drop from m
-rest m from = take_all (length m - from) (drop from m) (simp length-drop (omega arith))
+    scanned_read h l =
+        let n : (leb 1 (control_id_field m).length && leb (control_id_field m).length 20) ≡ true = rw (← hi) l in rw (hi, seq_is, end_is, b, closed h, n)
 
 -- the MSA segment in one pass
-pub answer_begin : (m : List ℕ) (from : ℕ) → begins (bytes "MSA|") (drop from m) ≡ false → NoAnswer ≡ acknowledgment_at from m
+pub answer_begin : (m : List ℕ) (from : ℕ) → begins (bytes "MSA|") (drop from m) ≡ false → None ≡ acknowledgment_at from m
 unfolding acknowledgment_at
 answer_begin m from h = rw h
 
@@ -193,53 +121,53 @@ module _ (m : List ℕ) (from : ℕ) (code id expected : Field) (hc : code ≡ f
         he ∙ ap (λ (f : Field). f.start + f.length + clear 0x0D 0x0D (drop (f.start + f.length) m)) expected_is
         ∙ sym (segment_end bar bar_no_return m from 4)
 
-    pub answer_open : length m ≤ e → NoAnswer ≡ acknowledgment_at from m
+    pub answer_open : length m ≤ e → None ≡ acknowledgment_at from m
     unfolding acknowledgment_at
     answer_open h =
         rw (b, le-ltb (segment_length (drop from m)) (length (drop from m)) (simp length-drop (omega (arith, ends_at))))
 
-    pub answer_read_lem : e < length m → AnAnswer code id expected ≡ acknowledgment_at from m
+    pub answer_read_lem : e < length m → Some (record { code = code; control_id = id; expected = expected }) ≡ acknowledgment_at from m
     unfolding acknowledgment_at
     answer_read_lem h =
         rw (hc, id_is, expected_is, b, lt-ltb (segment_length (drop from m)) (length (drop from m)) (simp length-drop (omega (arith, ends_at))))
 
 -- what a scanned header says
-abbrev is_readable : Scanned → Bool
-is_readable Unreadable = false
-is_readable (Readable a b e) = true
+abbrev is_readable : Option Scanned → Bool
+is_readable None = false
+is_readable (Some h) = true
 
-abbrev first_of : Scanned → Field
-first_of Unreadable = record { start = 0; length = 0 }
-first_of (Readable a b e) = a
+abbrev first_of : Option Scanned → Field
+first_of None = record { start = 0; length = 0 }
+first_of (Some h) = h.control_id
 
-abbrev second_of : Scanned → Field
-second_of Unreadable = record { start = 0; length = 0 }
-second_of (Readable a b e) = b
+abbrev second_of : Option Scanned → Field
+second_of None = record { start = 0; length = 0 }
+second_of (Some h) = h.sequence
 
-abbrev end_of : Scanned → ℕ
-end_of Unreadable = 0
-end_of (Readable a b e) = e
+abbrev end_of : Option Scanned → ℕ
+end_of None = 0
+end_of (Some h) = h.end
 
 scanned_readable : (m : List ℕ) (b : Bool) → readable_header m ≡ b → is_readable (scanned_of m) ≡ b
 unfolding scanned_of
 scanned_readable m true h = rw h
 scanned_readable m false h = rw h
 
-pub header_none : (m : List ℕ) → scanned_of m ≡ Unreadable → readable_header m ≡ false
+pub header_none : (m : List ℕ) → scanned_of m ≡ None → readable_header m ≡ false
 header_none m h = sym (scanned_readable m (readable_header m) refl) ∙ ap is_readable h
 
-module _ (m : List ℕ) (a b : Field) (e : ℕ) (h : scanned_of m ≡ Readable a b e) where
+module _ (m : List ℕ) (s : Scanned) (h : scanned_of m ≡ Some s) where
   pub header_some : readable_header m ≡ true
   header_some = sym (scanned_readable m (readable_header m) refl) ∙ ap is_readable h
 
-  whole : scanned_of m ≡ Readable (control_id_field m) (sequence_field m) (segment_length m)
+  whole : scanned_of m ≡ Some (record { control_id = control_id_field m; sequence = sequence_field m; end = segment_length m })
   unfolding scanned_of
   whole = rw header_some
 
-  pub header_end : e ≡ segment_length m
+  pub header_end : s.end ≡ segment_length m
   header_end = ap end_of (sym h ∙ whole)
 
-  pub header_inside : e < length m
+  pub header_inside : s.end < length m
   unfolding readable_header
   header_inside =
       rw header_end
@@ -247,18 +175,23 @@ module _ (m : List ℕ) (a b : Field) (e : ℕ) (h : scanned_of m ≡ Readable a
       (and_left (ended m) (leb 1 (control_id_field m).length && leb (control_id_field m).length 20)
       (and_right (begins (bytes "MSH|") m) (ended m && (leb 1 (control_id_field m).length && leb (control_id_field m).length 20)) header_some)))
 
-  pub header_read : AHeader a b ≡ header_of m
+  pub header_read : Some (record { control_id = s.control_id; sequence = s.sequence }) ≡ header_of m
   unfolding header_of
   header_read = rw (header_some, ap first_of (sym h ∙ whole), ap second_of (sym h ∙ whole))
 
-  pub answer_at : acknowledgment_at (e + 1) m ≡ acknowledgment_of m
+  pub answer_at : acknowledgment_at (s.end + 1) m ≡ acknowledgment_of m
   unfolding acknowledgment_at acknowledgment_of readable_answer
   answer_at = rw (header_end, header_some)
 
-pub header_unread : (m : List ℕ) → readable_header m ≡ false → NoHeader ≡ header_of m
+pub header_unread : (m : List ℕ) → readable_header m ≡ false → None ≡ header_of m
 unfolding header_of
 header_unread m h = rw h
 
-pub answer_unread : (m : List ℕ) → readable_header m ≡ false → NoAnswer ≡ acknowledgment_of m
+pub answer_unread : (m : List ℕ) → readable_header m ≡ false → None ≡ acknowledgment_of m
 unfolding acknowledgment_of readable_answer
 answer_unread m h = rw h
+
+-- by a scanned header: what is read of it, and of the answer after it
+pub ruleset header_cases = (header_none, header_unread, header_read)
+
+pub ruleset answer_cases = (header_none, answer_unread, header_inside, answer_at)

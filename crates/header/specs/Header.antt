@@ -1,15 +1,12 @@
 -- Document 01, 'Header fields', and row 9 of 'Numbers that say no': what is read of a message, and of an answer.
-use Rattle.std.specs.Prelude.{List, Bool, cond, ◌&&◌, ℕ, ◌+◌, length, take, drop, leb, ltb}
+use Rattle.std.specs.Prelude.{List, Bool, cond, ◌&&◌, ℕ, ◌+◌, length, take, drop, leb, ltb, Option, Some, None}
 use Rattle.lists.specs.Bytes.{bytes, same}
 use Rattle.lists.specs.Outcome.{need}
 use Rattle.fields.specs.Fields.{bar, field_of, segment_length}
 use Rattle.fields.specs.declared.Field.{Field}
 use Rattle.header.specs.declared.Header.{Header}
-use Rattle.header.specs.declared.Header.TheVariants.{Unreadable, Readable}
 use Rattle.header.specs.declared.Acknowledgment.{Acknowledgment}
-use Rattle.header.specs.declared.Acknowledgment.TheVariants.{Unreadable as NoAnswer, Readable as AnAnswer}
-use Rattle.header.specs.declared.CodeField.{CodeField}
-use Rattle.header.specs.declared.CodeField.TheVariants.{Other, Known}
+use Rattle.header.specs.declared.Code.{Code}
 use Rattle.header.specs.declared.Code.TheVariants.{AA, AE, AR}
 
 -- "must begin `MSH|`", or `MSA|`
@@ -32,8 +29,8 @@ unfoldable pub readable_header : List ℕ → Bool
 readable_header m =
     begins (bytes "MSH|") m && (ended m && (leb 1 (control_id_field m).length && leb (control_id_field m).length 20))
 
-unfoldable pub header_of : List ℕ → Header
-header_of m = need (readable_header m) Unreadable (Readable (control_id_field m) (sequence_field m))
+unfoldable pub header_of : List ℕ → Option Header
+header_of m = need (readable_header m) None (Some (record { control_id = control_id_field m; sequence = sequence_field m }))
 
 -- the offset of "the segment after MSH"
 abbrev pub second_segment : List ℕ → ℕ
@@ -48,10 +45,10 @@ readable_answer m =
 abbrev pub answer_field : ℕ → List ℕ → Field
 answer_field k m = field_of bar (second_segment m) k m
 
-unfoldable pub acknowledgment_of : List ℕ → Acknowledgment
-acknowledgment_of m = need (readable_answer m) NoAnswer (AnAnswer (answer_field 1 m) (answer_field 2 m) (answer_field 4 m))
+unfoldable pub acknowledgment_of : List ℕ → Option Acknowledgment
+acknowledgment_of m = need (readable_answer m) None (Some (record { code = answer_field 1 m; control_id = answer_field 2 m; expected = answer_field 4 m }))
 
 -- MSA-1: the codes that document 01 has
-unfoldable pub code_field : List ℕ → CodeField
+unfoldable pub code_field : List ℕ → Option Code
 code_field s =
-    cond (same s (bytes "AA")) (Known AA) (cond (same s (bytes "AE")) (Known AE) (cond (same s (bytes "AR")) (Known AR) Other))
+    cond (same s (bytes "AA")) (Some AA) (cond (same s (bytes "AE")) (Some AE) (cond (same s (bytes "AR")) (Some AR) None))

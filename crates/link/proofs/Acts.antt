@@ -1,4 +1,5 @@
 -- Each act keeps the invariant, where the hosts keep their duties.
+use Rattle.std.specs.Prelude.{Option, Some, None}
 use mathlib.Core.Path.{◌≡◌, refl, sym, ap, ◌∙◌, subst}
 use mathlib.Core.List.{List, [], ◌∷◌, ◌++◌, append_assoc, append-nil}
 use mathlib.Core.Bool.{Bool, true, false, cond, not, ◌&&◌}
@@ -22,10 +23,8 @@ use Rattle.control_id.specs.ControlId.{in_words}
 use Rattle.numbers.specs.Numbers.{text_of}
 use Rattle.receiver.specs.Receiver.{valid_expected, valid_receiver, closed, is_closed, reason_of, nak_block, nak_reply, is_block_number, answer_block, answered, replied, reported_of, reply_space, answer_of, nak_of}
 use Rattle.receiver.specs.declared.Application.{Application}
-use Rattle.receiver.specs.declared.Expected.{Expected}
 use Rattle.receiver.specs.declared.Row.{Row}
-use Rattle.receiver.specs.declared.Open.{Open}
-use Rattle.receiver.specs.declared.Open.TheVariants.{NoDecision, Decision}
+use Rattle.receiver.specs.declared.Decision.{Decision}
 use Rattle.receiver.specs.declared.Receiver.{Receiver}
 use Rattle.receiver.specs.declared.Answered.{Answered}
 use Rattle.receiver.proofs.Rows.{id_back}
@@ -47,7 +46,7 @@ use Rattle.link.specs.System.{sender_persists, sender_forgets, sender_restores, 
 use Rattle.link.specs.System.{damages_forward, damages_back}
 use Rattle.link.specs.Promise.{Ready, transactions}
 use Rattle.link.proofs.Queues.{All, none, all_head, all_right, sub-all, sub_none, sub_behind, sub_others, sub_among, among_both, nobody, good_none, Each, each_none, each_end, each_front, each_sub, each_among}
-use Rattle.link.proofs.Queues.{Front, front, Some, some, Others, others, Answer, replies, refuses, side}
+use Rattle.link.proofs.Queues.{Front, front, Chosen, some, Others, others, Answer, replies, refuses, side}
 use Rattle.link.proofs.Books.{forward_of, chain, books, with_lines, Core, old, lose_forward, forget_named, lose_back, persist_sender, persist_receiver, restore_receiver, restore_sender, nak}
 use Rattle.link.proofs.Moves.{write, reply}
 use Rattle.link.proofs.Naming.{quiet, open_first, open_later}
@@ -99,7 +98,7 @@ not_true false e = refl
 
 module _ (l : Link) (rd : Ready l) where
   -- ---- the start
-  pub start : (e : Expected) → valid_expected e ≡ true → (d : List ℕ) → Inv l (beginning every l e (record { forward = []; back = []; pending = []; requests = []; answers = []; decision = NoDecision; message = d }))
+  pub start : (e : Option ℕ) → valid_expected e ≡ true → (d : List ℕ) → Inv l (beginning every l e (record { forward = []; back = []; pending = []; requests = []; answers = []; decision = None; message = d }))
   unfolding transactions accepted_of run
   start e v d =
       let a = rd.first_least in
@@ -196,23 +195,23 @@ module _ (l : Link) (rd : Ready l) where
         }
 
     -- what the open decision says is persisted, and is to be reported
-    module _ (n : SequenceNumber) (r : Row) (s : Sayable n r) (is : y.receiving.receiver.decision ≡ Decision (in_words (text_of n)) r) (names : i.way.opening ≡ replies n r.code r.number ∷ []) where
+    module _ (n : SequenceNumber) (r : Row) (s : Sayable n r) (is : y.receiving.receiver.decision ≡ Some (record { control_id = in_words (text_of n); row = r })) (names : i.way.opening ≡ replies n r.code r.number ∷ []) where
       -- as it is, and as it is once that is persisted
       new_expected : (to_persist y.receiving).expected ≡ r.persisted.expected
-      new_expected = ap (λ (o : Open). (stored_by y.receiving.persisted y.receiving.message o).expected) is
+      new_expected = ap (λ (o : Option Decision). (stored_by y.receiving.persisted y.receiving.message o).expected) is
 
       persisted_now : valid_expected r.persisted.expected ≡ true → (to_persist y.receiving).has ≡ transactions l i.way.volatile.count
           → Inv l (receiver_persisted y (to_persist y.receiving) true)
       persisted_now v h =
-          let again = ap (λ (o : Open). (stored_by (to_persist y.receiving) y.receiving.message o).expected) is ∙ sym new_expected in
+          let again = ap (λ (o : Option Decision). (stored_by (to_persist y.receiving) y.receiving.message o).expected) is ∙ sym new_expected in
           let m = i.way.volatile in
           record {
             way = transit i.way.forward i.way.back i.way.pending i.way.opening m m;
-            core = subst (λ (e : Expected). Core l.first (books y.sending.sender.persisted y.sending.persisted y.sending.sender.waiting y.sending.named
+            core = subst (λ (e : Option ℕ). Core l.first (books y.sending.sender.persisted y.sending.persisted y.sending.sender.waiting y.sending.named
                 (side e (l.first + m.count) m.old) (side (to_persist y.receiving).expected (l.first + m.count) m.old) i.way.forward (i.way.back ++ i.way.pending) i.way.opening))
                 (sym again) (persist_receiver i.core);
             ends = ends_of i.ends.valid i.ends.persisted_valid i.ends.receiver_valid
-                (record { valid = subst (λ (e : Expected). valid_expected e ≡ true) (sym new_expected) v; has = h });
+                (record { valid = subst (λ (e : Option ℕ). valid_expected e ≡ true) (sym new_expected) v; has = h });
             opening = subst (Opening l (receiving y.receiving.receiver (to_persist y.receiving) y.receiving.message true y.receiving.pending y.receiving.arrived) m m) (sym names)
                 (to_report n r is refl s new_expected refl);
             forward = i.forward;
@@ -225,7 +224,7 @@ module _ (l : Link) (rd : Ready l) where
     store_open os e (none_open a b c) z = not_both (sym z ∙ ap (λ (r : Receiver). not (is_closed r.decision) && not y.receiving.reports) a)
     store_open os e (to_store_lem n r a b s x h) z =
         let is = ap (λ (t : Receiver). t.decision) a in
-        persisted_now n r s is e x (ap (λ (o : Open). (stored_by y.receiving.persisted y.receiving.message o).has) is ∙ h)
+        persisted_now n r s is e x (ap (λ (o : Option Decision). (stored_by y.receiving.persisted y.receiving.message o).has) is ∙ h)
     store_open os e (to_report n r a b s x h) z =
         not_both (sym (and_right (not (is_closed y.receiving.receiver.decision)) (not y.receiving.reports) z) ∙ ap not b)
 
@@ -256,7 +255,7 @@ module _ (l : Link) (rd : Ready l) where
     space start b = leb (start + reply_space l.settings) (length b)
 
     -- stored: its answer is pending
-    module _ (start : ℕ) (b : List ℕ) (n : SequenceNumber) (r : Row) (s : Sayable n r) (is : y.receiving.receiver.decision ≡ Decision (in_words (text_of n)) r)
+    module _ (start : ℕ) (b : List ℕ) (n : SequenceNumber) (r : Row) (s : Sayable n r) (is : y.receiving.receiver.decision ≡ Some (record { control_id = in_words (text_of n); row = r }))
         (same : y.receiving.persisted.expected ≡ r.persisted.expected) (equal : i.way.volatile ≡ i.way.persisted) (names : i.way.opening ≡ replies n r.code r.number ∷ []) where
       abbrev answer : Outcome Answered
       answer = replied (closed r.persisted.expected) (answer_block l.settings (text_of n) r) start b
@@ -273,7 +272,7 @@ module _ (l : Link) (rd : Ready l) where
           (i.way.back ++ (i.way.pending ++ replies n r.code r.number ∷ [])) [])
       answered_core =
           let a = replies n r.code r.number in
-          let now = ap (λ (o : Open). (stored_by y.receiving.persisted y.receiving.message o).expected) is ∙ sym same in
+          let now = ap (λ (o : Option Decision). (stored_by y.receiving.persisted y.receiving.message o).expected) is ∙ sym same in
           subst (λ (m : Reach). Core l.first (books y.sending.sender.persisted y.sending.persisted y.sending.sender.waiting y.sending.named
           (side y.receiving.persisted.expected (l.first + m.count) m.old) (side y.receiving.persisted.expected (l.first + m.count) m.old) i.way.forward
           (i.way.back ++ (i.way.pending ++ a ∷ [])) [])) equal
@@ -281,7 +280,7 @@ module _ (l : Link) (rd : Ready l) where
           (side y.receiving.persisted.expected (l.first + i.way.volatile.count) i.way.volatile.old)
           (side y.receiving.persisted.expected (l.first + i.way.volatile.count) i.way.volatile.old) i.way.forward bs []))
           (append_assoc i.way.back i.way.pending (a ∷ []))
-          (subst (λ (e : Expected). Core l.first (books y.sending.sender.persisted y.sending.persisted y.sending.sender.waiting y.sending.named
+          (subst (λ (e : Option ℕ). Core l.first (books y.sending.sender.persisted y.sending.persisted y.sending.sender.waiting y.sending.named
           (side e (l.first + i.way.volatile.count) i.way.volatile.old) (side e (l.first + i.way.volatile.count) i.way.volatile.old) i.way.forward
           ((i.way.back ++ i.way.pending) ++ a ∷ []) [])) now (reply i.core a [] names)))
 
@@ -293,7 +292,7 @@ module _ (l : Link) (rd : Ready l) where
           record {
             way = transit i.way.forward i.way.back (i.way.pending ++ a ∷ []) [] m m;
             core = answered_core;
-            ends = ends_of i.ends.valid i.ends.persisted_valid (closed-valid r.persisted.expected (subst (λ (e : Expected). valid_expected e ≡ true) same i.ends.persisted.valid)) i.ends.persisted;
+            ends = ends_of i.ends.valid i.ends.persisted_valid (closed-valid r.persisted.expected (subst (λ (e : Option ℕ). valid_expected e ≡ true) same i.ends.persisted.valid)) i.ends.persisted;
             opening = none_open (ap closed (sym same)) refl refl;
             forward = i.forward;
             back = i.back;
@@ -435,7 +434,7 @@ module _ (l : Link) (rd : Ready l) where
     unfolding accepted_of run
     sender_crashes_keeps = go (each_sub (lost_line (accepted_of y.receiving.arrived) (arriving l.settings y.forward)) i.forward)
       where
-        go : Some (IsRequest l) (accepted_of y.receiving.arrived ++ []) i.way.forward → Inv l (after_act every l sender_crashes y)
+        go : Chosen (IsRequest l) (accepted_of y.receiving.arrived ++ []) i.way.forward → Inv l (after_act every l sender_crashes y)
         go (some zs s e) =
             record {
               way = transit zs [] i.way.pending i.way.opening i.way.volatile i.way.persisted;
@@ -451,7 +450,7 @@ module _ (l : Link) (rd : Ready l) where
     unfolding accepted_of run
     receiver_crashes_keeps = go (each_sub (lost_line (accepted_of y.sending.arrived) (arriving l.settings y.back)) i.back)
       where
-        go : Some IsReply (accepted_of y.sending.arrived ++ []) i.way.back → Inv l (after_act every l receiver_crashes y)
+        go : Chosen IsReply (accepted_of y.sending.arrived ++ []) i.way.back → Inv l (after_act every l receiver_crashes y)
         go (some zs s e) =
             record {
               way = transit [] zs [] [] i.way.persisted i.way.persisted;
@@ -464,7 +463,7 @@ module _ (l : Link) (rd : Ready l) where
             }
 
     -- ---- at the receiver's end or on its line there is less, or the same
-    less_forward : (ws : List Judged) (x : Line) → Some (IsRequest l) (accepted_of ws ++ arriving l.settings x) i.way.forward
+    less_forward : (ws : List Judged) (x : Line) → Chosen (IsRequest l) (accepted_of ws ++ arriving l.settings x) i.way.forward
         → Inv l (link y.sending (let e = y.receiving in receiving e.receiver e.persisted e.message e.reports e.pending ws) x y.back)
     less_forward ws x (some zs s e) =
         record {

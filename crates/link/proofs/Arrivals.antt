@@ -1,4 +1,5 @@
 -- Verdicts that were read and not yet acted on, and bytes on the line: what is accepted of both.
+use Rattle.std.specs.Prelude.{Result, Ok, Err}
 use mathlib.Core.Path.{◌≡◌, refl, sym, ap, ◌∙◌, subst}
 use mathlib.Core.List.{List, [], ◌∷◌, ◌++◌, append_assoc}
 use mathlib.Core.Bool.{Bool, true, false, cond}
@@ -9,8 +10,8 @@ use Rattle.lists.specs.Bytes.{same}
 use Rattle.lists.proofs.Tests.{and_left, and_right}
 use Rattle.lists.proofs.Same.{same-is}
 use Rattle.settings.specs.declared.Settings.{Settings}
-use Rattle.refusal.specs.declared.Verdict.{Verdict}
-use Rattle.refusal.specs.declared.Verdict.TheVariants.{Accepted, Refused}
+use Rattle.refusal.specs.declared.Accepted.{Accepted}
+use Rattle.refusal.specs.declared.Refusal.{Refusal}
 use Rattle.stream.specs.Stream.{Judged}
 use Rattle.link.specs.Duties.{one_at, others_at}
 use Rattle.link.specs.Line.{Reader, line, reads_byte, reader_after, Arrival, arrival, accepts, accepted_of, arriving, same_arrival, some_of, one_of, each_of}
@@ -24,15 +25,15 @@ unfolding accepted_of others_at
 others_sub n [] rs = sub-all rs
 others_sub zero (w ∷ ws) rs = go w.verdict
   where
-    go : (v : Verdict) → Sub (accepted_of ws ++ rs) ((accepts v w.content ++ accepted_of ws) ++ rs)
-    go (Accepted t n) = skip (sub-all (accepted_of ws ++ rs))
-    go (Refused n i) = sub-all (accepted_of ws ++ rs)
+    go : (v : Result Accepted Refusal) → Sub (accepted_of ws ++ rs) ((accepts v w.content ++ accepted_of ws) ++ rs)
+    go (Ok v) = skip (sub-all (accepted_of ws ++ rs))
+    go (Err v) = sub-all (accepted_of ws ++ rs)
 others_sub (suc n) (w ∷ ws) rs = go w.verdict (others_sub n ws rs)
   where
-    go : (v : Verdict) → Sub (accepted_of (others_at n ws) ++ rs) (accepted_of ws ++ rs)
+    go : (v : Result Accepted Refusal) → Sub (accepted_of (others_at n ws) ++ rs) (accepted_of ws ++ rs)
         → Sub ((accepts v w.content ++ accepted_of (others_at n ws)) ++ rs) ((accepts v w.content ++ accepted_of ws) ++ rs)
-    go (Accepted t n) s = keep s
-    go (Refused n i) s = s
+    go (Ok v) s = keep s
+    go (Err v) s = s
 
 in_front : (xs ys : List Arrival) (a : Arrival) → In a ys → In a (xs ++ ys)
 in_front [] ys a i = i

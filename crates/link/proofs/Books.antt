@@ -1,4 +1,5 @@
 -- The invariant of a link, over the requests and replies on the way, and how each act keeps it.
+use Rattle.std.specs.Prelude.{Option, Some, None}
 use mathlib.Core.Path.{◌≡◌, refl, sym, ◌∙◌, subst}
 use mathlib.Core.List.{List, [], ◌∷◌, ◌++◌, append-nil}
 use mathlib.Core.Bool.{Bool, true, false}
@@ -6,8 +7,6 @@ use mathlib.Core.Logic.{◌⊎◌, inl, inr}
 use Prim.Native.Nat.{ℕ, ◌+◌, ◌≤◌, ◌<◌}
 use native.Mathlib.Omega.{arith}
 use Rattle.numbers.specs.declared.SequenceNumber.{SequenceNumber}
-use Rattle.receiver.specs.declared.Expected.{Expected}
-use Rattle.receiver.specs.declared.Expected.TheVariants.{Unknown, Next}
 use Rattle.sender.specs.declared.Persisted.{Persisted}
 use Rattle.sender.specs.declared.Waiting.{Waiting}
 use Rattle.sender.specs.declared.Waiting.TheVariants.{Closed, Idle, Resynchronizing, Querying, Sending}
@@ -69,8 +68,8 @@ pub record Senders (f : ℕ) (p q : Persisted) : Type 0 where
 -- what the receiver expects
 pub data Expects (f : ℕ) (s : Side) : Type 0 where
   old : s.old ≡ true → s.next ≡ f → Expects f s
-  unknown : s.old ≡ false → s.next ≡ f → s.expected ≡ Unknown → Expects f s
-  next : s.old ≡ false → f < s.next → s.expected ≡ Next s.next → Expects f s
+  unknown : s.old ≡ false → s.next ≡ f → s.expected ≡ None → Expects f s
+  next : s.old ≡ false → f < s.next → s.expected ≡ Some s.next → Expects f s
 
 pub record Receivers (f : ℕ) (resynchronized : Bool) (v s : Side) : Type 0 where
   pub expects : Expects f v
@@ -92,13 +91,13 @@ pub forward_of : {f : ℕ} {p q : Persisted} {h : ℕ} {xs ns : List SequenceNum
 forward_of g l n s t = record { good = g; line = l; named = n; start = s; start_line = t }
 
 -- 0 waits, and was sent on this circuit only; the answers to it name what is expected
-pub record Querying-fine (resynchronized : Bool) (e d : Expected) (xs ns : List SequenceNumber) (bs cs : List Answer) : Type 0 where
+pub record Querying-fine (resynchronized : Bool) (e d : Option ℕ) (xs ns : List SequenceNumber) (bs cs : List Answer) : Type 0 where
   pub synchronized : resynchronized ≡ true
   pub zeros : All IsZero (xs ++ ns)
   pub names : All (NamesExpected e) (bs ++ cs)
   pub names_stored : All (NamesExpected d) bs
 
-pub queried_of : {r : Bool} {e d : Expected} {xs ns : List SequenceNumber} {bs cs : List Answer} → r ≡ true → All IsZero (xs ++ ns)
+pub queried_of : {r : Bool} {e d : Option ℕ} {xs ns : List SequenceNumber} {bs cs : List Answer} → r ≡ true → All IsZero (xs ++ ns)
     → All (NamesExpected e) (bs ++ cs) → All (NamesExpected d) bs
     → Querying-fine r e d xs ns bs cs
 queried_of s z n t = record { synchronized = s; zeros = z; names = n; names_stored = t }

@@ -1,4 +1,6 @@
 -- Blocks on a line of bytes: what is written arrives, whatever stands before it.
+use Rattle.refusal.specs.Refusal.{refused_by}
+use Rattle.std.specs.Prelude.{Result}
 use mathlib.Core.Path.{◌≡◌, refl, sym, ap, ◌∙◌}
 use mathlib.Core.List.{List, [], ◌∷◌, ◌++◌, append_assoc, append-nil}
 use mathlib.Core.Bool.{Bool, true, false, cond}
@@ -11,8 +13,8 @@ use Rattle.settings.specs.Settings.{allowed, by_kind, valid, capacity_of}
 use Rattle.settings.specs.declared.Kind.{Kind}
 use Rattle.settings.specs.declared.Kind.TheVariants.{Hybrid, Minimal}
 use Rattle.settings.specs.declared.Settings.{Settings}
-use Rattle.refusal.specs.declared.Verdict.{Verdict}
-use Rattle.refusal.specs.declared.Verdict.TheVariants.{Refused}
+use Rattle.refusal.specs.declared.Accepted.{Accepted}
+use Rattle.refusal.specs.declared.Refusal.{Refusal}
 use Rattle.block.specs.Format.{three_digits, checksum_of, hybrid_body, hybrid_block, minimal_block, block_of}
 use Rattle.block.specs.Judge.{judge}
 use Rattle.stream.specs.Stream.{Judged, Moved, Mode, between, inside, ended, end_verdict, move, run, after}
@@ -54,8 +56,8 @@ module _ (g : Settings) where
   ended_refuses : (body : List ℕ) → eqb g.start_block 0x0D ≡ false → (c : List ℕ) → accepts (end_verdict g body g.start_block) c ≡ []
   unfolding end_verdict
   ended_refuses body e c =
-      cond_ind (λ (v : Verdict). accepts v c ≡ []) (ltb (capacity_of g) (length body)) (Refused 4 0) (cond (eqb g.start_block 0x0D) (judge g body) (Refused 5 0)) (λ z. refl)
-      (λ z. ap (λ (b : Bool). accepts (cond b (judge g body) (Refused 5 0)) c) e)
+      cond_ind (λ (v : Result Accepted Refusal). accepts v c ≡ []) (ltb (capacity_of g) (length body)) (refused_by 4 0) (cond (eqb g.start_block 0x0D) (judge g body) (refused_by 5 0)) (λ z. refl)
+      (λ z. ap (λ (b : Bool). accepts (cond b (judge g body) (refused_by 5 0)) c) e)
 
   start_accepts : eqb g.start_block 0x0D ≡ false → (k : ℕ) (m : Mode) → accepted_of (move g k m g.start_block).says ≡ []
   unfolding move accepted_of

@@ -1,4 +1,6 @@
 -- Demand 3, of every run: "An intact answer to the waiting transaction, read before that, moves the mark."
+use Rattle.refusal.specs.Refusal.{accepted_as}
+use Rattle.std.specs.Prelude.{Option, Some, Result}
 use mathlib.Core.Path.{◌≡◌, refl, sym, ap, ◌∙◌, subst}
 use mathlib.Core.List.{List, ◌∷◌}
 use mathlib.Core.Bool.{Bool, true, cond}
@@ -7,8 +9,8 @@ use Prim.Native.Nat.{ℕ, ◌+◌}
 use Prim.Native.Char.{code}
 use native.Mathlib.Omega.{arith}
 use borrow.Author.Tests.{eq-eqb}
-use Rattle.refusal.specs.declared.Verdict.{Verdict}
-use Rattle.refusal.specs.declared.Verdict.TheVariants.{Accepted}
+use Rattle.refusal.specs.declared.Accepted.{Accepted}
+use Rattle.refusal.specs.declared.Refusal.{Refusal}
 use Rattle.fields.specs.Fields.{bytes_of}
 use Rattle.numbers.specs.Numbers.{text_of}
 use Rattle.numbers.specs.declared.SequenceNumber.{SequenceNumber}
@@ -17,13 +19,11 @@ use Rattle.header.specs.Header.{answer_field}
 use Rattle.header.specs.declared.Code.{Code}
 use Rattle.stream.specs.Stream.{Judged}
 use Rattle.receiver.specs.Receiver.{valid_expected}
-use Rattle.receiver.specs.declared.Expected.{Expected}
 use Rattle.sender.specs.Sender.{is_open, waiting_message, waits_of, block_read_of, answered, answer_transaction, proceeds, delivered_of, freezes}
 use Rattle.sender.specs.declared.Persisted.{Persisted}
 use Rattle.sender.specs.declared.Waiting.{Waiting}
 use Rattle.sender.specs.declared.Waiting.TheVariants.{Closed, Sending}
 use Rattle.sender.specs.declared.Sender.{Sender}
-use Rattle.sender.specs.declared.NumberedMessage.TheVariants.{Numbered}
 use Rattle.sender.specs.declared.Event.{Event}
 use Rattle.sender.specs.declared.Acted.{Acted}
 use Rattle.link.specs.SenderActs.{sender_at}
@@ -56,7 +56,7 @@ module _ (p : Persisted) (k : ℕ) where
   moved c m (to_stored a (inr x) y l) = rw (x, y) (taken _ _ (eq-eqb (p.delivered + 1) (p.delivered + 1) refl))
   moved c m (to_repeat a x y l) = rw (x, y) (taken _ _ (eq-eqb (p.delivered + 1 + 1) (p.delivered + 1 + 1) refl))
 
-module _ (l : Link) (rd : Ready l) (remains : Remains) (only : OnlyAnswers remains) (e : Expected) (valid : valid_expected e ≡ true) (ds : List SystemAct) where
+module _ (l : Link) (rd : Ready l) (remains : Remains) (only : OnlyAnswers remains) (e : Option ℕ) (valid : valid_expected e ≡ true) (ds : List SystemAct) where
   abbrev now : System
   now = run_of every l (beginning every l e remains) ds
 
@@ -67,7 +67,7 @@ module _ (l : Link) (rd : Ready l) (remains : Remains) (only : OnlyAnswers remai
   reached = now.sending.sender.persisted.delivered
 
   -- a data block was read, and it is an answer whose MSA-2 is the control ID of the transaction that waits
-  module _ (k : ℕ) (w : Judged) (vs : List Judged) (arrived : one_at k now.sending.arrived ≡ w ∷ vs) (n : ℕ) (is : w.verdict ≡ Accepted (code "D") n)
+  module _ (k : ℕ) (w : Judged) (vs : List Judged) (arrived : one_at k now.sending.arrived ≡ w ∷ vs) (n : ℕ) (is : w.verdict ≡ accepted_as (code "D") n)
       (waits : now.sending.sender.waiting ≡ Sending) (own : bytes_of (answer_field 2 w.content) w.content ≡ text_of (Number (reached + 1))) where
     -- a transaction waits, so there was a first circuit
     i : Inv l now
@@ -83,8 +83,8 @@ module _ (l : Link) (rd : Ready l) (remains : Remains) (only : OnlyAnswers remai
         let r = q.reads in
         let same : v ≡ Number (reached + 1) = text_is v (Number (reached + 1)) (sym r.id_read ∙ own) in
         let given = all_in_lem j (all_left i.way.back i.way.pending i.core.back) in
-        let asks : waits_of s ≡ Numbered v = ap (waiting_message s.persisted) waits ∙ ap Numbered (sym same) in
-        ap (λ (k : Verdict). delivered_after (block_read_of l.resends s k w.content)) is
+        let asks : waits_of s ≡ Some v = ap (waiting_message s.persisted) waits ∙ ap Some (sym same) in
+        ap (λ (k : Result Accepted Refusal). delivered_after (block_read_of l.resends s k w.content)) is
         ∙ ap delivered_after (read_own l.resends s w.content v c m r rd.resends i.ends.valid (ap is_open waits) asks n)
         ∙ ap (λ (k : Waiting). delivered_after (answered (sender_at s.persisted k s.sends) k c m)) waits
         ∙ moved s.persisted (l.first + i.way.persisted.count) c m (subst (λ (k : SequenceNumber). Given (books_of l now i.way).stored (replies k c m)) same given)
@@ -93,4 +93,4 @@ module _ (l : Link) (rd : Ready l) (remains : Remains) (only : OnlyAnswers remai
     unfolding run_of
     answer_moves =
         ap (λ (ws : List Judged). (answer_taken l now ws (others_at k now.sending.arrived)).sending.sender.persisted.delivered) arrived
-        ∙ act_moves (each_in (one_in k now.sending.arrived w vs (arriving l.settings now.back) (arrival (code "D") w.content) arrived (ap (λ (v : Verdict). accepts v w.content) is)) i.back)
+        ∙ act_moves (each_in (one_in k now.sending.arrived w vs (arriving l.settings now.back) (arrival (code "D") w.content) arrived (ap (λ (v : Result Accepted Refusal). accepts v w.content) is)) i.back)

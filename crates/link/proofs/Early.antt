@@ -1,4 +1,5 @@
 -- Before the first circuit: an earlier tenant's answers may be left on the line back, at the receiver and at the sender. Nobody takes them, and the first circuit drops them.
+use Rattle.std.specs.Prelude.{Option, Some, None, Result, Ok, Err}
 use mathlib.Core.Path.{◌≡◌, refl, sym, ap, ◌∙◌, subst}
 use mathlib.Core.List.{List, [], ◌∷◌, ◌++◌}
 use mathlib.Core.Bool.{Bool, true, false, cond, not, ◌&&◌}
@@ -16,19 +17,16 @@ use Rattle.numbers.specs.declared.SequenceNumber.{SequenceNumber}
 use Rattle.numbers.specs.declared.SequenceNumber.TheVariants.{Number}
 use Rattle.header.specs.Header.{header_of}
 use Rattle.header.specs.declared.Header.{Header}
-use Rattle.header.specs.declared.Header.TheVariants.{Unreadable, Readable}
 use Rattle.stream.specs.Stream.{Judged, run}
-use Rattle.refusal.specs.declared.Verdict.{Verdict}
-use Rattle.refusal.specs.declared.Verdict.TheVariants.{Accepted, Refused}
+use Rattle.refusal.specs.declared.Accepted.{Accepted}
+use Rattle.refusal.specs.declared.Refusal.{Refusal}
 use Rattle.receiver.specs.Receiver.{valid_expected, closed as closed_receiver, is_closed, decide_of, answer_of, nak_of}
 use Rattle.receiver.specs.declared.Application.{Application}
-use Rattle.receiver.specs.declared.Expected.{Expected}
 use Rattle.sender.specs.Sender.{valid_sender, fresh_sender, is_open, on_circuit, no_state, refused, begins_to_wait, is_number, taken_in, submitted_header, valid_resends, when_open}
 use Rattle.sender.specs.Sender.{open_of, ended_of, reset_of, timer_of, submit_of, block_read_of}
 use Rattle.sender.specs.declared.Waiting.{Waiting}
 use Rattle.sender.specs.declared.Waiting.TheVariants.{Closed, Resynchronizing, Querying}
 use Rattle.sender.specs.declared.Sender.{Sender}
-use Rattle.sender.specs.declared.NumberedMessage.TheVariants.{Nothing}
 use Rattle.sender.specs.declared.Event.TheVariants.{NoEvent}
 use Rattle.sender.specs.declared.Acted.{Acted}
 use Rattle.link.specs.SenderActs.{after_crash}
@@ -76,11 +74,11 @@ module _ (s : Sender) (c : s.waiting ≡ Closed) where
   unfolding reset_of
   reset_closed = cond_ind IsClosed (valid_sender s) _ _ (λ v. cond_ind IsClosed s.persisted.frozen _ _ (λ z. refl) (λ z. c)) (λ v. c)
 
-  header_closed : (message : List ℕ) (x : Header) → IsClosed (submitted_header s message x)
-  header_closed message Unreadable = c
-  header_closed message (Readable id number) =
+  header_closed : (message : List ℕ) (x : Option Header) → IsClosed (submitted_header s message x)
+  header_closed message None = c
+  header_closed message (Some h) =
       let next = s.persisted.last + 1 in
-      cond_ind IsClosed (is_number next (number_field greatest_sent (bytes_of number message)) && same (bytes_of id message) (text_of (Number next))) _ _
+      cond_ind IsClosed (is_number next (number_field greatest_sent (bytes_of h.sequence message)) && same (bytes_of h.control_id message) (text_of (Number next))) _ _
       (λ z. subst (λ (w : Waiting). IsClosed (taken_in s w)) (sym c) c) (λ z. c)
 
   submit_closed : (limit : ℕ) (message : List ℕ) → IsClosed (submit_of limit s message)
@@ -104,7 +102,7 @@ module _ (s : Sender) (c : s.waiting ≡ Closed) where
 
 module _ (l : Link) (rd : Ready l) where
   -- ---- the beginning
-  pub early_start : (m : Remains) → OnlyAnswers m → (e : Expected) → valid_expected e ≡ true → Early l (beginning every l e m)
+  pub early_start : (m : Remains) → OnlyAnswers m → (e : Option ℕ) → valid_expected e ≡ true → Early l (beginning every l e m)
   early_start m only e v =
       let p = (fresh_sender l.first).persisted in
       let end = sending (after_crash p) p [] [] [] in
@@ -144,10 +142,10 @@ module _ (l : Link) (rd : Ready l) where
         subst (Waits b.held.resynchronized b.named (Queried b)) i.closed i.rest.core.waits
 
     -- ---- the sender refuses what needs a circuit
-    still : (ws : List Judged) (n k : ℕ) → Early l (sender_acted y ws (record { refusal = n; sender = s; send = Nothing; sends = k; event = NoEvent; block = 0; offset = 0 }))
+    still : (ws : List Judged) (n k : ℕ) → Early l (sender_acted y ws (record { refusal = n; sender = s; send = None; sends = k; event = NoEvent; block = 0; offset = 0 }))
     still ws n k =
         let j = i.rest in
-        let a : Acted = record { refusal = n; sender = s; send = Nothing; sends = k; event = NoEvent; block = 0; offset = 0 } in
+        let a : Acted = record { refusal = n; sender = s; send = None; sends = k; event = NoEvent; block = 0; offset = 0 } in
         early (sender_acted y ws a) i.closed (sender_acts_lem l (without_answers y) j [] j.way.back a (quiet j.core) j.ends.valid j.back)
 
     off_circuit : (ws : List Judged) (a : Acted) → Early l (sender_acted y ws (cond (on_circuit s) a (no_state s)))
@@ -191,10 +189,10 @@ module _ (l : Link) (rd : Ready l) where
     request_read_early [] e = i
     request_read_early (x ∷ xs) e = early (receiver_read l y (x ∷ xs)) i.closed (receiver_reads_keeps l rd (without_answers y) i.rest (x ∷ xs) e)
 
-    decided_early : (a : Application) (ws : List Judged) (d : List ℕ) (v : Verdict) → Inv l (verdict_decided a (without_answers y) ws d v) → Early l (verdict_decided a y ws d v)
-    decided_early a ws d (Refused n k) j = i
-    decided_early a ws d (Accepted t n) j =
-        let x = decide_of a y.receiving.receiver t d in
+    decided_early : (a : Application) (ws : List Judged) (d : List ℕ) (v : Result Accepted Refusal) → Inv l (verdict_decided a (without_answers y) ws d v) → Early l (verdict_decided a y ws d v)
+    decided_early a ws d (Err v) j = i
+    decided_early a ws d (Ok v) j =
+        let x = decide_of a y.receiving.receiver v.block_type d in
         let bare = without_answers y in
         let then = link bare.sending (decided_end bare.receiving ws d x) bare.forward bare.back in
         cond_ind (Early l) (eqb x.refusal 0) _ _

@@ -1,4 +1,5 @@
 -- The premises can be met.
+use Rattle.std.specs.Prelude.{Option}
 use mathlib.Core.Path.{◌≡◌, refl}
 use mathlib.Core.Bool.{true}
 use Prim.Native.Nat.{ℕ, ◌+◌, ◌≤◌}
@@ -15,7 +16,6 @@ use Rattle.messages.specs.Messages.{valid_type}
 use Rattle.message_theorems.proofs.Control.{numbered_reads, numbered_allowed}
 use Rattle.receiver.specs.Receiver.{valid_expected}
 use Rattle.receiver.specs.declared.Application.{Application}
-use Rattle.receiver.specs.declared.Expected.{Expected}
 use Rattle.link.specs.System.{start_of}
 use Rattle.link.specs.Promise.{Ready}
 use Rattle.link.specs.Example.{admission, example_log, example_link}
@@ -52,5 +52,5 @@ ready k =
     }
 
 -- and so a thousand transactions are delivered by some run, whatever the receiver expected before
-pub thousand : (k : Kind) (a : Application) (e : Expected) → valid_expected e ≡ true → Delivers (example_link k) (start_of (example_link k) e) 1000
+pub thousand : (k : Kind) (a : Application) (e : Option ℕ) → valid_expected e ≡ true → Delivers (example_link k) (start_of (example_link k) e) 1000
 thousand k a e v = delivers (example_link k) (ready k) a e v 1000 (omega arith)

@@ -1,4 +1,5 @@
 -- One exchange on a good line: a message is written, read, stored and answered, and its answer is read.
+use Rattle.std.specs.Prelude.{Some, Ok}
 use mathlib.Core.Path.{◌≡◌, refl, ap, ◌∙◌, subst}
 use mathlib.Core.List.{List, [], ◌∷◌, append-nil}
 use mathlib.Core.Bool.{Bool, true, false, cond}
@@ -12,7 +13,6 @@ use Rattle.lists.specs.Outcome.{Outcome}
 use Rattle.block.specs.Format.{block_of}
 use Rattle.numbers.specs.Numbers.{text_of}
 use Rattle.numbers.specs.declared.SequenceNumber.{SequenceNumber}
-use Rattle.numbers.specs.declared.NumberField.TheVariants.{Present}
 use Rattle.header.specs.declared.Code.{Code}
 use Rattle.messages.specs.Messages.{answer_message, answerable}
 use Rattle.message_theorems.proofs.Answer.{answer_reads_back}
@@ -23,15 +23,12 @@ use Rattle.receiver.specs.Receiver.{valid_expected, valid_receiver, row_of, clos
 use Rattle.receiver.proofs.Rows.{id_back}
 use Rattle.receiver.specs.declared.Application.{Application}
 use Rattle.receiver.specs.declared.Row.{Row}
-use Rattle.receiver.specs.declared.Open.TheVariants.{Decision}
 use Rattle.receiver.specs.declared.Receiver.{Receiver}
 use Rattle.receiver.specs.declared.Decided.{Decided}
 use Rattle.receiver.specs.declared.Answered.{Answered}
 use Rattle.sender.specs.Sender.{valid_sender, is_open, waits_of, answer_of}
 use Rattle.sender.specs.declared.Persisted.{Persisted}
-use Rattle.header.specs.declared.CodeField.TheVariants.{Known}
 use Rattle.sender.specs.declared.Sender.{Sender}
-use Rattle.sender.specs.declared.NumberedMessage.TheVariants.{Numbered}
 use Rattle.sender.specs.declared.Acted.{Acted}
 use Rattle.block_theorems.specs.Shapes.{Writable, accepted}
 use Rattle.block_theorems.proofs.RoundTrip.{reads_back}
@@ -119,8 +116,8 @@ module _ (l : Link) (rd : Ready l) where
         }
 
   -- the answer to what waits is all that is on the line back: it is read and acted on, and what changed is persisted
-  module _ (s : Sender) (v : SequenceNumber) (valid : valid_sender s ≡ true) (on : is_open s.waiting ≡ true) (names : waits_of s ≡ Numbered v)
-      (d : Code) (m : SequenceNumber) (y : SayableAnswer v m) (k : Acted) (takes : answer_of s (Known d) (Present m) ≡ k) where
+  module _ (s : Sender) (v : SequenceNumber) (valid : valid_sender s ≡ true) (on : is_open s.waiting ≡ true) (names : waits_of s ≡ Some v)
+      (d : Code) (m : SequenceNumber) (y : SayableAnswer v m) (k : Acted) (takes : answer_of s (Some d) (Ok m) ≡ k) where
     abbrev answer : List ℕ
     answer = answer_message (text_of v) d m
 
@@ -151,9 +148,9 @@ module _ (l : Link) (rd : Ready l) where
 
   -- the message v is named and all else is quiet: it is written, read, stored, and answered by the row that it meets; and the answer is taken
   module _ (a : Application) (s : Sender) (v : SequenceNumber) (valid : valid_sender s ≡ true) (on : is_open s.waiting ≡ true)
-      (names : waits_of s ≡ Numbered v) (nm : Nameable l.first v)
-      (x : Stored) (vx : valid_expected x.expected ≡ true) (r : Row) (meets : row_of a x.expected (Present v) ≡ r) (sayable : answerable r.number ≡ true)
-      (k : Acted) (takes : answer_of s (Known r.code) (Present r.number) ≡ k) (h : List Entry) (y : System) (i : Comes l y (sending_at s (v ∷ []) h) x) where
+      (names : waits_of s ≡ Some v) (nm : Nameable l.first v)
+      (x : Stored) (vx : valid_expected x.expected ≡ true) (r : Row) (meets : row_of a x.expected (Ok v) ≡ r) (sayable : answerable r.number ≡ true)
+      (k : Acted) (takes : answer_of s (Some r.code) (Ok r.number) ≡ k) (h : List Entry) (y : System) (i : Comes l y (sending_at s (v ∷ []) h) x) where
     abbrev before : List ℕ
     before = i.message
 
@@ -211,7 +208,7 @@ module _ (l : Link) (rd : Ready l) where
 
     -- decided on
     abbrev holding : Receiver
-    holding = record { expected = x.expected; decision = Decision (in_words (text_of v)) r }
+    holding = record { expected = x.expected; decision = Some (record { control_id = in_words (text_of v); row = r }) }
 
     abbrev held : Stored → Bool → ReceivingEnd
     held y b = receiving holding y request b [] []
@@ -238,7 +235,7 @@ module _ (l : Link) (rd : Ready l) where
     reports =
         let control = request_control l rd v nm in
         answer_is l.settings rd.settings holding
-        (subst (λ (z : Row). valid_receiver (record { expected = x.expected; decision = Decision (in_words (text_of v)) z }) ≡ true) meets
+        (subst (λ (z : Row). valid_receiver (record { expected = x.expected; decision = Some (record { control_id = in_words (text_of v); row = z }) }) ≡ true) meets
         (holding_valid a x.expected vx v control (nameable_fits l.first v nm))) 0 (reply_buffer l) true (buffer_fits_lem l)
         ∙ ap (λ (id : List ℕ). replied (closed r.persisted.expected) (answer_block l.settings id r) 0 (reply_buffer l)) (id_back (text_of v) (text_allowed v) control)
 

@@ -1,10 +1,12 @@
 -- The invariant of the whole system, down to the bytes on the lines.
+use Rattle.refusal.specs.Refusal.{accepted_as}
+use Rattle.std.specs.Prelude.{Option, Some, Result, Ok, Err}
 use mathlib.Core.Path.{◌≡◌, refl, sym, ap, subst}
 use mathlib.Core.List.{List, [], ◌∷◌, ◌++◌}
 use mathlib.Core.Bool.{Bool, true, false}
 use Prim.Native.Nat.{ℕ, ◌+◌}
-use Rattle.refusal.specs.declared.Verdict.{Verdict}
-use Rattle.refusal.specs.declared.Verdict.TheVariants.{Accepted, Refused}
+use Rattle.refusal.specs.declared.Accepted.{Accepted}
+use Rattle.refusal.specs.declared.Refusal.{Refusal}
 use Rattle.numbers.specs.Numbers.{text_of}
 use Rattle.numbers.specs.declared.SequenceNumber.{SequenceNumber}
 use Rattle.control_id.specs.ControlId.{in_words}
@@ -12,8 +14,7 @@ use Rattle.messages.specs.Messages.{valid_control_id, answerable}
 use Rattle.stream.specs.Stream.{Judged}
 use Rattle.receiver.specs.Receiver.{valid_expected, valid_receiver, closed}
 use Rattle.receiver.specs.declared.Row.{Row}
-use Rattle.receiver.specs.declared.Open.{Open}
-use Rattle.receiver.specs.declared.Open.TheVariants.{Decision}
+use Rattle.receiver.specs.declared.Decision.{Decision}
 use Rattle.receiver.specs.declared.Receiver.{Receiver}
 use Rattle.sender.specs.Sender.{valid_sender, block_read_of}
 use Rattle.sender.specs.declared.Persisted.{Persisted}
@@ -25,7 +26,7 @@ use Rattle.link.specs.Duties.{one_at, others_at}
 use Rattle.link.specs.Line.{Arrival, arrival, accepts, accepted_of, arriving}
 use Rattle.link.specs.System.{Link, System, Stored, ReceivingEnd, receiving, has_with, stored_by, to_persist, sender_acted}
 use Rattle.link.specs.Promise.{transactions}
-use Rattle.link.proofs.Queues.{All, none, more, Sub, sub-all, sub_among, among_both, one, Each, each_sub, each_in, Some, some, Found, found, Answer, replies, side, NamesExpected}
+use Rattle.link.proofs.Queues.{All, none, more, Sub, sub-all, sub_among, among_both, one, Each, each_sub, each_in, Chosen, some, Found, found, Answer, replies, side, NamesExpected}
 use Rattle.link.proofs.Books.{Books, books, Core, lose_back}
 use Rattle.link.proofs.Sending.{After}
 use Rattle.link.proofs.AnswersRead.{refusal_read, reply_read}
@@ -81,10 +82,10 @@ pub record Sayable (v : SequenceNumber) (r : Row) : Type 0 where
 -- no decision is open; or one is, and is not persisted, or is and is to be reported. The receiver holds what is persisted, or is one decision behind it
 pub data Opening (l : Link) (e : ReceivingEnd) (v p : Reach) : List Answer → Type 0 where
   none_open : e.receiver ≡ closed e.persisted.expected → e.reports ≡ false → v ≡ p → Opening l e v p []
-  to_store_lem : (n : SequenceNumber) (r : Row) → e.receiver ≡ record { expected = e.persisted.expected; decision = Decision (in_words (text_of n)) r } → e.reports ≡ false
+  to_store_lem : (n : SequenceNumber) (r : Row) → e.receiver ≡ record { expected = e.persisted.expected; decision = Some (record { control_id = in_words (text_of n); row = r }) } → e.reports ≡ false
       → Sayable n r → valid_expected r.persisted.expected ≡ true → has_with r.persisted.transaction e.message e.persisted.has ≡ transactions l v.count
       → Opening l e v p (replies n r.code r.number ∷ [])
-  to_report : (n : SequenceNumber) (r : Row) → e.receiver.decision ≡ Decision (in_words (text_of n)) r → e.reports ≡ true → Sayable n r
+  to_report : (n : SequenceNumber) (r : Row) → e.receiver.decision ≡ Some (record { control_id = in_words (text_of n); row = r }) → e.reports ≡ true → Sayable n r
       → e.persisted.expected ≡ r.persisted.expected → v ≡ p → Opening l e v p (replies n r.code r.number ∷ [])
 
 -- what the receiver will accept: of the verdicts that it has read, and of the bytes on its line. And the sender
@@ -114,9 +115,9 @@ opening_as bs ws (to_report n r a b s x h) = to_report n r a b s x h
 pub opening_names : {l : Link} {e : ReceivingEnd} {v p : Reach} {os : List Answer} → Opening l e v p os → All (NamesExpected (to_persist e).expected) os
 opening_names (none_open a b c) = none
 opening_names {l} {e} {v} {p} (to_store_lem n r a b s x h) =
-    subst (λ (o : Open). All (NamesExpected (stored_by e.persisted e.message o).expected) (replies n r.code r.number ∷ [])) (sym (ap (λ (z : Receiver). z.decision) a)) (more s.names none)
+    subst (λ (o : Option Decision). All (NamesExpected (stored_by e.persisted e.message o).expected) (replies n r.code r.number ∷ [])) (sym (ap (λ (z : Receiver). z.decision) a)) (more s.names none)
 opening_names {l} {e} {v} {p} (to_report n r a b s x h) =
-    subst (λ (o : Open). All (NamesExpected (stored_by e.persisted e.message o).expected) (replies n r.code r.number ∷ [])) (sym a) (more s.names none)
+    subst (λ (o : Option Decision). All (NamesExpected (stored_by e.persisted e.message o).expected) (replies n r.code r.number ∷ [])) (sym a) (more s.names none)
 
 -- all else equal, with other replies on the line
 abbrev pub with_back : Transit → List Answer → Transit
@@ -147,7 +148,7 @@ module _ (l : Link) (y : System) (i : Inv l y) (n : ℕ) where
   line = arriving l.settings y.back
 
   module _ (w : Judged) (vs : List Judged) (is : one_at n y.sending.arrived ≡ w ∷ vs) where
-    abbrev acts : Verdict → List ℕ → Acted
+    abbrev acts : Result Accepted Refusal → List ℕ → Acted
     acts v d = block_read_of l.resends y.sending.sender v d
 
     abbrev Then : Type 0
@@ -162,18 +163,18 @@ module _ (l : Link) (y : System) (i : Inv l y) (n : ℕ) where
         by_verdict zs (refusal_read l.first (books_of l y (with_back i.way zs)) l.resends y.sending.sender
         (lose_back i.core (among_both (sub_among s) (sub_among (sub-all i.way.pending)))) w.verdict w.content z) e
 
-    accepted_read : (t k : ℕ) → w.verdict ≡ Accepted t k → (zs : List Answer) → Sub zs i.way.back → Each IsReply (accepted_of left ++ line) zs
+    accepted_read : (t k : ℕ) → w.verdict ≡ accepted_as t k → (zs : List Answer) → Sub zs i.way.back → Each IsReply (accepted_of left ++ line) zs
         → Found IsReply (arrival t w.content) i.way.back → Then
     accepted_read t k z zs s e (found r j q) =
-        by_verdict zs (subst (λ (v : Verdict). After l.first (books_of l y (with_back i.way zs)) (acts v w.content)) (sym z)
+        by_verdict zs (subst (λ (v : Result Accepted Refusal). After l.first (books_of l y (with_back i.way zs)) (acts v w.content)) (sym z)
         (reply_read l.first (books_of l y (with_back i.way zs)) l.resends y.sending.sender r t k w.content q
         (lose_back i.core (among_both (one j (sub_among s)) (sub_among (sub-all i.way.pending)))))) e
 
     pub answer_one : Then
     answer_one = go w.verdict refl (each_sub (others_sub n y.sending.arrived line) i.back)
       where
-        go : (v : Verdict) → w.verdict ≡ v → Some IsReply (accepted_of left ++ line) i.way.back → Then
-        go (Accepted t k) z (some zs s e) =
-            accepted_read t k z zs s e
-            (each_in (one_in n y.sending.arrived w vs line (arrival t w.content) is (ap (λ (v : Verdict). accepts v w.content) z)) i.back)
-        go (Refused k m) z (some zs s e) = refused_read zs s e (ap (λ (v : Verdict). accepts v w.content) z)
+        go : (v : Result Accepted Refusal) → w.verdict ≡ v → Chosen IsReply (accepted_of left ++ line) i.way.back → Then
+        go (Ok verdict) z (some zs s e) =
+            accepted_read verdict.block_type verdict.data_length z zs s e
+            (each_in (one_in n y.sending.arrived w vs line (arrival verdict.block_type w.content) is (ap (λ (v : Result Accepted Refusal). accepts v w.content) z)) i.back)
+        go (Err verdict) z (some zs s e) = refused_read zs s e (ap (λ (v : Result Accepted Refusal). accepts v w.content) z)

@@ -1,4 +1,5 @@
 -- Messages go onto the lines, and the receiver reads requests.
+use Rattle.std.specs.Prelude.{Some, None}
 use mathlib.Core.Path.{◌≡◌, refl, sym, ap, ◌∙◌, subst}
 use mathlib.Core.List.{List, [], ◌∷◌, ◌++◌, append_assoc}
 use mathlib.Core.Bool.{true, false}
@@ -11,7 +12,6 @@ use Rattle.numbers.specs.declared.SequenceNumber.TheVariants.{MinusOne, Number}
 use Rattle.header.specs.declared.Code.{Code}
 use Rattle.header.specs.declared.Code.TheVariants.{AA, AE, AR}
 use Rattle.receiver.specs.Receiver.{expected_number}
-use Rattle.receiver.specs.declared.Expected.TheVariants.{Unknown, Next}
 use Rattle.sender.specs.declared.Persisted.{Persisted}
 use Rattle.sender.specs.declared.Waiting.{Waiting}
 use Rattle.sender.specs.declared.Waiting.TheVariants.{Closed, Idle, Resynchronizing, Querying, Sending}
@@ -97,7 +97,7 @@ module _ {f : ℕ} {b : Books} (c : Core f b) (v : SequenceNumber) (xs : List Se
 -- ---- -1
 module _ {f : ℕ} {b : Books} (c : Core f b) (xs : List SequenceNumber) (e : b.forward ≡ MinusOne ∷ xs) where
   abbrev resynchronized : Books
-  resynchronized = with_received b (side Unknown b.volatile.next false) xs (b.pending ++ replies MinusOne AA MinusOne ∷ [])
+  resynchronized = with_received b (side None b.volatile.next false) xs (b.pending ++ replies MinusOne AA MinusOne ∷ [])
 
   minus_first : {l : List SequenceNumber} → Good f b.volatile.next (MinusOne ∷ l) → b.volatile.next ≡ f
   minus_first (good_minus a g) = a
@@ -177,14 +177,14 @@ module _ {f : ℕ} {b : Books} (c : Core f b) (n : ℕ) (xs : List SequenceNumbe
     -- the number that the receiver expects, or the one before it
     abbrev pub Which : Type 0
     Which =
-        ((n ≡ b.volatile.next) × ((b.volatile.expected ≡ Unknown) ⊎ (b.volatile.expected ≡ Next n)))
-        ⊎ ((n + 1 ≡ b.volatile.next) × (b.volatile.expected ≡ Next b.volatile.next))
+        ((n ≡ b.volatile.next) × ((b.volatile.expected ≡ None) ⊎ (b.volatile.expected ≡ Some n)))
+        ⊎ ((n + 1 ≡ b.volatile.next) × (b.volatile.expected ≡ Some b.volatile.next))
 
     pub which : Which
     which = go c.receivers.expects
       where
-        near : Dec (b.volatile.next ≤ n) → b.volatile.expected ≡ Next b.volatile.next → Which
-        near (yes z) t = let s = not_more in let r : n ≡ b.volatile.next = omega arith in inl (r, inr (t ∙ ap Next (sym r)))
+        near : Dec (b.volatile.next ≤ n) → b.volatile.expected ≡ Some b.volatile.next → Which
+        near (yes z) t = let s = not_more in let r : n ≡ b.volatile.next = omega arith in inl (r, inr (t ∙ ap Some (sym r)))
         near (no z) t = let m = number_near k.forward.good in let s = not_more in inr (omega arith, t)
 
         go : Expects f b.volatile → Which
@@ -197,7 +197,7 @@ module _ {f : ℕ} {b : Books} (c : Core f b) (n : ℕ) (xs : List SequenceNumbe
 
     -- stored
     abbrev taken : Code → Books
-    taken d = with_received b (side (Next (n + 1)) (n + 1) b.volatile.old) xs (b.pending ++ replies (Number n) d (Number n) ∷ [])
+    taken d = with_received b (side (Some (n + 1)) (n + 1) b.volatile.old) xs (b.pending ++ replies (Number n) d (Number n) ∷ [])
 
     pub receive_next : (d : Code) → (d ≡ AA) ⊎ (d ≡ AE) → n ≡ b.volatile.next → Core f (taken d)
     receive_next d y z =

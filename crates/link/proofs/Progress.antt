@@ -1,4 +1,5 @@
 -- The protocol makes progress: for every number of transactions there is a run that delivers all.
+use Rattle.std.specs.Prelude.{Option, Some, None, Ok}
 use mathlib.Core.Path.{◌≡◌, refl, sym, ap, ◌∙◌, subst}
 use mathlib.Core.List.{List, [], ◌∷◌, ◌++◌}
 use mathlib.Core.Bool.{Bool, true, false, cond, not, ◌&&◌}
@@ -16,25 +17,18 @@ use Rattle.fields.specs.Fields.{bytes_of}
 use Rattle.numbers.specs.Numbers.{number_field, greatest_sent, text_of}
 use Rattle.numbers.specs.declared.SequenceNumber.{SequenceNumber}
 use Rattle.numbers.specs.declared.SequenceNumber.TheVariants.{MinusOne, Number}
-use Rattle.numbers.specs.declared.NumberField.TheVariants.{Present}
 use Rattle.header.specs.Header.{header_of, control_id_field, sequence_field}
-use Rattle.header.specs.declared.CodeField.TheVariants.{Known}
 use Rattle.messages.specs.Messages.{answerable}
 use Rattle.receiver.specs.declared.Row.{Row}
-use Rattle.receiver.specs.declared.Transaction.{Transaction}
-use Rattle.receiver.specs.declared.Transaction.TheVariants.{NoTransaction}
 use Rattle.message_theorems.proofs.Control.{control_header}
 use Rattle.receiver.specs.Receiver.{valid_expected, application_code, stores as storing, row_of}
 use Rattle.receiver.specs.declared.Application.{Application}
 use Rattle.receiver.specs.declared.Application.TheVariants.{Accepts, Errs}
-use Rattle.receiver.specs.declared.Expected.{Expected}
-use Rattle.receiver.specs.declared.Expected.TheVariants.{Unknown, Next}
 use Rattle.sender.specs.Sender.{valid_sender, is_open, waiting_message, acted, begins_to_wait, refused, open_of, answer_of, answer_transaction}
 use Rattle.sender.specs.Sender.{proceeds, delivered_of, submitted, is_number, submitted_header, submit_of}
 use Rattle.sender.specs.declared.Persisted.{Persisted}
 use Rattle.sender.specs.declared.Waiting.{Waiting}
 use Rattle.sender.specs.declared.Waiting.TheVariants.{Idle, Resynchronizing, Querying, Sending}
-use Rattle.sender.specs.declared.NumberedMessage.TheVariants.{Nothing, Numbered}
 use Rattle.sender.specs.declared.Event.{Event}
 use Rattle.sender.specs.declared.Event.TheVariants.{NoEvent, Delivered}
 use Rattle.sender.specs.declared.Acted.{Acted}
@@ -78,7 +72,7 @@ module _ (l : Link) (rd : Ready l) where
         && same (bytes_of (control_id_field message) message) (text_of (Number (p.last + 1)))) ≡ true
     takes = rw (logged.reads.number_read, eq-eqb (p.last + 1) (p.last + 1) refl, logged.reads.id_read) (same_self (text_of (Number (p.last + 1))))
 
-    pub submit_is : submit_of l.settings.data_limit (after_crash p) message ≡ acted (after_crash (submitted p)) Nothing NoEvent
+    pub submit_is : submit_of l.settings.data_limit (after_crash p) message ≡ acted (after_crash (submitted p)) None NoEvent
     unfolding submit_of
     submit_is =
         let limit = l.settings.data_limit in
@@ -87,7 +81,7 @@ module _ (l : Link) (rd : Ready l) where
         rw (limit_valid_lem, z)
         (ap (λ (b : Bool). cond (not b) rest (refused 11 0 s)) unfrozen
         ∙ rw (le-leb (length message) limit logged.fits, logged.allowed, control_header message (Number (p.last + 1)) logged.reads)
-        (ap (λ (b : Bool). cond b (acted (after_crash (submitted p)) Nothing NoEvent) (refused 10 0 s)) takes))
+        (ap (λ (b : Bool). cond b (acted (after_crash (submitted p)) None NoEvent) (refused 10 0 s)) takes))
 
   -- ---- n transactions are submitted and persisted, before any circuit
   abbrev pub before : ℕ → Persisted
@@ -100,13 +94,13 @@ module _ (l : Link) (rd : Ready l) where
       right_valid (after_crash (before last))
       (record { stored = numbers_of_lem c d (omega arith) a b (λ z. omega arith); waits = refl })
 
-  pub record Submitted (e : Expected) (n : ℕ) : Type 0 where
+  pub record Submitted (e : Option ℕ) (n : ℕ) : Type 0 where
     pub last : ℕ
     pub is : last + 1 ≡ l.first + n
     pub history : List Entry
     pub run : Reaches l (start_of l e) (quiet_at (sending_at (after_crash (before last)) [] history) (stored e []) [] resting resting)
 
-  pub submitted-all : (e : Expected) (n : ℕ) → l.first + n ≤ greatest_sent + 1 → Submitted e n
+  pub submitted-all : (e : Option ℕ) (n : ℕ) → l.first + n ≤ greatest_sent + 1 → Submitted e n
   submitted-all e zero h = record { last = l.first - 1; is = let a = rd.first_least in omega arith; history = []; run = stay l (start_of l e) }
   submitted-all e (suc n) h =
       let t = submitted-all e n (omega arith) in
@@ -118,7 +112,7 @@ module _ (l : Link) (rd : Ready l) where
       record {
         last = t.last + 1;
         is = omega arith;
-        history = reported (acted (after_crash (submitted (before t.last))) Nothing NoEvent) ∷ t.history;
+        history = reported (acted (after_crash (submitted (before t.last))) None NoEvent) ∷ t.history;
         run =
             join l t.run
             (join l (act l next y)
@@ -168,16 +162,16 @@ module _ (l : Link) (rd : Ready l) where
           go true e = (record { unfrozen = unfrozen; synchronized = e }, record { some = omega arith; few = omega arith })
           go false e = (record { unfrozen = unfrozen; synchronized = e }, record { some = omega arith; few = omega arith })
 
-      pub first_stage : (b : Bool) → q.resynchronized ≡ b → (r : Row) → row_of a d.expected (Present (first_message b)) ≡ r
+      pub first_stage : (b : Bool) → q.resynchronized ≡ b → (r : Row) → row_of a d.expected (Ok (first_message b)) ≡ r
           → answerable r.number ≡ true → (p : Persisted) (ev : Event)
-          → answer_of (sender_at q (first_waiting b) 1) (Known r.code) (Present r.number) ≡ proceeds p ev → r.persisted.transaction ≡ NoTransaction
+          → answer_of (sender_at q (first_waiting b) 1) (Some r.code) (Ok r.number) ≡ proceeds p ev → r.persisted.transaction ≡ None
           → Stage y p (stored r.persisted.expected d.has)
       first_stage b e r meets sayable p ev takes none =
           record {
             event = ev;
             history = reported (proceeds p ev) ∷ reported (begins_to_wait q (first_waiting b) NoEvent) ∷ hist;
             comes =
-                subst (λ (t : Transaction). Comes l y (sending_at (proceeds p ev).sender (named_after [] (proceeds p ev))
+                subst (λ (t : Option ℕ). Comes l y (sending_at (proceeds p ev).sender (named_after [] (proceeds p ev))
                 (reported (proceeds p ev) ∷ reported (begins_to_wait q (first_waiting b) NoEvent) ∷ hist)) (stored r.persisted.expected (has_with t (request_of l (first_message b)) d.has))) none
                 (exchange l rd a (sender_at q (first_waiting b) 1) (first_message b) (waiting_valid b e) (is_open_lem b) (names b) (nameable b) d vd r meets sayable (proceeds p ev) takes
                 (reported (begins_to_wait q (first_waiting b) NoEvent) ∷ hist) y (opened b e));
@@ -187,7 +181,7 @@ module _ (l : Link) (rd : Ready l) where
           is_open_lem true = refl
           is_open_lem false = refl
 
-          names : (b : Bool) → waiting_message q (first_waiting b) ≡ Numbered (first_message b)
+          names : (b : Bool) → waiting_message q (first_waiting b) ≡ Some (first_message b)
           names true = refl
           names false = refl
 
@@ -198,7 +192,7 @@ module _ (l : Link) (rd : Ready l) where
     -- ---- the next transaction
     module _ (p : Persisted) (x : Stored) (st : Stage y p x) (first : p.first ≡ l.first) (unfrozen : p.frozen ≡ false) (synchronized : p.resynchronized ≡ true)
         (low : l.first ≤ p.delivered + 1) (more : p.delivered < p.last) (high : p.last ≤ greatest_sent)
-        (expected : (x.expected ≡ Unknown) ⊎ (x.expected ≡ Next (p.delivered + 1))) (vx : valid_expected x.expected ≡ true) where
+        (expected : (x.expected ≡ None) ⊎ (x.expected ≡ Some (p.delivered + 1))) (vx : valid_expected x.expected ≡ true) where
       sending-valid : valid_sender (sender_at p Sending 1) ≡ true
       sending-valid =
           let a = rd.first_least in
@@ -212,18 +206,18 @@ module _ (l : Link) (rd : Ready l) where
       next_nameable : Nameable l.first (Number (p.delivered + 1))
       next_nameable = transaction {n = p.delivered + 1} (omega arith) low (omega arith)
 
-      meets : row_of a x.expected (Present (Number (p.delivered + 1))) ≡ storing a (p.delivered + 1)
+      meets : row_of a x.expected (Ok (Number (p.delivered + 1))) ≡ storing a (p.delivered + 1)
       meets = go expected
         where
-          go : (x.expected ≡ Unknown) ⊎ (x.expected ≡ Next (p.delivered + 1))
-              → row_of a x.expected (Present (Number (p.delivered + 1))) ≡ storing a (p.delivered + 1)
-          go (inl z) = ap (λ (k : Expected). row_of a k (Present (Number (p.delivered + 1)))) z ∙ unknown_row_lem a (p.delivered + 1) (omega arith)
-          go (inr z) = ap (λ (k : Expected). row_of a k (Present (Number (p.delivered + 1)))) z ∙ next_row a (p.delivered + 1) (omega arith)
+          go : (x.expected ≡ None) ⊎ (x.expected ≡ Some (p.delivered + 1))
+              → row_of a x.expected (Ok (Number (p.delivered + 1))) ≡ storing a (p.delivered + 1)
+          go (inl z) = ap (λ (k : Option ℕ). row_of a k (Ok (Number (p.delivered + 1)))) z ∙ unknown_row_lem a (p.delivered + 1) (omega arith)
+          go (inr z) = ap (λ (k : Option ℕ). row_of a k (Ok (Number (p.delivered + 1)))) z ∙ next_row a (p.delivered + 1) (omega arith)
 
       waits_now : proceeds p st.event ≡ begins_to_wait p Sending st.event
       waits_now = ap (λ (b : Bool). begins_to_wait p (cond b Sending Idle) st.event) (lt-ltb p.delivered p.last more)
 
-      pub next_stage : Stage y (delivered_of p) (stored (Next (p.delivered + 1 + 1)) (x.has ++ request_of l (Number (p.delivered + 1)) ∷ []))
+      pub next_stage : Stage y (delivered_of p) (stored (Some (p.delivered + 1 + 1)) (x.has ++ request_of l (Number (p.delivered + 1)) ∷ []))
       next_stage =
           let n = p.delivered + 1 in
           let after = proceeds (delivered_of p) (Delivered (p.delivered + 1) (application_code a)) in

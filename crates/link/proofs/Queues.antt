@@ -1,4 +1,5 @@
 -- What stands in the queues of a link: requests that can be read in order, and answers that the receiver gave.
+use Rattle.std.specs.Prelude.{Option}
 use mathlib.Core.Path.{◌≡◌, refl, sym, ap, subst}
 use mathlib.Core.List.{List, [], ◌∷◌, ◌++◌}
 use mathlib.Core.Bool.{Bool, false}
@@ -11,7 +12,6 @@ use Rattle.numbers.specs.declared.SequenceNumber.TheVariants.{MinusOne, Number}
 use Rattle.header.specs.declared.Code.{Code}
 use Rattle.header.specs.declared.Code.TheVariants.{AA, AE, AR}
 use Rattle.receiver.specs.Receiver.{expected_number}
-use Rattle.receiver.specs.declared.Expected.{Expected}
 use Rattle.sender.specs.declared.Persisted.{Persisted}
 use Rattle.link.specs.Duties.{others_at}
 
@@ -133,18 +133,18 @@ pub each_front : {A B : Type 0} {R : A → B → Type 0} {x : A} {xs : List A} {
 each_front (each_more {y = z} {ys = zs} p ps) = front z zs refl p ps
 
 -- some of the first have some of the second, and others of the first others of the second
-pub data Some {A B : Type 0} (R : A → B → Type 0) (xs : List A) (ys : List B) : Type 0 where
-  some : (zs : List B) → Sub zs ys → Each R xs zs → Some R xs ys
+pub data Chosen {A B : Type 0} (R : A → B → Type 0) (xs : List A) (ys : List B) : Type 0 where
+  some : (zs : List B) → Sub zs ys → Each R xs zs → Chosen R xs ys
 
-pub each_sub : {A B : Type 0} {R : A → B → Type 0} {vs xs : List A} {ys : List B} → Sub vs xs → Each R xs ys → Some R vs ys
+pub each_sub : {A B : Type 0} {R : A → B → Type 0} {vs xs : List A} {ys : List B} → Sub vs xs → Each R xs ys → Chosen R vs ys
 each_sub empty each_none = some [] empty each_none
 each_sub {R = R} {vs = vs} (skip s) (each_more {y = y} {ys = ys} p ps) = go (each_sub s ps)
   where
-    go : Some R vs ys → Some R vs (y ∷ ys)
+    go : Chosen R vs ys → Chosen R vs (y ∷ ys)
     go (some zs a e) = some zs (skip a) e
 each_sub {R = R} (keep {x = x} {xs = us} s) (each_more {y = y} {ys = ys} p ps) = go (each_sub s ps)
   where
-    go : Some R us ys → Some R (x ∷ us) (y ∷ ys)
+    go : Chosen R us ys → Chosen R (x ∷ us) (y ∷ ys)
     go (some zs a e) = some (y ∷ zs) (keep a) (each_more p e)
 
 pub data Found {A B : Type 0} (R : A → B → Type 0) (x : A) (ys : List B) : Type 0 where
@@ -257,11 +257,11 @@ pub data Answer : Type 0 where
 
 -- the receiver, as held or as persisted: what it expects, the number after those that it has, and whether it may still expect a number that an earlier tenant left
 pub record Side : Type 0 where
-  pub expected : Expected
+  pub expected : Option ℕ
   pub next : ℕ
   pub old : Bool
 
-abbrev pub side : Expected → ℕ → Bool → Side
+abbrev pub side : Option ℕ → ℕ → Bool → Side
 side e h o = record { expected = e; next = h; old = o }
 
 -- the answer to a number k, from a receiver that has the numbers up to h
@@ -289,7 +289,7 @@ given_more s t f l (replies (Number m) c n) (to_repeat a b d e) = to_repeat a b 
 given_more s t f l (refuses r) g = omega arith
 
 -- an answer to 0 says what is expected
-abbrev pub NamesExpected : Expected → Answer → Type 0
+abbrev pub NamesExpected : Option ℕ → Answer → Type 0
 NamesExpected e (replies MinusOne c n) = n ≡ n
 NamesExpected e (replies (Number k) c n) = k ≡ 0 → n ≡ expected_number e
 NamesExpected e (refuses r) = r ≡ r

@@ -1,4 +1,5 @@
 -- Document 01, 'Receiver of sequence numbers', and 02, §1: every act leaves a state, a refused one the same; and a transaction has a number of 1 or more.
+use Rattle.std.specs.Prelude.{Option, Some, None, Result, Ok, Err}
 use mathlib.Core.Path.{◌≡◌, refl, ap, ◌∙◌}
 use mathlib.Core.Bool.{Bool, true, false, not}
 use mathlib.Core.Logic.{◌⊎◌, inl, inr}
@@ -12,17 +13,12 @@ use Rattle.settings.specs.declared.Settings.{Settings}
 use Rattle.control_id.specs.declared.ControlId.{ControlId}
 use Rattle.numbers.specs.Numbers.{greatest_expected}
 use Rattle.numbers.specs.declared.SequenceNumber.TheVariants.{MinusOne, Number}
-use Rattle.numbers.specs.declared.NumberField.{NumberField}
-use Rattle.numbers.specs.declared.NumberField.TheVariants.{Missing, NotNumber, Present}
+use Rattle.numbers.specs.declared.SequenceNumber.{SequenceNumber}
+use Rattle.numbers.specs.declared.NumberError.{NumberError}
 use Rattle.receiver.specs.Receiver.{valid_expected, valid_receiver, is_closed, row_of, answer_of}
 use Rattle.receiver.specs.declared.Application.{Application}
-use Rattle.receiver.specs.declared.Expected.{Expected}
-use Rattle.receiver.specs.declared.Expected.TheVariants.{Unknown, Next}
-use Rattle.receiver.specs.declared.Transaction.{Transaction}
-use Rattle.receiver.specs.declared.Transaction.TheVariants.{NoTransaction, Numbered}
 use Rattle.receiver.specs.declared.Row.{Row}
-use Rattle.receiver.specs.declared.Open.{Open}
-use Rattle.receiver.specs.declared.Open.TheVariants.{NoDecision, Decision}
+use Rattle.receiver.specs.declared.Decision.{Decision}
 use Rattle.receiver.specs.declared.Receiver.{Receiver}
 use Rattle.receiver.specs.declared.Answered.{Answered}
 use Rattle.receiver.specs.declared.Decided.{Decided}
@@ -31,11 +27,11 @@ use Rattle.receiver.proofs.Acts.{expected_valid, closed_state, decide_state, dec
 use Rattle.link.specs.ReceiverActs.{ReceiverAct, decides, reports, naks, receiver_refusal_of, receiver_act_of, stored_in, ReceiverStep, acts, crashes, receiver_step_of, receiver_after}
 
 -- NONE, and E of 1 or more
-pub expects_none : valid_expected Unknown ≡ true
+pub expects_none : valid_expected None ≡ true
 unfolding valid_expected
 expects_none = refl
 
-pub expects_next : (n : ℕ) → 1 ≤ n → n ≤ greatest_expected → valid_expected (Next n) ≡ true
+pub expects_next : (n : ℕ) → 1 ≤ n → n ≤ greatest_expected → valid_expected (Some n) ≡ true
 unfolding valid_expected
 expects_next n l h = rw (le-leb 1 n l, le-leb n greatest_expected h)
 
@@ -52,10 +48,10 @@ module _ (s : Receiver) where
   refused-same (naks g n start b) z = nak_same g s start b n
 
   -- whichever of the two was stored
-  stored-valid : (q : Bool) (o : Open) → s.decision ≡ o → valid_receiver s ≡ true → valid_expected (stored_in q s.expected o) ≡ true
-  stored-valid q NoDecision e v = expected_valid s v
-  stored-valid false (Decision id r) e v = expected_valid s v
-  stored-valid true (Decision id r) e v = let o = opened s id r v e in open_expected s.expected o.expected r o.in_table
+  stored-valid : (q : Bool) (o : Option Decision) → s.decision ≡ o → valid_receiver s ≡ true → valid_expected (stored_in q s.expected o) ≡ true
+  stored-valid q None e v = expected_valid s v
+  stored-valid false (Some o) e v = expected_valid s v
+  stored-valid true (Some decision) e v = let o = opened s decision.control_id decision.row v e in open_expected s.expected o.expected decision.row o.in_table
 
   step_state : (x : ReceiverStep) → valid_receiver s ≡ true → valid_receiver (receiver_step_of x s) ≡ true
   step_state (acts a) v = act_state a v
@@ -64,7 +60,7 @@ module _ (s : Receiver) where
 -- every run of decisions, reports, N replies and crashes from a new receiver leaves a state: it is never stuck
 pub always_state : (xs : List ReceiverStep) → valid_receiver (receiver_after xs) ≡ true
 unfolding receiver_after
-always_state [] = closed_state Unknown expects_none
+always_state [] = closed_state None expects_none
 always_state (x ∷ xs) = step_state (receiver_after xs) x (always_state xs)
 
 -- ---- nothing before the report
@@ -73,7 +69,7 @@ pub run_answers : (xs : List ReceiverStep) (g : Settings) (stored : Bool) (start
     → FromReport g stored (receiver_after xs) start b
 run_answers xs g stored start b z = answer_from_report g stored (receiver_after xs) start b z
 
-pub run_in_table : (xs : List ReceiverStep) (id : ControlId) (r : Row) → (receiver_after xs).decision ≡ Decision id r → InTable (receiver_after xs).expected r
+pub run_in_table : (xs : List ReceiverStep) (id : ControlId) (r : Row) → (receiver_after xs).decision ≡ Some (record { control_id = id; row = r }) → InTable (receiver_after xs).expected r
 run_in_table xs id r e = let o = opened (receiver_after xs) id r (always_state xs) e in is-row (receiver_after xs).expected o.expected r o.in_table
 
 module _ (s : Receiver) (valid : valid_receiver s ≡ true) (is_open_lem : is_closed s.decision ≡ false) where
@@ -91,18 +87,17 @@ module _ (s : Receiver) (valid : valid_receiver s ≡ true) (is_open_lem : is_cl
   kept_open (naks g n start b) = inl (nak_same g s start b n)
 
 -- ---- a transaction has a number of 1 or more, so that 0 can stand for none
-abbrev pub some : Transaction → Bool
-some NoTransaction = true
-some (Numbered n) = not (eqb n 0)
+abbrev pub some : Option ℕ → Bool
+some None = true
+some (Some n) = not (eqb n 0)
 
 module _ (a : Application) where
   abbrev some_row : Row → Type 0
   some_row r = some r.persisted.transaction ≡ true
 
-  pub row_some : (s : Expected) (f : NumberField) → some_row (row_of a s f)
+  pub row_some : (s : Option ℕ) (f : Result SequenceNumber NumberError) → some_row (row_of a s f)
   unfolding row_of
-  row_some s Missing = refl
-  row_some s NotNumber = refl
-  row_some s (Present MinusOne) = refl
-  row_some Unknown (Present (Number n)) = cond_ind some_row (eqb n 0) _ _ (λ e. refl) (λ e. ap not e)
-  row_some (Next k) (Present (Number n)) = cond_ind some_row (eqb n 0) _ _ (λ e. refl) (λ e. cond_ind some_row (eqb n k) _ _ (λ f. ap not e) (λ f. refl))
+  row_some s (Err why) = refl
+  row_some s (Ok MinusOne) = refl
+  row_some None (Ok (Number n)) = cond_ind some_row (eqb n 0) _ _ (λ e. refl) (λ e. ap not e)
+  row_some (Some k) (Ok (Number n)) = cond_ind some_row (eqb n 0) _ _ (λ e. refl) (λ e. cond_ind some_row (eqb n k) _ _ (λ f. ap not e) (λ f. refl))

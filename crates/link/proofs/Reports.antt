@@ -1,4 +1,5 @@
 -- Demand 3, of every run: "It sends at once what waits .. and reports how many it made."
+use Rattle.std.specs.Prelude.{Option, Some, None, Result, Ok, Err}
 use mathlib.Core.Path.{◌≡◌, refl, sym, ap, ◌∙◌, subst}
 use mathlib.Core.List.{List, [], ◌∷◌}
 use mathlib.Core.Bool.{Bool, true, false, cond, not, ◌&&◌}
@@ -11,18 +12,15 @@ use Rattle.lists.proofs.Tests.{cond_ind}
 use Rattle.numbers.specs.declared.SequenceNumber.{SequenceNumber}
 use Rattle.numbers.specs.declared.SequenceNumber.TheVariants.{Number}
 use Rattle.stream.specs.Stream.{Judged}
-use Rattle.refusal.specs.declared.Verdict.{Verdict}
-use Rattle.refusal.specs.declared.Verdict.TheVariants.{Accepted, Refused}
+use Rattle.refusal.specs.declared.Accepted.{Accepted}
+use Rattle.refusal.specs.declared.Refusal.{Refusal}
 use Rattle.receiver.specs.Receiver.{valid_expected, is_closed, decide_of, answer_of, nak_of}
 use Rattle.receiver.specs.declared.Application.{Application}
-use Rattle.receiver.specs.declared.Expected.{Expected}
 use Rattle.sender.specs.Sender.{is_open, valid_sender, waiting_message, waits_of, open_of}
 use Rattle.sender.specs.declared.Persisted.{Persisted}
 use Rattle.sender.specs.declared.Waiting.{Waiting}
 use Rattle.sender.specs.declared.Waiting.TheVariants.{Closed, Idle, Resynchronizing, Querying, Sending}
 use Rattle.sender.specs.declared.Sender.{Sender}
-use Rattle.sender.specs.declared.NumberedMessage.{NumberedMessage}
-use Rattle.sender.specs.declared.NumberedMessage.TheVariants.{Nothing, Numbered}
 use Rattle.sender.specs.declared.Event.{Event}
 use Rattle.sender.specs.declared.Acted.{Acted}
 use Rattle.link.specs.SenderActs.{Act, opened, ended, reset, timer, block, submit, act_of, falls_due, resends_of, after_crash}
@@ -45,7 +43,7 @@ use Rattle.link.proofs.Safety.{run_stands}
 pub abandoned_closes : (s : Sender) → valid_sender s ≡ true → (a : Act) → is_abandoned (act_of a s).event ≡ true → is_open (act_of a s).sender.waiting ≡ false
 abandoned_closes s v a = go (steps s v a)
   where
-    go : {r n : ℕ} {s t : Sender} {k : ℕ} {c : NumberedMessage} {x : Event} → Step r s n t c k x → is_abandoned x ≡ true → is_open t.waiting ≡ false
+    go : {r n : ℕ} {s t : Sender} {k : ℕ} {c : Option SequenceNumber} {x : Event} → Step r s n t c k x → is_abandoned x ≡ true → is_open t.waiting ≡ false
     go (refuses q) u = not_both (sym u)
     go (keeps q g j y) u = not_both (sym u ∙ g)
     go (starts g j f) u = not_both (sym u ∙ g)
@@ -90,9 +88,9 @@ module _ (l : Link) (P : Sender → Persisted → List Entry → Type 0)
     request_read_lem [] = now
     request_read_lem (x ∷ xs) = now
 
-    decided : (a : Application) (ws : List Judged) (d : List ℕ) (v : Verdict) → At (verdict_decided a y ws d v).sending
-    decided a ws d (Refused n k) = now
-    decided a ws d (Accepted t n) = either_way (eqb (decide_of a y.receiving.receiver t d).refusal 0) _ refl
+    decided : (a : Application) (ws : List Judged) (d : List ℕ) (v : Result Accepted Refusal) → At (verdict_decided a y ws d v).sending
+    decided a ws d (Err v) = now
+    decided a ws d (Ok v) = either_way (eqb (decide_of a y.receiving.receiver v.block_type d).refusal 0) _ refl
 
     request_taken_lem : (a : Application) (ws vs : List Judged) → At (request_taken a y ws vs).sending
     request_taken_lem a [] vs = now
@@ -132,7 +130,7 @@ module _ (l : Link) (P : Sender → Persisted → List Entry → Type 0)
     at_after (brings_late b) = now
     at_after (brings_late_request b) = now
 
-module _ (l : Link) (rd : Ready l) (remains : Remains) (only : OnlyAnswers remains) (e : Expected) (v : valid_expected e ≡ true) where
+module _ (l : Link) (rd : Ready l) (remains : Remains) (only : OnlyAnswers remains) (e : Option ℕ) (v : valid_expected e ≡ true) where
   abbrev at : List SystemAct → System
   at ds = run_of every l (beginning every l e remains) ds
 
@@ -153,11 +151,11 @@ module _ (l : Link) (rd : Ready l) (remains : Remains) (only : OnlyAnswers remai
       (steps (at ds).sending.sender (run-valid ds) a)
 
   -- "It sends at once what waits": what waits after an act is named by it, or waited before
-  pub sends_at_once : (ds : List SystemAct) (a : Act) (m : SequenceNumber) → waits_of (act_of a (at ds).sending.sender).sender ≡ Numbered m
-      → ((act_of a (at ds).sending.sender).send ≡ Numbered m) ⊎ (waits_of (at ds).sending.sender ≡ Numbered m)
+  pub sends_at_once : (ds : List SystemAct) (a : Act) (m : SequenceNumber) → waits_of (act_of a (at ds).sending.sender).sender ≡ Some m
+      → ((act_of a (at ds).sending.sender).send ≡ Some m) ⊎ (waits_of (at ds).sending.sender ≡ Some m)
   sends_at_once ds a m w = go (steps (at ds).sending.sender (run-valid ds) a) w
     where
-      go : {r n : ℕ} {s t : Sender} {k : ℕ} {c : NumberedMessage} {x : Event} → Step r s n t c k x → waits_of t ≡ Numbered m → (c ≡ Numbered m) ⊎ (waits_of s ≡ Numbered m)
+      go : {r n : ℕ} {s t : Sender} {k : ℕ} {c : Option SequenceNumber} {x : Event} → Step r s n t c k x → waits_of t ≡ Some m → (c ≡ Some m) ⊎ (waits_of s ≡ Some m)
       go (refuses q) z = inr z
       go {s = s} (keeps {p = p} {w = u} q g j y) z = inr (ap (λ (i : Waiting). waiting_message s.persisted i) q ∙ sym y ∙ z)
       go (starts g j f) z = inl z
@@ -166,11 +164,11 @@ module _ (l : Link) (rd : Ready l) (remains : Remains) (only : OnlyAnswers remai
       go (shuts g j) z = not_both cc
 
   -- the other way: what an act names is what waits after it
-  pub named_waits : (ds : List SystemAct) (a : Act) (m : SequenceNumber) → (act_of a (at ds).sending.sender).send ≡ Numbered m
-      → waits_of (act_of a (at ds).sending.sender).sender ≡ Numbered m
+  pub named_waits : (ds : List SystemAct) (a : Act) (m : SequenceNumber) → (act_of a (at ds).sending.sender).send ≡ Some m
+      → waits_of (act_of a (at ds).sending.sender).sender ≡ Some m
   named_waits ds a m w = go (steps (at ds).sending.sender (run-valid ds) a) w
     where
-      go : {r n : ℕ} {s t : Sender} {k : ℕ} {c : NumberedMessage} {x : Event} → Step r s n t c k x → c ≡ Numbered m → waits_of t ≡ Numbered m
+      go : {r n : ℕ} {s t : Sender} {k : ℕ} {c : Option SequenceNumber} {x : Event} → Step r s n t c k x → c ≡ Some m → waits_of t ≡ Some m
       go (refuses q) z = not_both cc
       go (keeps q g j y) z = not_both cc
       go (starts g j f) z = z
@@ -191,10 +189,10 @@ module _ (l : Link) (rd : Ready l) (remains : Remains) (only : OnlyAnswers remai
       at_after l (λ s p h. (at ds).sending.persisted.delivered ≤ p.delivered) (λ s p h i c a r. c) (at ds) (run-valid ds) (omega arith)
       (run_stands l rd remains only e v ds).core.numbers.delivered_more (omega arith) d
 
-  pub waits_above : (ds : List SystemAct) (n : ℕ) → waits_of (at ds).sending.sender ≡ Numbered (Number n) → 1 ≤ n → (at ds).sending.persisted.delivered < n
+  pub waits_above : (ds : List SystemAct) (n : ℕ) → waits_of (at ds).sending.sender ≡ Some (Number n) → 1 ≤ n → (at ds).sending.persisted.delivered < n
   waits_above ds n w z = go (at ds).sending.sender.waiting w (run_stands l rd remains only e v ds).core.numbers.delivered_more
     where
-      go : (x : Waiting) → waiting_message (at ds).sending.sender.persisted x ≡ Numbered (Number n)
+      go : (x : Waiting) → waiting_message (at ds).sending.sender.persisted x ≡ Some (Number n)
           → (at ds).sending.persisted.delivered ≤ (at ds).sending.sender.persisted.delivered → (at ds).sending.persisted.delivered < n
       go Closed y q = not_both cc
       go Idle y q = not_both cc
@@ -236,12 +234,12 @@ module _ (l : Link) (rd : Ready l) (remains : Remains) (only : OnlyAnswers remai
           reports ds a ∙ ap (λ (z : Bool). cond z (counted_of (waits_of (at ds).sending.sender) (at ds).sending.history) (counted_of (waits_of b.sender) (reported b ∷ (at ds).sending.history))) u in
           sym told ∙ abandons_spent ds a (given (only_due a (at ds).sending.sender u)) u
 
-      waiting : (w : NumberedMessage) → waits_of (at ds).sending.sender ≡ w → falls_due a ≡ true → (at ds).sending.sender.sends ≡ l.resends + 1
+      waiting : (w : Option SequenceNumber) → waits_of (at ds).sending.sender ≡ w → falls_due a ≡ true → (at ds).sending.sender.sends ≡ l.resends + 1
           → is_abandoned (act_of a (at ds).sending.sender).event ≡ true
-      waiting Nothing w d e =
-          let none : 0 ≡ (at ds).sending.sender.sends = ap (λ (m : NumberedMessage). counted_of m (at ds).sending.history) (sym w) ∙ counted_is ds in
+      waiting None w d e =
+          let none : 0 ≡ (at ds).sending.sender.sends = ap (λ (m : Option SequenceNumber). counted_of m (at ds).sending.history) (sym w) ∙ counted_is ds in
           absurd (omega arith)
-      waiting (Numbered m) w d e =
+      waiting (Some m) w d e =
           let s = (at ds).sending.sender in
           ap is_abandoned (due_as_timer l.resends s rd.resends (run-valid ds) m w a d (given d))
           ∙ ap (λ (b : Acted). is_abandoned b.event) (timer_abandons l.resends s rd.resends (run-valid ds) m w (omega arith))

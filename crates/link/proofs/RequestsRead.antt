@@ -1,4 +1,6 @@
 -- The receiver decides on one verdict.
+use Rattle.refusal.specs.Refusal.{accepted_as}
+use Rattle.std.specs.Prelude.{Option, Some, None, Result, Ok, Err}
 use mathlib.Core.Path.{◌≡◌, refl, sym, ap, ◌∙◌, subst}
 use mathlib.Core.List.{List, [], ◌∷◌, ◌++◌}
 use mathlib.Core.Bool.{Bool, true, false, cond}
@@ -13,13 +15,12 @@ use Rattle.lists.proofs.Put.{part_put}
 use Rattle.lists.specs.Bytes.{put}
 use Rattle.lists.specs.Outcome.{Outcome}
 use Rattle.settings.specs.declared.Settings.{Settings}
-use Rattle.refusal.specs.declared.Verdict.{Verdict}
-use Rattle.refusal.specs.declared.Verdict.TheVariants.{Accepted, Refused}
+use Rattle.refusal.specs.declared.Accepted.{Accepted}
+use Rattle.refusal.specs.declared.Refusal.{Refusal}
 use Rattle.block.specs.Format.{block_of}
 use Rattle.numbers.specs.Numbers.{greatest_sent, greatest_expected, text_of}
 use Rattle.numbers.specs.declared.SequenceNumber.{SequenceNumber}
 use Rattle.numbers.specs.declared.SequenceNumber.TheVariants.{MinusOne, Number}
-use Rattle.numbers.specs.declared.NumberField.TheVariants.{Present}
 use Rattle.control_id.specs.ControlId.{in_words}
 use Rattle.header.specs.declared.Code.TheVariants.{AA, AE, AR}
 use Rattle.messages.specs.Messages.{answerable, valid_control_id}
@@ -29,11 +30,7 @@ use Rattle.receiver.specs.Receiver.{valid_expected, valid_receiver, closed, appl
 use Rattle.receiver.specs.Internal.{field_fits}
 use Rattle.receiver.specs.declared.Application.{Application}
 use Rattle.receiver.specs.declared.Application.TheVariants.{Accepts, Errs}
-use Rattle.receiver.specs.declared.Expected.{Expected}
-use Rattle.receiver.specs.declared.Expected.TheVariants.{Unknown, Next}
-use Rattle.receiver.specs.declared.Transaction.TheVariants.{NoTransaction}
 use Rattle.receiver.specs.declared.Row.{Row}
-use Rattle.receiver.specs.declared.Open.TheVariants.{Decision}
 use Rattle.receiver.specs.declared.Receiver.{Receiver}
 use Rattle.receiver.specs.declared.Decided.{Decided}
 use Rattle.receiver.specs.declared.Answered.{Answered}
@@ -64,7 +61,7 @@ all_nameable {f} {b} c =
     (all_append (all_map (λ v t. not-over_more b.persisted.last greatest_sent (omega arith) v t.last) g.line)
     (all_map (λ v t. not-over_more b.held.last greatest_sent (omega arith) v t.last) g.named))
 
-pub nameable_fits : (f : ℕ) (v : SequenceNumber) → Nameable f v → field_fits (Present v) ≡ true
+pub nameable_fits : (f : ℕ) (v : SequenceNumber) → Nameable f v → field_fits (Ok v) ≡ true
 nameable_fits f MinusOne minus = refl
 nameable_fits f (Number n) (query e) = le-leb n greatest_sent (omega arith)
 nameable_fits f (Number n) (transaction a b c) = le-leb n greatest_sent c
@@ -87,35 +84,35 @@ unfolding answerable
 number_answerable n s l = rw (le-leb 1 n s, le-leb n greatest_expected l)
 
 -- ---- the rows that a request can meet
-pub zero_row : (a : Application) (e : Expected) (n : ℕ) → n ≡ 0 → row_of a e (Present (Number n)) ≡ row AA (expected_number e) NoTransaction e
+pub zero_row : (a : Application) (e : Option ℕ) (n : ℕ) → n ≡ 0 → row_of a e (Ok (Number n)) ≡ row AA (expected_number e) None e
 unfolding row_of
-zero_row a Unknown n z = ap (λ (b : Bool). cond b (row AA MinusOne NoTransaction Unknown) (stores a n)) (eq-eqb n 0 z)
-zero_row a (Next k) n z =
-    ap (λ (b : Bool). cond b (row AA (Number k) NoTransaction (Next k)) (cond (eqb n k) (stores a n) (row AR (Number k) NoTransaction (Next k)))) (eq-eqb n 0 z)
+zero_row a None n z = ap (λ (b : Bool). cond b (row AA MinusOne None None) (stores a n)) (eq-eqb n 0 z)
+zero_row a (Some k) n z =
+    ap (λ (b : Bool). cond b (row AA (Number k) None (Some k)) (cond (eqb n k) (stores a n) (row AR (Number k) None (Some k)))) (eq-eqb n 0 z)
 
-pub minus_row : (a : Application) (e : Expected) → row_of a e (Present MinusOne) ≡ row AA MinusOne NoTransaction Unknown
+pub minus_row : (a : Application) (e : Option ℕ) → row_of a e (Ok MinusOne) ≡ row AA MinusOne None None
 unfolding row_of
 minus_row a e = refl
 
 not_zero : (n : ℕ) → 1 ≤ n → eqb n 0 ≡ false
 not_zero n l = ne_eqb n 0 (λ (y : n ≡ 0). omega arith)
 
-pub unknown_row_lem : (a : Application) (n : ℕ) → 1 ≤ n → row_of a Unknown (Present (Number n)) ≡ stores a n
+pub unknown_row_lem : (a : Application) (n : ℕ) → 1 ≤ n → row_of a None (Ok (Number n)) ≡ stores a n
 unfolding row_of
-unknown_row_lem a n l = ap (λ (b : Bool). cond b (row AA MinusOne NoTransaction Unknown) (stores a n)) (not_zero n l)
+unknown_row_lem a n l = ap (λ (b : Bool). cond b (row AA MinusOne None None) (stores a n)) (not_zero n l)
 
-pub next_row : (a : Application) (n : ℕ) → 1 ≤ n → row_of a (Next n) (Present (Number n)) ≡ stores a n
+pub next_row : (a : Application) (n : ℕ) → 1 ≤ n → row_of a (Some n) (Ok (Number n)) ≡ stores a n
 unfolding row_of
 next_row a n l =
-    ap (λ (b : Bool). cond b (row AA (Number n) NoTransaction (Next n)) (cond (eqb n n) (stores a n) (row AR (Number n) NoTransaction (Next n)))) (not_zero n l)
-    ∙ ap (λ (b : Bool). cond b (stores a n) (row AR (Number n) NoTransaction (Next n))) (eq-eqb n n refl)
+    ap (λ (b : Bool). cond b (row AA (Number n) None (Some n)) (cond (eqb n n) (stores a n) (row AR (Number n) None (Some n)))) (not_zero n l)
+    ∙ ap (λ (b : Bool). cond b (stores a n) (row AR (Number n) None (Some n))) (eq-eqb n n refl)
 
-pub repeat_row : (a : Application) (n k : ℕ) → 1 ≤ n → n + 1 ≡ k → row_of a (Next k) (Present (Number n)) ≡ row AR (Number (n + 1)) NoTransaction (Next k)
+pub repeat_row : (a : Application) (n k : ℕ) → 1 ≤ n → n + 1 ≡ k → row_of a (Some k) (Ok (Number n)) ≡ row AR (Number (n + 1)) None (Some k)
 unfolding row_of
 repeat_row a n k l z =
-    ap (λ (b : Bool). cond b (row AA (Number k) NoTransaction (Next k)) (cond (eqb n k) (stores a n) (row AR (Number k) NoTransaction (Next k)))) (not_zero n l)
-    ∙ ap (λ (b : Bool). cond b (stores a n) (row AR (Number k) NoTransaction (Next k))) (ne_eqb n k (λ (y : n ≡ k). omega arith))
-    ∙ ap (λ (j : ℕ). row AR (Number j) NoTransaction (Next k)) (sym z)
+    ap (λ (b : Bool). cond b (row AA (Number k) None (Some k)) (cond (eqb n k) (stores a n) (row AR (Number k) None (Some k)))) (not_zero n l)
+    ∙ ap (λ (b : Bool). cond b (stores a n) (row AR (Number k) None (Some k))) (ne_eqb n k (λ (y : n ≡ k). omega arith))
+    ∙ ap (λ (j : ℕ). row AR (Number j) None (Some k)) (sym z)
 
 pub application_known : (a : Application) → (application_code a ≡ AA) ⊎ (application_code a ≡ AE)
 application_known Accepts = inl refl
@@ -126,7 +123,7 @@ unfolding transactions
 transactions_more l m c ts p q = ap (λ (t : List (List ℕ)). t ++ c ∷ []) p ∙ ap (λ (t : List ℕ). transactions l m ++ t ∷ []) q
 
 module _ (l : Link) (rd : Ready l) (a : Application) (y : System) (i : Inv l y) (w : Judged) (ws : List Judged) (arrived : y.receiving.arrived ≡ w ∷ ws) where
-  abbrev expected : Expected
+  abbrev expected : Option ℕ
   expected = (to_persist y.receiving).expected
 
   abbrev got : Decided
@@ -146,7 +143,7 @@ module _ (l : Link) (rd : Ready l) (a : Application) (y : System) (i : Inv l y) 
     held-is = ap (λ (z : Receiver). stored_by y.receiving.persisted y.receiving.message z.decision) closed-now
 
     valid : valid_expected expected ≡ true
-    valid = subst (λ (z : Expected). valid_expected z ≡ true) (sym (ap (λ (z : Stored). z.expected) held-is)) i.ends.persisted.valid
+    valid = subst (λ (z : Option ℕ). valid_expected z ≡ true) (sym (ap (λ (z : Stored). z.expected) held-is)) i.ends.persisted.valid
 
     has_now : y.receiving.persisted.has ≡ transactions l i.way.volatile.count
     has_now = i.ends.persisted.has ∙ ap (λ (z : Reach). transactions l z.count) (sym equal)
@@ -160,20 +157,20 @@ module _ (l : Link) (rd : Ready l) (a : Application) (y : System) (i : Inv l y) 
       control : valid_control_id (text_of v) ≡ true
       control = subst (λ (id : List ℕ). valid_control_id id ≡ true) is.reads.id_read (handed_out w.content is.reads.readable)
 
-      fits : field_fits (Present v) ≡ true
+      fits : field_fits (Ok v) ≡ true
       fits = nameable_fits l.first v nameable
 
       abbrev holding : Row → Receiver
-      holding r = record { expected = expected; decision = Decision (in_words (text_of v)) r }
+      holding r = record { expected = expected; decision = Some (record { control_id = in_words (text_of v); row = r }) }
 
-      got_is : (r : Row) → row_of a expected (Present v) ≡ r → got ≡ opens (closed expected) (in_words (text_of v)) r
+      got_is : (r : Row) → row_of a expected (Ok v) ≡ r → got ≡ opens (closed expected) (in_words (text_of v)) r
       got_is r p =
           ap (λ (s : Receiver). decide_of a s (code "D") w.content) (closed-now ∙ ap (λ (z : Stored). closed z.expected) (sym held-is))
           ∙ decided a expected valid w.content v is.reads is.allowed
           ∙ ap (opens (closed expected) (in_words (text_of v))) p
 
       -- it meets the row r, and once that is persisted the receiver is at m
-      met : (r : Row) (m : Reach) → row_of a expected (Present v) ≡ r
+      met : (r : Row) (m : Reach) → row_of a expected (Ok v) ≡ r
           → Core l.first (with_received (books_of l y i.way) (side r.persisted.expected (l.first + m.count) m.old) xs (i.way.opening ++ replies v r.code r.number ∷ []))
           → NamesExpected r.persisted.expected (replies v r.code r.number)
           → has_with r.persisted.transaction w.content y.receiving.persisted.has ≡ transactions l m.count → Then got
@@ -186,9 +183,9 @@ module _ (l : Link) (rd : Ready l) (a : Application) (y : System) (i : Inv l y) 
             core = subst (λ (os : List Answer). Core l.first (with_received (books_of l y i.way) (side r.persisted.expected (l.first + m.count) m.old) xs
                 (os ++ replies v r.code r.number ∷ []))) nothing c;
             ends = ends_of n.valid n.persisted_valid (subst (λ (z : Row). valid_receiver (holding z) ≡ true) p (holding_valid a expected valid v control fits)) n.persisted;
-            opening = to_store_lem v r (ap (λ (e : Expected). record { expected = e; decision = Decision (in_words (text_of v)) r }) now) unreported
-                (record { control = control; number = subst (λ (z : Row). answerable z.number ≡ true) p (row-answerable a expected (Present v) valid fits); names = names })
-                (subst (λ (z : Row). valid_expected z.persisted.expected ≡ true) p (row_expected a expected (Present v) valid fits)) h;
+            opening = to_store_lem v r (ap (λ (e : Option ℕ). record { expected = e; decision = Some (record { control_id = in_words (text_of v); row = r }) }) now) unreported
+                (record { control = control; number = subst (λ (z : Row). answerable z.number ≡ true) p (row-answerable a expected (Ok v) valid fits); names = names })
+                (subst (λ (z : Row). valid_expected z.persisted.expected ≡ true) p (row_expected a expected (Ok v) valid fits)) h;
             forward = rest;
             back = i.back;
             pending = i.pending;
@@ -199,31 +196,31 @@ module _ (l : Link) (rd : Ready l) (a : Application) (y : System) (i : Inv l y) 
       abbrev reached : ℕ
       reached = l.first + i.way.volatile.count
 
-      new_read : 1 ≤ k → k ≤ greatest_sent → k ≡ reached → (expected ≡ Unknown) ⊎ (expected ≡ Next k) → Then got
+      new_read : 1 ≤ k → k ≤ greatest_sent → k ≡ reached → (expected ≡ None) ⊎ (expected ≡ Some k) → Then got
       new_read p q r t =
           met (Number k) xs is queue rest (stores a k) (record { count = suc i.way.volatile.count; old = i.way.volatile.old }) (stored_row_lem t)
-          (subst (λ (h : ℕ). Core l.first (with_received (books_of l y i.way) (side (Next (k + 1)) h i.way.volatile.old) xs
+          (subst (λ (h : ℕ). Core l.first (with_received (books_of l y i.way) (side (Some (k + 1)) h i.way.volatile.old) xs
           (i.way.opening ++ replies (Number k) (application_code a) (Number k) ∷ [])))
           (let z : k + 1 ≡ l.first + suc i.way.volatile.count = omega arith in z) (receive_next i.core k xs queue p (application_code a) (application_known a) r))
           (λ (z : k ≡ 0). absurd (omega arith))
           (transactions_more l i.way.volatile.count w.content y.receiving.persisted.has has_now (is.carries p ∙ ap l.log r))
         where
-          stored_row_lem : (expected ≡ Unknown) ⊎ (expected ≡ Next k) → row_of a expected (Present (Number k)) ≡ stores a k
-          stored_row_lem (inl z) = ap (λ (e : Expected). row_of a e (Present (Number k))) z ∙ unknown_row_lem a k p
-          stored_row_lem (inr z) = ap (λ (e : Expected). row_of a e (Present (Number k))) z ∙ next_row a k p
+          stored_row_lem : (expected ≡ None) ⊎ (expected ≡ Some k) → row_of a expected (Ok (Number k)) ≡ stores a k
+          stored_row_lem (inl z) = ap (λ (e : Option ℕ). row_of a e (Ok (Number k))) z ∙ unknown_row_lem a k p
+          stored_row_lem (inr z) = ap (λ (e : Option ℕ). row_of a e (Ok (Number k))) z ∙ next_row a k p
 
-      old_read : 1 ≤ k → k ≤ greatest_sent → k + 1 ≡ reached → expected ≡ Next reached → Then got
+      old_read : 1 ≤ k → k ≤ greatest_sent → k + 1 ≡ reached → expected ≡ Some reached → Then got
       old_read p q r t =
-          met (Number k) xs is queue rest (row AR (Number (k + 1)) NoTransaction (Next reached)) i.way.volatile
-          (ap (λ (e : Expected). row_of a e (Present (Number k))) t ∙ repeat_row a k reached p r)
-          (subst (λ (e : Expected). Core l.first (with_received (books_of l y i.way) (side e reached i.way.volatile.old) xs
+          met (Number k) xs is queue rest (row AR (Number (k + 1)) None (Some reached)) i.way.volatile
+          (ap (λ (e : Option ℕ). row_of a e (Ok (Number k))) t ∙ repeat_row a k reached p r)
+          (subst (λ (e : Option ℕ). Core l.first (with_received (books_of l y i.way) (side e reached i.way.volatile.old) xs
           (i.way.opening ++ replies (Number k) AR (Number (k + 1)) ∷ []))) t
           (receive_repeat i.core k xs queue p r))
           (λ (z : k ≡ 0). absurd (omega arith)) has_now
 
       number_read : Nameable l.first (Number k) → Then got
       number_read (query z) =
-          met (Number k) xs is queue rest (row AA (expected_number expected) NoTransaction expected) i.way.volatile (zero_row a expected k z) (receive_zero i.core k xs queue z)
+          met (Number k) xs is queue rest (row AA (expected_number expected) None expected) i.way.volatile (zero_row a expected k z) (receive_zero i.core k xs queue z)
           (λ (u : k ≡ 0). refl) has_now
       number_read (transaction p b q) = go (which i.core k xs queue p)
         where
@@ -234,12 +231,12 @@ module _ (l : Link) (rd : Ready l) (a : Application) (y : System) (i : Inv l y) 
     request_read_lem : (v : SequenceNumber) (xs : List SequenceNumber) → IsRequest l (arrival (code "D") w.content) v → i.way.forward ≡ v ∷ xs
         → Each (IsRequest l) left xs → Then got
     request_read_lem MinusOne xs q r s =
-        met MinusOne xs q r s (row AA MinusOne NoTransaction Unknown) (record { count = i.way.volatile.count; old = false }) (minus_row a expected)
+        met MinusOne xs q r s (row AA MinusOne None None) (record { count = i.way.volatile.count; old = false }) (minus_row a expected)
         (receive_minus_one i.core xs r) refl has_now
     request_read_lem (Number k) xs q r s = number_read k xs q r s (nameable (Number k) xs q r s)
 
   -- ---- one is open: 11
-  held_read : (n : SequenceNumber) (r : Row) → y.receiving.receiver.decision ≡ Decision (in_words (text_of n)) r → Then got
+  held_read : (n : SequenceNumber) (r : Row) → y.receiving.receiver.decision ≡ Some (record { control_id = in_words (text_of n); row = r }) → Then got
   held_read n r e =
       subst Then (sym (decided_open a y.receiving.receiver (in_words (text_of n)) r (code "D") w.content i.ends.receiver_valid e)) i
 
@@ -253,7 +250,7 @@ module _ (l : Link) (rd : Ready l) (a : Application) (y : System) (i : Inv l y) 
   data_read v xs q r s os e (to_store_lem n x a b c d h) = held_read n x (ap (λ (z : Receiver). z.decision) a)
   data_read v xs q r s os e (to_report n x a b c d h) = held_read n x a
 
-  accepted_read : (t n : ℕ) → Front (IsRequest l) (arrival t w.content) left i.way.forward → Inv l (verdict_decided a y ws w.content (Accepted t n))
+  accepted_read : (t n : ℕ) → Front (IsRequest l) (arrival t w.content) left i.way.forward → Inv l (verdict_decided a y ws w.content (accepted_as t n))
   accepted_read t n (front v xs p q r) =
       subst (λ (k : ℕ). Inv l (request_decided y ws w.content (decide_of a y.receiving.receiver k w.content))) (sym q.type)
       (data_read v xs (subst (λ (k : ℕ). IsRequest l (arrival k w.content) v) q.type q) p r i.way.opening refl i.opening)
@@ -262,11 +259,11 @@ module _ (l : Link) (rd : Ready l) (a : Application) (y : System) (i : Inv l y) 
   unfolding accepted_of
   request_one = go w.verdict refl
     where
-      all : (v : Verdict) → w.verdict ≡ v → Each (IsRequest l) ((accepts v w.content ++ accepted_of ws) ++ arriving l.settings y.forward) i.way.forward
+      all : (v : Result Accepted Refusal) → w.verdict ≡ v → Each (IsRequest l) ((accepts v w.content ++ accepted_of ws) ++ arriving l.settings y.forward) i.way.forward
       all v z =
-          subst (λ (k : Verdict). Each (IsRequest l) ((accepts k w.content ++ accepted_of ws) ++ arriving l.settings y.forward) i.way.forward) z
+          subst (λ (k : Result Accepted Refusal). Each (IsRequest l) ((accepts k w.content ++ accepted_of ws) ++ arriving l.settings y.forward) i.way.forward) z
           (subst (λ (vs : List Judged). Each (IsRequest l) (both vs) i.way.forward) arrived i.forward)
 
-      go : (v : Verdict) → w.verdict ≡ v → Inv l (verdict_decided a y ws w.content v)
-      go (Accepted t n) z = accepted_read t n (each_front (all (Accepted t n) z))
-      go (Refused n k) z = i
+      go : (v : Result Accepted Refusal) → w.verdict ≡ v → Inv l (verdict_decided a y ws w.content v)
+      go (Ok v) z = accepted_read v.block_type v.data_length (each_front (all (accepted_as v.block_type v.data_length) z))
+      go (Err v) z = i

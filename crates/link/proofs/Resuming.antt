@@ -1,4 +1,5 @@
 -- Whatever has been lost, damaged or cut off: from every moment of every run there is a continuation that delivers all that was submitted and stored.
+use Rattle.std.specs.Prelude.{Option, Some, None, Ok}
 use mathlib.Core.Path.{◌≡◌, refl, sym, ap, ◌∙◌, subst}
 use mathlib.Core.List.{List, [], ◌∷◌, ◌++◌}
 use mathlib.Core.Bool.{Bool, true, false, cond}
@@ -10,13 +11,8 @@ use borrow.Author.Tests.{eq-eqb}
 use Rattle.numbers.specs.Numbers.{greatest_sent}
 use Rattle.numbers.specs.declared.SequenceNumber.TheVariants.{MinusOne, Number}
 use Rattle.header.specs.declared.Code.TheVariants.{AA}
-use Rattle.header.specs.declared.CodeField.TheVariants.{Known}
-use Rattle.numbers.specs.declared.NumberField.TheVariants.{Present}
 use Rattle.receiver.specs.Receiver.{valid_expected, expected_number, row}
 use Rattle.receiver.specs.declared.Application.{Application}
-use Rattle.receiver.specs.declared.Expected.{Expected}
-use Rattle.receiver.specs.declared.Expected.TheVariants.{Unknown, Next}
-use Rattle.receiver.specs.declared.Transaction.TheVariants.{NoTransaction}
 use Rattle.sender.specs.Sender.{answer_of, answer_query, proceeds, freezes, resynchronized_of, delivered_of}
 use Rattle.sender.specs.declared.Persisted.{Persisted}
 use Rattle.sender.specs.declared.Waiting.TheVariants.{Closed, Querying}
@@ -52,7 +48,7 @@ module _ (l : Link) (rd : Ready l) (a : Application) (y : System) where
     synchronized : p.resynchronized ≡ true
     reached : p.delivered + 1 ≡ l.first + n
     last : p.last + 1 ≡ l.first + total
-    expected : (x.expected ≡ Unknown) ⊎ (x.expected ≡ Next (p.delivered + 1))
+    expected : (x.expected ≡ None) ⊎ (x.expected ≡ Some (p.delivered + 1))
     fits : valid_expected x.expected ≡ true
     has : x.has ≡ transactions l n
 
@@ -64,7 +60,7 @@ module _ (l : Link) (rd : Ready l) (a : Application) (y : System) where
       let g = rd.first_least in
       record {
         p = delivered_of q;
-        x = stored (Next (q.delivered + 1 + 1)) (t.x.has ++ request_of l (Number (q.delivered + 1)) ∷ []);
+        x = stored (Some (q.delivered + 1 + 1)) (t.x.has ++ request_of l (Number (q.delivered + 1)) ∷ []);
         stage = next_stage l rd a y q t.x t.stage t.first t.unfrozen t.synchronized (omega arith) (omega arith) (omega arith) t.expected t.fits;
         first = t.first;
         unfrozen = t.unfrozen;
@@ -108,9 +104,9 @@ module _ (l : Link) (rd : Ready l) (a : Application) (y : System) where
     total_is = let n = core.numbers in omega arith
 
     -- the first exchange goes on with p, and the receiver has what it had
-    begun : (p : Persisted) (e : Expected) → Stage l rd y p (stored e d.has) → p.first ≡ l.first → p.frozen ≡ false → p.resynchronized ≡ true
+    begun : (p : Persisted) (e : Option ℕ) → Stage l rd y p (stored e d.has) → p.first ≡ l.first → p.frozen ≡ false → p.resynchronized ≡ true
         → p.delivered + 1 ≡ l.first + count → p.last ≡ q.last
-        → (e ≡ Unknown) ⊎ (e ≡ Next (p.delivered + 1)) → valid_expected e ≡ true → Delivering total count
+        → (e ≡ None) ⊎ (e ≡ Some (p.delivered + 1)) → valid_expected e ≡ true → Delivering total count
     begun p e s f u r c m x v =
         let t = total_is in
         record { p = p; x = stored e d.has; stage = s; first = f; unfrozen = u; synchronized = r; reached = c; last = omega arith; expected = x; fits = v; has = i.ends.persisted.has }
@@ -119,20 +115,20 @@ module _ (l : Link) (rd : Ready l) (a : Application) (y : System) where
     resynchronizes z =
         let n = core.numbers in
         let b = core.forward.start z in
-        begun (resynchronized_of q) Unknown
+        begun (resynchronized_of q) None
         (first_stage l rd a y q (crashed ∷ y.sending.history) d [] i.ends.persisted.valid i.ends.persisted_valid core.senders.unfrozen here false z
-        (row AA MinusOne NoTransaction Unknown) (minus_row a d.expected) none_answerable (resynchronized_of q) NoEvent refl refl)
+        (row AA MinusOne None None) (minus_row a d.expected) none_answerable (resynchronized_of q) NoEvent refl refl)
         core.senders.first core.senders.unfrozen refl (omega arith) refl (inl refl) expects_none
 
     -- 0 is answered by what the receiver has persisted
     queried : q.resynchronized ≡ true → (p : Persisted) (ev : Event)
-        → answer_of (sender_at q Querying 1) (Known AA) (Present (expected_number d.expected)) ≡ proceeds p ev
+        → answer_of (sender_at q Querying 1) (Some AA) (Ok (expected_number d.expected)) ≡ proceeds p ev
         → p.first ≡ q.first → p.frozen ≡ q.frozen → p.resynchronized ≡ q.resynchronized
-        → p.delivered + 1 ≡ l.first + count → p.last ≡ q.last → (d.expected ≡ Unknown) ⊎ (d.expected ≡ Next (p.delivered + 1)) → Delivering total count
+        → p.delivered + 1 ≡ l.first + count → p.last ≡ q.last → (d.expected ≡ None) ⊎ (d.expected ≡ Some (p.delivered + 1)) → Delivering total count
     queried z p ev e f u r c m x =
         begun p d.expected
         (first_stage l rd a y q (crashed ∷ y.sending.history) d [] i.ends.persisted.valid i.ends.persisted_valid core.senders.unfrozen here true z
-        (row AA (expected_number d.expected) NoTransaction d.expected) (zero_row a d.expected 0 refl)
+        (row AA (expected_number d.expected) None d.expected) (zero_row a d.expected 0 refl)
         (expected_answerable d.expected i.ends.persisted.valid) p ev e refl)
         (f ∙ core.senders.first) (u ∙ core.senders.unfrozen) (r ∙ z) c m x i.ends.persisted.valid
 
@@ -141,24 +137,24 @@ module _ (l : Link) (rd : Ready l) (a : Application) (y : System) where
     later z (unknown b c x) =
         let n = core.numbers in
         let g = core.senders.first in
-        queried z q NoEvent (ap (λ (m : Expected). answer_query q AA (expected_number m)) x ∙ ap (λ (t : Bool). cond t (proceeds q NoEvent) (freezes q))
+        queried z q NoEvent (ap (λ (m : Option ℕ). answer_query q AA (expected_number m)) x ∙ ap (λ (t : Bool). cond t (proceeds q NoEvent) (freezes q))
         (eq-eqb y.sending.persisted.delivered (y.sending.persisted.first - 1) (omega arith)))
         refl refl refl (omega arith) refl (inl x)
     later z (next b c x) = near (dec_le (l.first + count) (q.delivered + 1))
       where
-        answers : answer_of (sender_at q Querying 1) (Known AA) (Present (expected_number d.expected)) ≡ answer_query q AA (Number (l.first + count))
-        answers = ap (λ (m : Expected). answer_query q AA (expected_number m)) x
+        answers : answer_of (sender_at q Querying 1) (Some AA) (Ok (expected_number d.expected)) ≡ answer_query q AA (Number (l.first + count))
+        answers = ap (λ (m : Option ℕ). answer_query q AA (expected_number m)) x
 
         near : Dec (l.first + count ≤ q.delivered + 1) → Delivering total count
         near (yes w) =
             let n = core.numbers in
             let same : l.first + count ≡ q.delivered + 1 = omega arith in
-            queried z q NoEvent (answers ∙ query_same q (l.first + count) same) refl refl refl (omega arith) refl (inr (x ∙ ap Next same))
+            queried z q NoEvent (answers ∙ query_same q (l.first + count) same) refl refl refl (omega arith) refl (inr (x ∙ ap Some same))
         near (no w) =
             let n = core.numbers in
             let same : l.first + count ≡ q.delivered + 1 + 1 = omega arith in
             queried z (delivered_of q) (DeliveredUnknown (q.delivered + 1)) (answers ∙ query_moved q (l.first + count) (omega arith) (omega arith)) refl refl refl (omega arith) refl
-            (inr (x ∙ ap Next same))
+            (inr (x ∙ ap Some same))
 
     resumed : Delivering total count
     resumed = go (either q.resynchronized)
@@ -177,7 +173,7 @@ pub record Delivers (l : Link) (y : System) (total : ℕ) : Type 0 where
   pub has : end.receiving.persisted.has ≡ transactions l total
   pub delivered : end.sending.persisted.delivered + 1 ≡ l.first + total
 
-module _ (l : Link) (rd : Ready l) (a : Application) (e : Expected) (v : valid_expected e ≡ true) where
+module _ (l : Link) (rd : Ready l) (a : Application) (e : Option ℕ) (v : valid_expected e ≡ true) where
   -- "whatever is lost, damaged or cut off", and whatever answers an earlier tenancy left
   pub resumes : (m : Remains) → OnlyAnswers m → (ds : List SystemAct)
       → Delivers l (run_of every l (beginning every l e m) ds) ((run_of every l (beginning every l e m) ds).sending.persisted.last + 1 - l.first)

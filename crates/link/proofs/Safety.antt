@@ -1,4 +1,5 @@
 -- Demand 3: at every moment of every run, where the hosts keep their duties.
+use Rattle.std.specs.Prelude.{Option, None, ℕ}
 use mathlib.Core.Path.{◌≡◌, refl, sym, ap, ◌∙◌, subst}
 use mathlib.Core.List.{List, [], ◌∷◌, ◌++◌}
 use mathlib.Core.Bool.{Bool, true, cond}
@@ -6,8 +7,6 @@ use mathlib.Core.Logic.{◌⊎◌, inl, inr}
 use native.Mathlib.Omega.{arith}
 use borrow.Author.Tests.{eq-eqb}
 use Rattle.receiver.specs.Receiver.{valid_expected}
-use Rattle.receiver.specs.declared.Expected.{Expected}
-use Rattle.receiver.specs.declared.Open.TheVariants.{NoDecision}
 use Rattle.sender.specs.Sender.{fresh_sender, open_of}
 use Rattle.link.specs.Duties.{Duty, every, one_at}
 use Rattle.link.specs.System.{Link, System, Remains, beginning, start_of, nothing_left, new_circuit, sender_acted, SystemAct, opens, ends, resets, timer, submits, sender_persists, sender_writes, sender_forgets, sender_reads, sender_acts, sender_discards, sender_restores}
@@ -62,7 +61,7 @@ module _ (l : Link) (rd : Ready l) where
   act_keeps (brings_late b) y i = i
   act_keeps (brings_late_request b) y i = i
 
-  pub run_keeps : (e : Expected) → valid_expected e ≡ true → (ds : List SystemAct) → Inv l (run_of every l (start_of l e) ds)
+  pub run_keeps : (e : Option ℕ) → valid_expected e ≡ true → (ds : List SystemAct) → Inv l (run_of every l (start_of l e) ds)
   unfolding run_of
   run_keeps e v [] = start l rd e v []
   run_keeps e v (a ∷ ds) = act_keeps a (run_of every l (start_of l e) ds) (run_keeps e v ds)
@@ -72,13 +71,13 @@ module _ (l : Link) (rd : Ready l) where
   either_keeps a y (inl i) = early_acts l rd y i a
   either_keeps a y (inr i) = inr (act_keeps a y i)
 
-  pub run_keeps_from : (m : Remains) → OnlyAnswers m → (e : Expected) → valid_expected e ≡ true → (ds : List SystemAct)
+  pub run_keeps_from : (m : Remains) → OnlyAnswers m → (e : Option ℕ) → valid_expected e ≡ true → (ds : List SystemAct)
       → Early l (run_of every l (beginning every l e m) ds) ⊎ Inv l (run_of every l (beginning every l e m) ds)
   unfolding run_of
   run_keeps_from m only e v [] = inl (early_start l rd m only e v)
   run_keeps_from m only e v (a ∷ ds) = either_keeps a (run_of every l (beginning every l e m) ds) (run_keeps_from m only e v ds)
 
-  pub run_stands : (m : Remains) → OnlyAnswers m → (e : Expected) → valid_expected e ≡ true → (ds : List SystemAct) → Standing l (run_of every l (beginning every l e m) ds)
+  pub run_stands : (m : Remains) → OnlyAnswers m → (e : Option ℕ) → valid_expected e ≡ true → (ds : List SystemAct) → Standing l (run_of every l (beginning every l e m) ds)
   run_stands m only e v ds = stands l (run_of every l (beginning every l e m) ds) (run_keeps_from m only e v ds)
 
   is_safe : (y : System) → Standing l y → Safe l y
@@ -96,10 +95,10 @@ module _ (l : Link) (rd : Ready l) where
 
   -- "at every moment the receiver has the first k transactions, each once, in order, and the sender's mark covers k or k less one. The sender never freezes."
   -- Whatever answers of an earlier tenancy are left
-  pub safety_from : (m : Remains) → OnlyAnswers m → (e : Expected) → valid_expected e ≡ true → (ds : List SystemAct) → Safe l (run_of every l (beginning every l e m) ds)
+  pub safety_from : (m : Remains) → OnlyAnswers m → (e : Option ℕ) → valid_expected e ≡ true → (ds : List SystemAct) → Safe l (run_of every l (beginning every l e m) ds)
   safety_from m only e v ds = is_safe (run_of every l (beginning every l e m) ds) (run_stands m only e v ds)
 
-  pub safety : (e : Expected) → valid_expected e ≡ true → (ds : List SystemAct) → Safe l (run_of every l (start_of l e) ds)
+  pub safety : (e : Option ℕ) → valid_expected e ≡ true → (ds : List SystemAct) → Safe l (run_of every l (start_of l e) ds)
   safety e v ds = safety_from nothing_left none_left_lem e v ds
 
   -- what a duty that is needed breaks, it breaks alone: with every duty kept, the statement holds of the same acts from the same beginning
@@ -108,9 +107,9 @@ module _ (l : Link) (rd : Ready l) where
 
   -- Where a circuit is opened before anything else, whatever is left of an earlier tenancy, requests too: it drops all of it
   abbrev message_only : Remains → Remains
-  message_only m = record { forward = []; back = []; pending = []; requests = []; answers = []; decision = NoDecision; message = m.message }
+  message_only m = record { forward = []; back = []; pending = []; requests = []; answers = []; decision = None; message = m.message }
 
-  opened-same : (e : Expected) (m : Remains) → after_act every l opens (beginning every l e m) ≡ after_act every l opens (beginning every l e (message_only m))
+  opened-same : (e : Option ℕ) (m : Remains) → after_act every l opens (beginning every l e m) ≡ after_act every l opens (beginning every l e (message_only m))
   opened-same e m =
       let a = open_of (fresh_sender l.first) in
       let k = message_only m in
@@ -118,7 +117,7 @@ module _ (l : Link) (rd : Ready l) where
       ap (λ (b : Bool). cond b (new_circuit every (beginning every l e m) a) (sender_acted (beginning every l e m) m.answers a)) done
       ∙ sym (ap (λ (b : Bool). cond b (new_circuit every (beginning every l e k) a) (sender_acted (beginning every l e k) [] a)) done)
 
-  pub safety_opened : (m : Remains) (e : Expected) → valid_expected e ≡ true → (ds : List SystemAct) → Safe l (run_of every l (after_act every l opens (beginning every l e m)) ds)
+  pub safety_opened : (m : Remains) (e : Option ℕ) → valid_expected e ≡ true → (ds : List SystemAct) → Safe l (run_of every l (after_act every l opens (beginning every l e m)) ds)
   unfolding run_of
   safety_opened m e v ds =
       let k = message_only m in

@@ -1,4 +1,5 @@
 -- The sends that an answer reports: at most one more than the resends, and as many as the history has.
+use Rattle.std.specs.Prelude.{Option, Some, None}
 use mathlib.Core.Path.{◌≡◌, refl, sym, ap, ◌∙◌}
 use mathlib.Core.List.{List, [], ◌∷◌}
 use mathlib.Core.Bool.{Bool, true, false, cond}
@@ -14,8 +15,6 @@ use Rattle.sender.specs.Sender.{valid_sender, fresh_sender, first_sends, waiting
 use Rattle.sender.specs.declared.Persisted.{Persisted}
 use Rattle.sender.specs.declared.Waiting.{Waiting}
 use Rattle.sender.specs.declared.Waiting.TheVariants.{Closed, Idle, Resynchronizing, Querying, Sending}
-use Rattle.sender.specs.declared.NumberedMessage.{NumberedMessage}
-use Rattle.sender.specs.declared.NumberedMessage.TheVariants.{Nothing, Numbered}
 use Rattle.sender.specs.declared.Sender.{Sender}
 use Rattle.sender.specs.declared.Event.{Event}
 use Rattle.sender.specs.declared.Acted.{Acted}
@@ -27,15 +26,15 @@ use Rattle.link.proofs.SenderSteps.{Step, StepOf, refuses, keeps, starts, resend
 use Rattle.link.proofs.SenderInvariant.{step_right, reachable_valid}
 
 -- ---- at most r + 1
-first_few : (m : NumberedMessage) → first_sends m ≤ 1
-first_few Nothing = omega arith
-first_few (Numbered v) = omega arith
+first_few : (m : Option SequenceNumber) → first_sends m ≤ 1
+first_few None = omega arith
+first_few (Some v) = omega arith
 
 pub record Few (r n k : ℕ) : Type 0 where
   pub after : n ≤ r + 1
   pub reported : k ≤ r + 1
 
-pub few_step : {q n : ℕ} {s t : Sender} {k : ℕ} {m : NumberedMessage} {e : Event} (r : ℕ) → q ≤ r → s.sends ≤ r + 1 → Step q s n t m k e → Few r t.sends k
+pub few_step : {q n : ℕ} {s t : Sender} {k : ℕ} {m : Option SequenceNumber} {e : Event} (r : ℕ) → q ≤ r → s.sends ≤ r + 1 → Step q s n t m k e → Few r t.sends k
 few_step r l b (refuses h) = record { after = b; reported = b }
 few_step r l b (keeps w g j u) = record { after = b; reported = b }
 few_step r l b (starts {p = p} {w = w} g j f) = let o = first_few (waiting_message p w) in record { after = omega arith; reported = omega arith }
@@ -56,7 +55,7 @@ module _ (f : ℕ) (least : 1 ≤ f) (most : f ≤ greatest_sent) (r : ℕ) wher
   few_sends xs h a l = (few_step r l (few_after xs h) (steps (after_of (fresh_sender f) xs) (reachable_valid f least most xs) a)).reported
 
 -- "while fewer than r + 1 sends were made of it, and otherwise gives up"
-pub up_step : {r n : ℕ} {s t : Sender} {k : ℕ} {m : NumberedMessage} {e : Event} → Step r s n t m k e → is_abandoned e ≡ true → r + 1 ≤ k
+pub up_step : {r n : ℕ} {s t : Sender} {k : ℕ} {m : Option SequenceNumber} {e : Event} → Step r s n t m k e → is_abandoned e ≡ true → r + 1 ≤ k
 up_step (refuses h) u = not_both cc
 up_step (keeps w g j v) u = not_both cc
 up_step (starts g j f) u = not_both cc
@@ -86,16 +85,16 @@ more_count : (b : Bool) (x y : ℕ) → x ≡ cond b y 0 → cond b (cond b 1 0 
 more_count false x y h = refl
 more_count true x y h = omega arith
 
-first_one : (k : NumberedMessage) (m : SequenceNumber) → is m k ≡ true → first_sends k ≡ 1
-first_one Nothing m e = not_both cc
-first_one (Numbered v) m e = refl
+first_one : (k : Option SequenceNumber) (m : SequenceNumber) → is m k ≡ true → first_sends k ≡ 1
+first_one None m e = not_both cc
+first_one (Some v) m e = refl
 
-pub counts_step : {r n : ℕ} {s t : Sender} {k : ℕ} {c : NumberedMessage} {e : Event} (h : List Entry) → Counts s h → Step r s n t c k e → (m : SequenceNumber)
+pub counts_step : {r n : ℕ} {s t : Sender} {k : ℕ} {c : Option SequenceNumber} {e : Event} (h : List Entry) → Counts s h → Step r s n t c k e → (m : SequenceNumber)
     → cond (is m (waits_of t)) (cond (is m c) 1 0 + counted m h) 0 ≡ cond (is m (waits_of t)) t.sends 0
 counts_step {s = s} h i (refuses l) m = same_count (is m (waits_of s)) (is m (waits_of s)) (counted m h) s.sends refl (i m)
 counts_step {s = s} h i (keeps {p = p} {w = w} e g j u) m =
     same_count (is m (waiting_message p w)) (is m (waits_of s)) (counted m h) s.sends
-    (ap (λ (z : NumberedMessage). is m z) u ∙ sym (ap (λ (z : Waiting). is m (waiting_message s.persisted z)) e)) (i m)
+    (ap (λ (z : Option SequenceNumber). is m z) u ∙ sym (ap (λ (z : Waiting). is m (waiting_message s.persisted z)) e)) (i m)
 counts_step {s = s} h i (starts {p = p} {w = w} g j f) m =
     first_count (is m (waiting_message p w)) (is m (waits_of s)) (counted m h) s.sends (first_sends (waiting_message p w)) (f m)
     (first_one (waiting_message p w) m) (i m)
@@ -109,7 +108,7 @@ data Reported (n m k : ℕ) (e : Event) : Type 0 where
   reported_after : is_abandoned e ≡ false → k ≡ m → Reported n m k e
   reported_before : is_abandoned e ≡ true → k ≡ n → Reported n m k e
 
-reports : {r n : ℕ} {s t : Sender} {k : ℕ} {c : NumberedMessage} {e : Event} → Step r s n t c k e → Reported s.sends t.sends k e
+reports : {r n : ℕ} {s t : Sender} {k : ℕ} {c : Option SequenceNumber} {e : Event} → Step r s n t c k e → Reported s.sends t.sends k e
 reports (refuses l) = reported_after refl refl
 reports (keeps w g j u) = reported_after g refl
 reports (starts g j f) = reported_after g refl

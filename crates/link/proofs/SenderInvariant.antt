@@ -1,4 +1,5 @@
 -- Every act leaves a valid state valid, so every state that a run reaches is valid.
+use Rattle.std.specs.Prelude.{Option, Some, None}
 use mathlib.Core.Path.{◌≡◌, refl, sym, ap, ◌∙◌}
 use mathlib.Core.List.{List, [], ◌∷◌}
 use mathlib.Core.Bool.{true, false}
@@ -11,16 +12,14 @@ use Rattle.numbers.specs.Numbers.{greatest_sent}
 use Rattle.sender.specs.Sender.{valid_first, valid_resends, valid_settings, valid_sender, fresh_sender, sender_of}
 use Rattle.sender.specs.declared.SenderSettings.{SenderSettings}
 use Rattle.sender.specs.declared.Sender.{Sender}
-use Rattle.sender.specs.declared.SenderMade.{SenderMade}
-use Rattle.sender.specs.declared.SenderMade.TheVariants.{Refused, Made}
-use Rattle.sender.specs.declared.NumberedMessage.{NumberedMessage}
+use Rattle.numbers.specs.declared.SequenceNumber.{SequenceNumber}
 use Rattle.sender.specs.declared.Event.{Event}
 use Rattle.link.specs.SenderActs.{Act, act_of, after_crash, ActOrCrash, act, crash, step_of, after_of}
 use Rattle.link.proofs.Facts.{not_both}
 use Rattle.link.proofs.SenderValid.{numbers_of_lem, Right, right_from, right_valid}
 use Rattle.link.proofs.SenderSteps.{Step, refuses, keeps, starts, resends, abandons, shuts, steps}
 
-pub step_right : {r n : ℕ} {s t : Sender} {k : ℕ} {m : NumberedMessage} {e : Event} → Right s.persisted s.waiting s.sends → Step r s n t m k e
+pub step_right : {r n : ℕ} {s t : Sender} {k : ℕ} {m : Option SequenceNumber} {e : Event} → Right s.persisted s.waiting s.sends → Step r s n t m k e
     → Right t.persisted t.waiting t.sends
 step_right i (refuses l) = i
 step_right i (keeps w g j u) = j
@@ -44,17 +43,17 @@ fresh-valid f l m =
       waits = refl;
     })
 
-pub made_valid : (g : SenderSettings) (s : Sender) → sender_of g ≡ Made s → valid_sender s ≡ true
+pub made_valid : (g : SenderSettings) (s : Sender) → sender_of g ≡ Some s → valid_sender s ≡ true
 unfolding sender_of
 made_valid g s h =
     let f = g.first in
-    cond_ind (λ (x : SenderMade). x ≡ Made s → valid_sender s ≡ true) (valid_settings g) _ _
-    (λ (b : valid_settings g ≡ true) (e : Made (fresh_sender f) ≡ Made s).
+    cond_ind (λ (x : Option Sender). x ≡ Some s → valid_sender s ≡ true) (valid_settings g) _ _
+    (λ (b : valid_settings g ≡ true) (e : Some (fresh_sender f) ≡ Some s).
     let k : fresh_sender f ≡ s = cc in
     let c = and_left (valid_first f) (valid_resends g.resends) b in
     ap (λ (x : Sender). valid_sender x) (sym k)
     ∙ fresh-valid f (leb-true 1 f (and_left (leb 1 f) (leb f greatest_sent) c)) (leb-true f greatest_sent (and_right (leb 1 f) (leb f greatest_sent) c)))
-    (λ (b : valid_settings g ≡ false) (e : Refused ≡ Made s). not_both cc)
+    (λ (b : valid_settings g ≡ false) (e : None ≡ Some s). not_both cc)
     h
 
 -- runs

@@ -1,4 +1,5 @@
 -- "A refused act leaves the state equal": in any words, also in those that are no state.
+use Rattle.std.specs.Prelude.{Option}
 use mathlib.Core.Path.{◌≡◌, refl, sym, ◌∙◌}
 use mathlib.Core.Bool.{Bool, true, false, cond}
 use Prim.Native.Nat.{ℕ, ◌≤◌}
@@ -9,14 +10,14 @@ use Rattle.lists.proofs.Tests.{and_left, cond_ind}
 use Rattle.settings.specs.Settings.{valid_link_limit}
 use Rattle.sender.specs.Sender.{valid_sender, no_state, is_open, on_circuit, open_of, ended_of, reset_of, valid_resends, when_open, timer_of, block_read_of, submit_of}
 use Rattle.sender.specs.declared.Sender.{Sender}
-use Rattle.sender.specs.declared.NumberedMessage.{NumberedMessage}
+use Rattle.numbers.specs.declared.SequenceNumber.{SequenceNumber}
 use Rattle.sender.specs.declared.Event.{Event}
 use Rattle.sender.specs.declared.Acted.{Acted}
 use Rattle.link.specs.SenderActs.{Act, opened, ended, reset, timer, block, submit, act_of}
 use Rattle.link.proofs.Facts.{not_both}
 use Rattle.link.proofs.SenderSteps.{Step, refuses, keeps, starts, resends, abandons, shuts, steps}
 
-step_same : {r n : ℕ} {s t : Sender} {k : ℕ} {m : NumberedMessage} {e : Event} → Step r s n t m k e → 1 ≤ n → t ≡ s
+step_same : {r n : ℕ} {s t : Sender} {k : ℕ} {m : Option SequenceNumber} {e : Event} → Step r s n t m k e → 1 ≤ n → t ≡ s
 step_same (refuses h) l = refl
 step_same (keeps w g j u) l = absurd (omega arith)
 step_same (starts g j f) l = absurd (omega arith)

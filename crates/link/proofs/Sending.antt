@@ -1,4 +1,5 @@
 -- The sender's acts keep the invariant, as far as requests and replies go. It never freezes.
+use Rattle.std.specs.Prelude.{Option, Some, None, Ok}
 use mathlib.Core.Path.{◌≡◌, refl, sym, ap, ◌∙◌, subst}
 use mathlib.Core.List.{List, ◌∷◌}
 use mathlib.Core.Bool.{Bool, true, false, cond, not, ◌&&◌}
@@ -18,15 +19,11 @@ use Rattle.fields.specs.Fields.{bytes_of}
 use Rattle.numbers.specs.Numbers.{number_field, greatest_sent, text_of}
 use Rattle.numbers.specs.declared.SequenceNumber.{SequenceNumber}
 use Rattle.numbers.specs.declared.SequenceNumber.TheVariants.{MinusOne, Number}
-use Rattle.numbers.specs.declared.NumberField.TheVariants.{Present}
 use Rattle.header.specs.Header.{header_of}
 use Rattle.header.specs.declared.Header.{Header}
-use Rattle.header.specs.declared.Header.TheVariants.{Unreadable, Readable}
 use Rattle.header.specs.declared.Code.{Code}
 use Rattle.header.specs.declared.Code.TheVariants.{AA, AE, AR}
-use Rattle.header.specs.declared.CodeField.TheVariants.{Known}
 use Rattle.receiver.specs.Receiver.{expected_number}
-use Rattle.receiver.specs.declared.Expected.{Expected}
 use Rattle.sender.specs.Sender.{valid_sender, acted, waiting_message, begins_to_wait, on_circuit, resend_of, proceeds, freezes, resynchronized_of, delivered_of}
 use Rattle.sender.specs.Sender.{answer_resynchronizing, answer_query, answer_transaction, answer_of, answered_by}
 use Rattle.sender.specs.Sender.{is_number, taken_in, submitted_header, submit_of, ended_of, reset_of}
@@ -34,7 +31,6 @@ use Rattle.sender.specs.declared.Persisted.{Persisted}
 use Rattle.sender.specs.declared.Waiting.{Waiting}
 use Rattle.sender.specs.declared.Waiting.TheVariants.{Closed, Idle, Resynchronizing, Querying, Sending}
 use Rattle.sender.specs.declared.Sender.{Sender}
-use Rattle.sender.specs.declared.NumberedMessage.TheVariants.{Nothing, Numbered}
 use Rattle.sender.specs.declared.Event.{Event}
 use Rattle.sender.specs.declared.Event.TheVariants.{NoEvent, DeliveredUnknown, Dropped}
 use Rattle.sender.specs.declared.Acted.{Acted}
@@ -71,8 +67,8 @@ module _ (f : ℕ) (b : Books) where
 
   -- ---- something falls due
   module _ (r : ℕ) (p : Persisted) where
-    again : (w : Waiting) (n : ℕ) (v : SequenceNumber) → After (acted (sender_at p w (n + 1)) (Numbered v) NoEvent) → Now p w
-        → After (resend_of r (sender_at p w n) (Numbered v))
+    again : (w : Waiting) (n : ℕ) (v : SequenceNumber) → After (acted (sender_at p w (n + 1)) (Some v) NoEvent) → Now p w
+        → After (resend_of r (sender_at p w n) (Some v))
     again w n v a c = cond_ind After (ltb n (r + 1)) _ _ (λ z. a) (λ z. close_circuit c)
 
     pub due : (w : Waiting) (n : ℕ) → WaitsRight p w n → Now p w → After (resend_of r (sender_at p w n) (waiting_message p w))
@@ -161,22 +157,22 @@ module _ (f : ℕ) (b : Books) where
     given : {w : Waiting} (x : SequenceNumber) → v ≡ x → Before w → Given b.stored (replies x d m)
     given x y c = subst (λ (z : SequenceNumber). Given b.stored (replies z d m)) y (all_head c.back)
 
-    or-dropped : (w : Waiting) (x : SequenceNumber) → Before w → (v ≡ x → After (answer_of (sender_at p w n) (Known d) (Present m)))
-        → After (cond (same (text_of v) (text_of x)) (answer_of (sender_at p w n) (Known d) (Present m)) (acted (sender_at p w n) Nothing Dropped))
+    or-dropped : (w : Waiting) (x : SequenceNumber) → Before w → (v ≡ x → After (answer_of (sender_at p w n) (Some d) (Ok m)))
+        → After (cond (same (text_of v) (text_of x)) (answer_of (sender_at p w n) (Some d) (Ok m)) (acted (sender_at p w n) None Dropped))
     or-dropped w x c g =
         cond_ind After (same (text_of v) (text_of x)) _ _ (λ y. g (text_is v x (same-is (text_of v) (text_of x) y))) (λ y. quiet (rid c))
 
-    pub answered : (w : Waiting) → Before w → After (answered_by (sender_at p w n) (text_of v) (Known d) (Present m) (waiting_message p w))
+    pub answered : (w : Waiting) → Before w → After (answered_by (sender_at p w n) (text_of v) (Some d) (Ok m) (waiting_message p w))
     answered Closed c = quiet (rid c)
     answered Idle c = quiet (rid c)
     answered Resynchronizing c = or-dropped Resynchronizing MinusOne c (λ y. first_answered p d m (rid c) (given MinusOne y c))
     answered Querying c = or-dropped Querying (Number 0) c (λ y. zero (given (Number 0) y c) (named b.volatile.expected y c.waits.names) (named b.stored.expected y c.waits.names_stored))
       where
-        named : (e : Expected) {l : List Answer} → v ≡ Number 0 → All (NamesExpected e) (replies v d m ∷ l) → m ≡ expected_number e
+        named : (e : Option ℕ) {l : List Answer} → v ≡ Number 0 → All (NamesExpected e) (replies v d m ∷ l) → m ≡ expected_number e
         named e y a = subst (λ (z : SequenceNumber). NamesExpected e (replies z d m)) y (all_head a) refl
 
         zero : ToNumber b.stored.next 0 d m → m ≡ expected_number b.volatile.expected → m ≡ expected_number b.stored.expected
-            → After (answer_of (sender_at p Querying n) (Known d) (Present m))
+            → After (answer_of (sender_at p Querying n) (Some d) (Ok m))
         zero (to_zero a x) r t = subst (λ (z : Code). After (answer_query p z m)) (sym x) (query_answered p m (rid c) r t)
         zero (to_stored a x z l) r t = absurd (omega arith)
         zero (to_repeat a x z l) r t = absurd (omega arith)
@@ -208,14 +204,14 @@ module _ (f : ℕ) (b : Books) where
     submitted_in Querying n t a l = quiet (submit a l)
     submitted_in Sending n t a l = quiet (submit a l)
 
-    header : valid_sender s ≡ true → (message : List ℕ) (x : Header) → After (submitted_header s message x)
-    header v message Unreadable = quiet c
-    header v message (Readable id number) =
+    header : valid_sender s ≡ true → (message : List ℕ) (x : Option Header) → After (submitted_header s message x)
+    header v message None = quiet c
+    header v message (Some h) =
         let next = s.persisted.last + 1 in
-        let is = is_number next (number_field greatest_sent (bytes_of number message)) in
-        let named = same (bytes_of id message) (text_of (Number next)) in
+        let is = is_number next (number_field greatest_sent (bytes_of h.sequence message)) in
+        let named = same (bytes_of h.control_id message) (text_of (Number next)) in
         cond_ind After (is && named) _ _
-        (λ y. submitted_in s.waiting s.sends (right v) c (number_sent next (bytes_of number message) (and_left is named y))) (λ y. quiet c)
+        (λ y. submitted_in s.waiting s.sends (right v) c (number_sent next (bytes_of h.sequence message) (and_left is named y))) (λ y. quiet c)
 
     pub submits : (limit : ℕ) (message : List ℕ) → After (submit_of limit s message)
     unfolding submit_of

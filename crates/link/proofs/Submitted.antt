@@ -1,4 +1,5 @@
 -- What the sender takes is a message of a log: "Submitting takes the next number only (MSH-13), with MSH-10 its plain decimal", and it fits a block.
+use Rattle.std.specs.Prelude.{Result, Ok, Err}
 use mathlib.Core.Path.{◌≡◌, refl, sym, ap, ◌∙◌}
 use mathlib.Core.Bool.{Bool, true, false, cond, not, ◌&&◌}
 use mathlib.Core.List.{List}
@@ -16,8 +17,8 @@ use Rattle.settings.specs.DataBytes.{all_allowed, first_forbidden}
 use Rattle.fields.specs.Fields.{bytes_of}
 use Rattle.numbers.specs.Numbers.{number_field, greatest_sent, text_of}
 use Rattle.numbers.specs.declared.SequenceNumber.TheVariants.{MinusOne, Number}
-use Rattle.numbers.specs.declared.NumberField.{NumberField}
-use Rattle.numbers.specs.declared.NumberField.TheVariants.{Missing, NotNumber, Present}
+use Rattle.numbers.specs.declared.SequenceNumber.{SequenceNumber}
+use Rattle.numbers.specs.declared.NumberError.{NumberError}
 use Rattle.header.specs.Header.{control_id_field, sequence_field, readable_header, header_of}
 use Rattle.sender.specs.Sender.{valid_sender, refused, is_number, taken_in, submitted_header, submit_of}
 use Rattle.sender.specs.declared.Waiting.{Waiting}
@@ -28,11 +29,10 @@ use Rattle.message_theorems.proofs.Control.{control_header}
 use Rattle.link.specs.Promise.{Logged}
 use Rattle.link.proofs.Facts.{not_both}
 
-number_is : (n : ℕ) (f : NumberField) → is_number n f ≡ true → f ≡ Present (Number n)
-number_is n (Present (Number k)) e = ap (λ (i : ℕ). Present (Number i)) (eqb-true k n e)
-number_is n (Present MinusOne) e = not_both (sym e)
-number_is n Missing e = not_both (sym e)
-number_is n NotNumber e = not_both (sym e)
+number_is : (n : ℕ) (f : Result SequenceNumber NumberError) → is_number n f ≡ true → f ≡ Ok (Number n)
+number_is n (Ok (Number k)) e = ap (λ (i : ℕ). Ok (Number i)) (eqb-true k n e)
+number_is n (Ok MinusOne) e = not_both (sym e)
+number_is n (Err why) e = not_both (sym e)
 
 module _ (g : Settings) (s : Sender) (d : List ℕ) where
   abbrev next : ℕ

@@ -1,9 +1,9 @@
 -- Demand 3, "circuits that keep order but may lose blocks or damage them so that the block rules refuse them": a line carries bytes, and a reader takes them one by one.
-use Rattle.std.specs.Prelude.{List, [], ◌∷◌, ◌++◌, Bool, true, false, cond, ◌&&◌, ℕ, ◌+◌, eqb}
+use Rattle.std.specs.Prelude.{List, [], ◌∷◌, ◌++◌, Bool, true, false, cond, ◌&&◌, ℕ, ◌+◌, eqb, Result, Ok, Err}
 use Rattle.lists.specs.Bytes.{same}
 use Rattle.settings.specs.declared.Settings.{Settings}
-use Rattle.refusal.specs.declared.Verdict.{Verdict}
-use Rattle.refusal.specs.declared.Verdict.TheVariants.{Accepted, Refused}
+use Rattle.refusal.specs.declared.Accepted.{Accepted}
+use Rattle.refusal.specs.declared.Refusal.{Refusal}
 use Rattle.stream.specs.Stream.{Judged, Mode, between, Moved, move, run}
 
 -- a reader: where it stands in the stream, and the offset of the next byte
@@ -41,9 +41,9 @@ pub record Arrival : Type 0 where
 abbrev pub arrival : ℕ → List ℕ → Arrival
 arrival t d = record { type = t; content = d }
 
-abbrev pub accepts : Verdict → List ℕ → List Arrival
-accepts (Accepted t n) d = arrival t d ∷ []
-accepts (Refused n i) d = []
+abbrev pub accepts : Result Accepted Refusal → List ℕ → List Arrival
+accepts (Ok v) d = arrival v.block_type d ∷ []
+accepts (Err v) d = []
 
 unfoldable pub accepted_of : List Judged → List Arrival
 accepted_of [] = []

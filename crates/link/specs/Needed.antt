@@ -1,7 +1,6 @@
 -- Demand 3: that a duty of the hosts is needed.
-use Rattle.std.specs.Prelude.{◌≡◌, List, Bool, true, not, ℕ, eqb}
+use Rattle.std.specs.Prelude.{◌≡◌, List, Bool, true, not, ℕ, eqb, Option}
 use Rattle.receiver.specs.Receiver.{valid_expected}
-use Rattle.receiver.specs.declared.Expected.{Expected}
 use Rattle.link.specs.Duties.{Duty, exchanges, empties_lines, drops_replies, drops_verdicts, brings_nothing_late, writes_in_order, offers_in_order, sender_persists_first, persists_as_one}
 use Rattle.link.specs.Duties.{reports_persisted, reports_failed, settles_writes, drops_named, drops_reports, drops_decision, survives}
 use Rattle.link.specs.System.{Link, Remains, SystemAct, beginning, run_of}
@@ -31,7 +30,7 @@ every_but x d = not (eqb (index_of x) (index_of d))
 -- A duty is needed: where every other is kept, a run from a tenancy's beginning leads to a state of which the statement is false.
 -- It is the duty that makes the difference: from the same beginning, with every duty kept, the statement holds of the same acts (`kept`).
 pub record Needed (l : Link) (d : Duty) : Type 0 where
-  pub expected : Expected
+  pub expected : Option ℕ
   pub valid : valid_expected expected ≡ true
   pub remains : Remains
   pub only_answers : OnlyAnswers remains

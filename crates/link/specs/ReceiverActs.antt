@@ -1,12 +1,9 @@
 -- Document 01, 'Receiver of sequence numbers', and 02, §1: the receiver's acts as values, and its state after a run of acts and crashes.
-use Rattle.std.specs.Prelude.{List, [], ◌∷◌, Bool, true, false, ℕ}
+use Rattle.std.specs.Prelude.{List, [], ◌∷◌, Bool, true, false, ℕ, Option, Some, None}
 use Rattle.settings.specs.declared.Settings.{Settings}
 use Rattle.receiver.specs.Receiver.{closed, decide_of, answer_of, nak_of}
 use Rattle.receiver.specs.declared.Application.{Application}
-use Rattle.receiver.specs.declared.Expected.{Expected}
-use Rattle.receiver.specs.declared.Expected.TheVariants.{Unknown}
-use Rattle.receiver.specs.declared.Open.{Open}
-use Rattle.receiver.specs.declared.Open.TheVariants.{NoDecision, Decision}
+use Rattle.receiver.specs.declared.Decision.{Decision}
 use Rattle.receiver.specs.declared.Receiver.{Receiver}
 
 -- an act, with all that it is given
@@ -27,10 +24,10 @@ receiver_act_of (reports g stored start b) s = (answer_of g stored s start b).an
 receiver_act_of (naks g n start b) s = (nak_of g n s start b).answer.receiver
 
 -- "A cut drops an open decision; what was stored stands": the open decision was stored, or was not
-abbrev pub stored_in : Bool → Expected → Open → Expected
-stored_in stored e NoDecision = e
-stored_in true e (Decision id r) = r.persisted.expected
-stored_in false e (Decision id r) = e
+abbrev pub stored_in : Bool → Option ℕ → Option Decision → Option ℕ
+stored_in stored e None = e
+stored_in true e (Some o) = o.row.persisted.expected
+stored_in false e (Some o) = e
 
 pub data ReceiverStep : Type 0 where
   acts : ReceiverAct → ReceiverStep
@@ -42,5 +39,5 @@ receiver_step_of (crashes stored) s = closed (stored_in stored s.expected s.deci
 
 -- the state after a run from a new receiver, the newest step first
 unfoldable pub receiver_after : List ReceiverStep → Receiver
-receiver_after [] = closed Unknown
+receiver_after [] = closed None
 receiver_after (x ∷ xs) = receiver_step_of x (receiver_after xs)

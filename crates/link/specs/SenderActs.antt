@@ -1,11 +1,10 @@
 -- Document 01, 'Sender': the acts as values, and the state after a run of acts and crashes.
-use Rattle.std.specs.Prelude.{List, [], ◌∷◌, Bool, true, false, cond, ◌&&◌, ℕ, leb, eqb}
+use Rattle.std.specs.Prelude.{List, [], ◌∷◌, Bool, true, false, cond, ◌&&◌, ℕ, leb, eqb, Option, Some, None, Result, Ok, Err}
 use Prim.Native.Char.{code}
-use Rattle.refusal.specs.declared.Verdict.{Verdict}
-use Rattle.refusal.specs.declared.Verdict.TheVariants.{Accepted, Refused}
+use Rattle.refusal.specs.declared.Accepted.{Accepted}
+use Rattle.refusal.specs.declared.Refusal.{Refusal}
 use Rattle.header.specs.Header.{acknowledgment_of}
 use Rattle.header.specs.declared.Acknowledgment.{Acknowledgment}
-use Rattle.header.specs.declared.Acknowledgment.TheVariants.{Unreadable as NoAnswer, Readable as AnAnswer}
 use Rattle.sender.specs.Sender.{closed, open_of, ended_of, reset_of, timer_of, block_read_of, submit_of}
 use Rattle.sender.specs.declared.Persisted.{Persisted}
 use Rattle.sender.specs.declared.Waiting.{Waiting}
@@ -16,7 +15,7 @@ use Rattle.sender.specs.declared.Acted.{Acted}
 pub data Act : Type 0 where
   opened ended reset : Act
   timer : ℕ → Act
-  block : ℕ → Verdict → List ℕ → Act
+  block : ℕ → Result Accepted Refusal → List ℕ → Act
   submit : ℕ → List ℕ → Act
 
 abbrev pub act_of : Act → Sender → Acted
@@ -28,13 +27,13 @@ act_of (block r v d) s = block_read_of r s v d
 act_of (submit limit d) s = submit_of limit s d
 
 -- "A timer event, an N block or a refused block": with these a resend falls due. Data without a readable answer is refused too (9).
-abbrev pub unreadable : Acknowledgment → Bool
-unreadable NoAnswer = true
-unreadable (AnAnswer c i e) = false
+abbrev pub unreadable : Option Acknowledgment → Bool
+unreadable None = true
+unreadable (Some a) = false
 
-abbrev pub due_block : Verdict → List ℕ → Bool
-due_block (Accepted t n) d = cond (eqb t (code "N")) true (unreadable (acknowledgment_of d))
-due_block (Refused n i) d = true
+abbrev pub due_block : Result Accepted Refusal → List ℕ → Bool
+due_block (Ok v) d = cond (eqb v.block_type (code "N")) true (unreadable (acknowledgment_of d))
+due_block (Err v) d = true
 
 abbrev pub falls_due : Act → Bool
 falls_due opened = false

@@ -1,11 +1,9 @@
 -- Document 01, 'Sender': "The sends made of the waiting message are a number in each answer, equal to the sends in the history since it began to wait on this circuit."
-use Rattle.std.specs.Prelude.{List, [], ◌∷◌, Bool, true, false, cond, ℕ, ◌+◌, eqb}
+use Rattle.std.specs.Prelude.{List, [], ◌∷◌, Bool, true, false, cond, ℕ, ◌+◌, eqb, Option, Some, None}
 use Rattle.numbers.specs.declared.SequenceNumber.{SequenceNumber}
 use Rattle.numbers.specs.declared.SequenceNumber.TheVariants.{MinusOne, Number}
 use Rattle.sender.specs.Sender.{waits_of}
 use Rattle.sender.specs.declared.Sender.{Sender}
-use Rattle.sender.specs.declared.NumberedMessage.{NumberedMessage}
-use Rattle.sender.specs.declared.NumberedMessage.TheVariants.{Nothing, Numbered}
 use Rattle.sender.specs.declared.Event.{Event}
 use Rattle.sender.specs.declared.Event.TheVariants.{NoEvent, Delivered, DeliveredUnknown, Abandoned, Froze, Dropped}
 use Rattle.sender.specs.declared.Acted.{Acted}
@@ -25,12 +23,12 @@ abbrev pub history_of : Sender → List ActOrCrash → List Entry
 history_of s [] = []
 history_of s (x ∷ xs) = entry_of x (after_of s xs) ∷ history_of s xs
 
-abbrev pub is : SequenceNumber → NumberedMessage → Bool
-is m Nothing = false
-is MinusOne (Numbered MinusOne) = true
-is MinusOne (Numbered (Number k)) = false
-is (Number n) (Numbered MinusOne) = false
-is (Number n) (Numbered (Number k)) = eqb n k
+abbrev pub is : SequenceNumber → Option SequenceNumber → Bool
+is m None = false
+is MinusOne (Some MinusOne) = true
+is MinusOne (Some (Number k)) = false
+is (Number n) (Some MinusOne) = false
+is (Number n) (Some (Number k)) = eqb n k
 
 -- "the sends in the history since it began to wait on this circuit": those of m among the newest answers, as far back as m waited after each.
 -- When a circuit ended, and after a crash, nothing waited.
@@ -39,9 +37,9 @@ counted m [] = 0
 counted m (crashed ∷ h) = 0
 counted m (reported b ∷ h) = cond (is m (waits_of b.sender)) (cond (is m b.send) 1 0 + counted m h) 0
 
-abbrev pub counted_of : NumberedMessage → List Entry → ℕ
-counted_of Nothing h = 0
-counted_of (Numbered m) h = counted m h
+abbrev pub counted_of : Option SequenceNumber → List Entry → ℕ
+counted_of None h = 0
+counted_of (Some m) h = counted m h
 
 abbrev pub is_abandoned : Event → Bool
 is_abandoned NoEvent = false

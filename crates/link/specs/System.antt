@@ -1,11 +1,11 @@
 -- Demand 3: one tenancy of a link. Two ends, each with what it has persisted and what a crash loses, a line in each direction, and hosts that persist what changed: the sender's before
 -- the next block goes out, the receiver's before a decision is reported stored (02, §1).
-use Rattle.std.specs.Prelude.{List, [], ◌∷◌, ◌++◌, Bool, true, false, cond, not, ◌&&◌, ◌||◌, ℕ, take, drop, eqb}
+use Rattle.std.specs.Prelude.{List, [], ◌∷◌, ◌++◌, Bool, true, false, cond, not, ◌&&◌, ◌||◌, ℕ, take, drop, eqb, Option, Some, None, Result, Ok, Err}
 use Prim.Native.Char.{code}
 use Rattle.lists.specs.Outcome.{Outcome}
 use Rattle.settings.specs.declared.Settings.{Settings}
-use Rattle.refusal.specs.declared.Verdict.{Verdict}
-use Rattle.refusal.specs.declared.Verdict.TheVariants.{Accepted, Refused}
+use Rattle.refusal.specs.declared.Accepted.{Accepted}
+use Rattle.refusal.specs.declared.Refusal.{Refusal}
 use Rattle.block.specs.Format.{block_of}
 use Rattle.numbers.specs.declared.SequenceNumber.{SequenceNumber}
 use Rattle.numbers.specs.declared.SequenceNumber.TheVariants.{MinusOne, Number}
@@ -17,17 +17,11 @@ use Rattle.receiver.specs.Receiver.{closed, is_closed, decide_of, answer_of, nak
 use Rattle.receiver.specs.declared.Application.{Application}
 use Rattle.receiver.specs.declared.Decided.{Decided}
 use Rattle.receiver.specs.declared.Answered.{Answered}
-use Rattle.receiver.specs.declared.Expected.{Expected}
-use Rattle.receiver.specs.declared.Transaction.{Transaction}
-use Rattle.receiver.specs.declared.Transaction.TheVariants.{NoTransaction, Numbered as Transacted}
-use Rattle.receiver.specs.declared.Open.{Open}
-use Rattle.receiver.specs.declared.Open.TheVariants.{NoDecision, Decision}
+use Rattle.receiver.specs.declared.Decision.{Decision}
 use Rattle.receiver.specs.declared.Receiver.{Receiver}
 use Rattle.sender.specs.Sender.{fresh_sender, open_of, ended_of, reset_of, timer_of, block_read_of, submit_of, is_open}
 use Rattle.sender.specs.declared.Persisted.{Persisted}
 use Rattle.sender.specs.declared.Sender.{Sender}
-use Rattle.sender.specs.declared.NumberedMessage.{NumberedMessage}
-use Rattle.sender.specs.declared.NumberedMessage.TheVariants.{Nothing, Numbered}
 use Rattle.sender.specs.declared.Acted.{Acted}
 use Rattle.link.specs.SenderActs.{after_crash}
 use Rattle.link.specs.SenderHistory.{Entry, reported, crashed}
@@ -55,7 +49,7 @@ pub record SendingEnd : Type 0 where
 
 -- what the receiver's host stores: the expected number, and the transactions
 pub record Stored : Type 0 where
-  pub expected : Expected
+  pub expected : Option ℕ
   pub has : List (List ℕ)
 
 -- the receiver's end: its state, with the open decision or none; what is persisted; the message that was decided on; whether that decision is persisted, and so to be reported;
@@ -78,7 +72,7 @@ pub record System : Type 0 where
 abbrev pub sending : Sender → Persisted → List SequenceNumber → List Judged → List Entry → SendingEnd
 sending s p vs ws h = record { sender = s; persisted = p; named = vs; arrived = ws; history = h }
 
-abbrev pub stored : Expected → List (List ℕ) → Stored
+abbrev pub stored : Option ℕ → List (List ℕ) → Stored
 stored e ts = record { expected = e; has = ts }
 
 abbrev pub receiving : Receiver → Stored → List ℕ → Bool → List (List ℕ) → List Judged → ReceivingEnd
@@ -95,11 +89,11 @@ pub record Remains : Type 0 where
   pub pending : List (List ℕ)
   pub requests : List Judged
   pub answers : List Judged
-  pub decision : Open
+  pub decision : Option Decision
   pub message : List ℕ
 
 abbrev pub nothing_left : Remains
-nothing_left = record { forward = []; back = []; pending = []; requests = []; answers = []; decision = NoDecision; message = [] }
+nothing_left = record { forward = []; back = []; pending = []; requests = []; answers = []; decision = None; message = [] }
 
 -- a sender that takes the line for resynchronised, though no exchange was made on it
 abbrev pub presumes : Persisted → Persisted
@@ -109,17 +103,17 @@ abbrev pub first_persisted : Bool → ℕ → Persisted
 first_persisted b f = cond b (fresh_sender f).persisted (presumes (fresh_sender f).persisted)
 
 -- a tenancy begins: the receiver expects whatever an earlier tenant left, and no decision is open
-abbrev pub first_receiver : Bool → Expected → Remains → Receiver
+abbrev pub first_receiver : Bool → Option ℕ → Remains → Receiver
 first_receiver b e m = cond b (closed e) (record { expected = e; decision = m.decision })
 
-abbrev pub beginning : (Duty → Bool) → Link → Expected → Remains → System
+abbrev pub beginning : (Duty → Bool) → Link → Option ℕ → Remains → System
 beginning h l e m =
     let p = first_persisted (h exchanges) l.first in
     link (sending (after_crash p) p [] m.answers []) (receiving (first_receiver (h drops_decision) e m) (stored e []) m.message false m.pending m.requests)
     (line new_reader m.forward) (line new_reader m.back)
 
 -- "a receiver with none of it stored", where nothing is left
-abbrev pub start_of : Link → Expected → System
+abbrev pub start_of : Link → Option ℕ → System
 start_of l e = beginning every l e nothing_left
 
 -- ---- the sender's end
@@ -129,9 +123,9 @@ abbrev pub request_of : Link → SequenceNumber → List ℕ
 request_of l MinusOne = control_message l.name Resynchronize
 request_of l (Number n) = cond (eqb n 0) (control_message l.name Query) (l.log n)
 
-abbrev pub sends_of : NumberedMessage → List SequenceNumber
-sends_of Nothing = []
-sends_of (Numbered v) = v ∷ []
+abbrev pub sends_of : Option SequenceNumber → List SequenceNumber
+sends_of None = []
+sends_of (Some v) = v ∷ []
 
 -- what was named and not written is dropped when the circuit ends
 abbrev pub named_after : List SequenceNumber → Acted → List SequenceNumber
@@ -192,14 +186,14 @@ abbrev pub sender_restored : (Duty → Bool) → SendingEnd → List Judged → 
 sender_restored h e ws = sending (after_crash e.persisted) e.persisted (dropped (h drops_named) e.named) ws (crashed ∷ e.history)
 
 -- ---- the receiver's end
-abbrev pub has_with : Transaction → List ℕ → List (List ℕ) → List (List ℕ)
-has_with NoTransaction d ts = ts
-has_with (Transacted n) d ts = ts ++ d ∷ []
+abbrev pub has_with : Option ℕ → List ℕ → List (List ℕ) → List (List ℕ)
+has_with None d ts = ts
+has_with (Some n) d ts = ts ++ d ∷ []
 
 -- what the open decision says is to be stored
-abbrev pub stored_by : Stored → List ℕ → Open → Stored
-stored_by p d NoDecision = p
-stored_by p d (Decision id r) = stored r.persisted.expected (has_with r.persisted.transaction d p.has)
+abbrev pub stored_by : Stored → List ℕ → Option Decision → Stored
+stored_by p d None = p
+stored_by p d (Some o) = stored o.row.persisted.expected (has_with o.row.persisted.transaction d p.has)
 
 abbrev pub to_persist : ReceivingEnd → Stored
 to_persist e = stored_by e.persisted e.message e.receiver.decision
@@ -223,9 +217,9 @@ abbrev pub request_decided : System → List Judged → List ℕ → Decided →
 request_decided y ws d x = cond (eqb x.refusal 0) (link y.sending (decided_end y.receiving ws d x) y.forward y.back) y
 
 -- no decision is made on a refused block: it may be answered by an N block, and dropped
-abbrev pub verdict_decided : Application → System → List Judged → List ℕ → Verdict → System
-verdict_decided a y ws d (Accepted t n) = request_decided y ws d (decide_of a y.receiving.receiver t d)
-verdict_decided a y ws d (Refused n i) = y
+abbrev pub verdict_decided : Application → System → List Judged → List ℕ → Result Accepted Refusal → System
+verdict_decided a y ws d (Ok v) = request_decided y ws d (decide_of a y.receiving.receiver v.block_type d)
+verdict_decided a y ws d (Err v) = y
 
 abbrev pub request_taken : Application → System → List Judged → List Judged → System
 request_taken a y [] ws = y

@@ -1,4 +1,5 @@
 -- Runs from a tenancy's beginning that break the statement, each without one duty of the hosts, on a link of either kind. f is 1.
+use Rattle.std.specs.Prelude.{Option, Some, None, Ok}
 use mathlib.Core.Path.{◌≡◌, refl, sym, ap, ◌∙◌}
 use mathlib.Core.List.{List, [], ◌∷◌, ◌++◌}
 use mathlib.Core.Bool.{Bool, true, false, ◌&&◌}
@@ -18,17 +19,13 @@ use Rattle.fields.specs.Fields.{field_start, field_of, bytes_of}
 use Rattle.numbers.specs.Numbers.{number_field, decimal, text_of}
 use Rattle.numbers.specs.declared.SequenceNumber.{SequenceNumber}
 use Rattle.numbers.specs.declared.SequenceNumber.TheVariants.{MinusOne, Number}
-use Rattle.numbers.specs.declared.NumberField.TheVariants.{Present}
 use Rattle.header.specs.Header.{begins, readable_header, header_of, readable_answer, acknowledgment_of, code_field}
 use Rattle.header.specs.declared.Code.TheVariants.{AA}
 use Rattle.messages.specs.Messages.{answer_message, control_message, numbered_message, valid_control_id}
 use Rattle.control_id.specs.ControlId.{packed, unpacked, in_words, word_bytes, bytes_in}
 use Rattle.receiver.specs.Receiver.{valid_expected, row_of, is_row, carried, valid_receiver, decide_of, answer_of}
 use Rattle.receiver.specs.declared.Application.TheVariants.{Accepts}
-use Rattle.receiver.specs.declared.Expected.{Expected}
-use Rattle.receiver.specs.declared.Expected.TheVariants.{Unknown, Next}
-use Rattle.receiver.specs.declared.Open.{Open}
-use Rattle.receiver.specs.declared.Open.TheVariants.{NoDecision, Decision}
+use Rattle.receiver.specs.declared.Decision.{Decision}
 use Rattle.sender.specs.Sender.{valid_sender, submit_of, open_of, timer_of, block_read_of}
 use Rattle.link.specs.Duties.{Duty, exchanges, empties_lines, drops_replies, drops_verdicts, brings_nothing_late, writes_in_order, offers_in_order, sender_persists_first, persists_as_one}
 use Rattle.link.specs.Duties.{reports_persisted, reports_failed, settles_writes, drops_named, drops_reports, drops_decision, survives, every, one_at, others_at}
@@ -91,86 +88,86 @@ loses = sender_persists ∷ sender_writes 0 ∷ damages_forward [] ∷ []
 
 -- what the decision on 1 said is stored after all
 unfoldable pub landed : SystemAct
-landed = lands_late (stored (Next 2) (example_log 1 ∷ []))
+landed = lands_late (stored (Some 2) (example_log 1 ∷ []))
 
 -- ---- what an earlier tenant left: its answers, as bytes on the line back, as a reply not yet sent, as a verdict not yet acted on; and a decision on its 1, still open
 unfoldable pub old_answer : Kind → SequenceNumber → List ℕ
 old_answer k v = block_of (example_link k).settings (code "D") (answer_message (text_of v) AA v)
 
 unfoldable pub left : List ℕ → Remains
-left bs = record { forward = []; back = bs; pending = []; requests = []; answers = []; decision = NoDecision; message = [] }
+left bs = record { forward = []; back = bs; pending = []; requests = []; answers = []; decision = None; message = [] }
 
 unfoldable pub left_pending : List ℕ → Remains
-left_pending b = record { forward = []; back = []; pending = b ∷ []; requests = []; answers = []; decision = NoDecision; message = [] }
+left_pending b = record { forward = []; back = []; pending = b ∷ []; requests = []; answers = []; decision = None; message = [] }
 
 unfoldable pub left_read : Kind → List ℕ → Remains
-left_read k bs = record { forward = []; back = []; pending = []; requests = []; answers = run (example_link k).settings 0 between bs; decision = NoDecision; message = [] }
+left_read k bs = record { forward = []; back = []; pending = []; requests = []; answers = run (example_link k).settings 0 between bs; decision = None; message = [] }
 
 unfoldable pub foreign : List ℕ
 foreign = numbered_message (record { first = code "O"; second = code "R"; third = code "U" }) (Number 1)
 
-unfoldable pub open_decision : Open
-open_decision = Decision (in_words (text_of (Number 1))) (row_of Accepts Unknown (Present (Number 1)))
+unfoldable pub open_decision : Option Decision
+open_decision = Some (record { control_id = in_words (text_of (Number 1)); row = row_of Accepts None (Ok (Number 1)) })
 
 unfoldable pub left_open : Remains
 left_open = record { forward = []; back = []; pending = []; requests = []; answers = []; decision = open_decision; message = foreign }
 
 -- ---- without each duty: what the receiver expects, what is left, and the acts
 pub record Case : Type 0 where
-  pub expected : Expected
+  pub expected : Option ℕ
   pub remains : Remains
   pub acts : List SystemAct
 
-unfoldable pub case : Expected → Remains → List SystemAct → Case
+unfoldable pub case : Option ℕ → Remains → List SystemAct → Case
 case e m ds = record { expected = e; remains = m; acts = reversed ds [] }
 
 unfoldable pub case_of : Kind → Duty → Case
 -- 0 is answered by the number that the earlier tenant left: taken for a delivery
-case_of k exchanges = case (Next 2) nothing_left (submitted 1 ∷ opens ∷ (exchanged ++ sender_persists ∷ []))
+case_of k exchanges = case (Some 2) nothing_left (submitted 1 ∷ opens ∷ (exchanged ++ sender_persists ∷ []))
 -- the night of slot 7: -1 and then 1 are lost, and the earlier tenant's answers to both come out
 case_of k empties_lines =
-    case Unknown (left (old_answer k MinusOne ++ old_answer k (Number 1))) (submitted 1 ∷ opens ∷ (loses ++ (answered ++ (loses ++ (answered ++ sender_persists ∷ [])))))
+    case None (left (old_answer k MinusOne ++ old_answer k (Number 1))) (submitted 1 ∷ opens ∷ (loses ++ (answered ++ (loses ++ (answered ++ sender_persists ∷ [])))))
 -- -1 is lost, and the earlier tenant's answer to it is still to be sent. The receiver, which expects 2, answers 1 by AR 2: taken for a delivery
-case_of k drops_replies = case (Next 2) (left_pending (old_answer k MinusOne)) (submitted 1 ∷ opens ∷ (loses ++ receiver_writes ∷ (answered ++ (exchanged ++ sender_persists ∷ []))))
+case_of k drops_replies = case (Some 2) (left_pending (old_answer k MinusOne)) (submitted 1 ∷ opens ∷ (loses ++ receiver_writes ∷ (answered ++ (exchanged ++ sender_persists ∷ []))))
 -- the same with one that was read and not yet acted on
-case_of k drops_verdicts = case (Next 2) (left_read k (old_answer k MinusOne)) (submitted 1 ∷ opens ∷ (loses ++ sender_acts 0 ∷ (exchanged ++ sender_persists ∷ [])))
+case_of k drops_verdicts = case (Some 2) (left_read k (old_answer k MinusOne)) (submitted 1 ∷ opens ∷ (loses ++ sender_acts 0 ∷ (exchanged ++ sender_persists ∷ [])))
 -- 1 is lost, and an answer to the earlier tenant's 1 comes late
-case_of k brings_nothing_late = case Unknown nothing_left (begun ++ (loses ++ brings_late (old_answer k (Number 1)) ∷ (answered ++ sender_persists ∷ [])))
+case_of k brings_nothing_late = case None nothing_left (begun ++ (loses ++ brings_late (old_answer k (Number 1)) ∷ (answered ++ sender_persists ∷ [])))
 -- -1 was named twice, and the second is written behind 1: the receiver forgets, and stores 1 again
 case_of k writes_in_order =
-    case Unknown nothing_left
+    case None nothing_left
     (submitted 1 ∷ opens ∷ timer ∷ (exchanged ++ sender_persists ∷ sender_writes 1 ∷ sender_writes 0 ∷ (reads ++ (reads ++ (receives ++ (receives ++ timer ∷ (sends
     ++ (reads ++ decides ∷ receiver_persists ∷ []))))))))
 -- the second -1 is refused while the first is open, held, and offered behind 1
 case_of k offers_in_order =
-    case Unknown nothing_left
+    case None nothing_left
     (submitted 1 ∷ opens ∷ timer ∷ (sends ++ (sends ++ (reads ++ (reads ++ decides ∷ decides ∷ receiver_persists ∷ reports_stored ∷ receiver_writes ∷ (answered ++ (sends ++ (reads
     ++ receiver_decides 1 Accepts ∷ receiver_persists ∷ reports_stored ∷ (receives ++ timer ∷ (sends ++ (reads ++ decides ∷ receiver_persists ∷ [])))))))))))
 -- 2 goes out while the delivery of 1 is not persisted
-case_of k sender_persists_first = case Unknown nothing_left (begun ++ (exchanged ++ sender_writes 0 ∷ (reads ++ decides ∷ receiver_persists ∷ [])))
+case_of k sender_persists_first = case None nothing_left (begun ++ (exchanged ++ sender_writes 0 ∷ (reads ++ decides ∷ receiver_persists ∷ [])))
 -- 1 is persisted, a crash comes before its number is, and 1 is sent again
 case_of k persists_as_one =
-    case Unknown nothing_left (begun ++ (sends ++ (reads ++ decides ∷ persists_transaction ∷ receiver_crashes ∷ timer ∷ (sends ++ (reads ++ decides ∷ receiver_persists ∷ [])))))
+    case None nothing_left (begun ++ (sends ++ (reads ++ decides ∷ persists_transaction ∷ receiver_crashes ∷ timer ∷ (sends ++ (reads ++ decides ∷ receiver_persists ∷ [])))))
 -- 1 is reported stored before it is, its answer goes out, and a crash comes
 case_of k reports_persisted =
-    case Unknown nothing_left (begun ++ (sends ++ (reads ++ decides ∷ reports_stored ∷ receiver_writes ∷ (answered ++ sender_persists ∷ receiver_crashes ∷ []))))
+    case None nothing_left (begun ++ (sends ++ (reads ++ decides ∷ reports_stored ∷ receiver_writes ∷ (answered ++ sender_persists ∷ receiver_crashes ∷ []))))
 -- 1 is stored and reported as failed, so that it is still expected; it is sent again
 case_of k reports_failed =
-    case Unknown nothing_left (begun ++ (sends ++ (reads ++ decides ∷ receiver_persists ∷ reports_failure ∷ timer ∷ (sends ++ (reads ++ decides ∷ receiver_persists ∷ [])))))
+    case None nothing_left (begun ++ (sends ++ (reads ++ decides ∷ receiver_persists ∷ reports_failure ∷ timer ∷ (sends ++ (reads ++ decides ∷ receiver_persists ∷ [])))))
 -- 1 is reported as failed, and what was to be stored lands after that; it is sent again
 case_of k settles_writes =
-    case Unknown nothing_left (begun ++ (sends ++ (reads ++ decides ∷ reports_failure ∷ landed ∷ timer ∷ (sends ++ (reads ++ decides ∷ receiver_persists ∷ [])))))
+    case None nothing_left (begun ++ (sends ++ (reads ++ decides ∷ reports_failure ∷ landed ∷ timer ∷ (sends ++ (reads ++ decides ∷ receiver_persists ∷ [])))))
 -- 2 was named, a crash takes the delivery of 1 back, and 2 is written after it
-case_of k drops_named = case Unknown nothing_left (begun ++ (exchanged ++ sender_crashes ∷ sender_writes 0 ∷ (reads ++ decides ∷ receiver_persists ∷ [])))
+case_of k drops_named = case None nothing_left (begun ++ (exchanged ++ sender_crashes ∷ sender_writes 0 ∷ (reads ++ decides ∷ receiver_persists ∷ [])))
 -- -1 was named twice. The second is stored, a crash comes, and the report on it comes when 1 is open
 case_of k drops_reports =
-    case Unknown nothing_left
+    case None nothing_left
     (submitted 1 ∷ opens ∷ timer ∷ (exchanged ++ (sends ++ (reads ++ decides ∷ receiver_persists ∷ receiver_crashes ∷ (sends ++ (reads ++ decides ∷ reports_stored ∷ receiver_writes ∷ (answered
     ++ sender_persists ∷ [])))))))
 -- the earlier tenant's 1 was decided on, and is stored for the new one, whose own 1 comes behind it
-case_of k drops_decision = case Unknown left_open (receiver_persists ∷ reports_stored ∷ (begun ++ (sends ++ (reads ++ decides ∷ receiver_persists ∷ []))))
+case_of k drops_decision = case None left_open (receiver_persists ∷ reports_stored ∷ (begun ++ (sends ++ (reads ++ decides ∷ receiver_persists ∷ []))))
 -- 1 was stored and answered, and the disk has the older state again
-case_of k survives = case Unknown nothing_left (begun ++ (exchanged ++ reverts_to (stored Unknown []) ∷ []))
+case_of k survives = case None nothing_left (begun ++ (exchanged ++ reverts_to (stored None []) ∷ []))
 
 unfoldable pub end_of : Kind → Duty → System
 end_of k d =
@@ -219,7 +216,7 @@ computed_minimal = (refl, refl, refl, refl, refl, refl, refl, refl, refl, refl, 
 
 -- ---- the night of slot 7, more closely
 -- acts from a beginning with these duties, this number expected and these answers on the line back
-unfoldable pub slot_seven_of : Kind → (Duty → Bool) → Expected → List ℕ → List SystemAct → System
+unfoldable pub slot_seven_of : Kind → (Duty → Bool) → Option ℕ → List ℕ → List SystemAct → System
 slot_seven_of k h e bs ds = run_of h (example_link k) (beginning h (example_link k) e (left bs)) (reversed ds [])
 
 abbrev pub without_both : Duty → Bool
@@ -239,12 +236,12 @@ disordered =
 -- And where the receiver expects 2, one old answer to -1 is enough.
 abbrev SlotSeven : Kind → Type 0
 SlotSeven k =
-    (seen (slot_seven_of k (every_but empties_lines) Unknown (old_answer k (Number 1)) (submitted 1 ∷ opens ∷ (answered ++ exchanged))) ≡ 0 ∷ 0 ∷ 0 ∷ [])
-    × (seen (slot_seven_of k (every_but empties_lines) Unknown (old_answer k (Number 1)) (submitted 1 ∷ opens ∷ (answered ++ (exchanged ++ exchanged)))) ≡ 1 ∷ 1 ∷ 0 ∷ [])
-    × (seen (slot_seven_of k without_both Unknown (old_answer k (Number 1)) (submitted 1 ∷ opens ∷ (answered ++ exchanged))) ≡ 0 ∷ 0 ∷ 0 ∷ [])
-    × (seen (slot_seven_of k without_both Unknown (answer_to k (Number 0) MinusOne ++ old_answer k (Number 1)) (submitted 1 ∷ opens ∷ (loses ++ (answered ++ (loses ++ answered))))) ≡ 0 ∷ 1 ∷ 0 ∷ [])
-    × (seen (slot_seven_of k (every_but empties_lines) (Next 2) (old_answer k MinusOne) (submitted 1 ∷ opens ∷ (loses ++ (answered ++ exchanged)))) ≡ 0 ∷ 1 ∷ 0 ∷ [])
-    × (seen (slot_seven_of k (every_but empties_lines) Unknown (old_answer k (Number 1)) disordered) ≡ 0 ∷ 1 ∷ 1 ∷ [])
+    (seen (slot_seven_of k (every_but empties_lines) None (old_answer k (Number 1)) (submitted 1 ∷ opens ∷ (answered ++ exchanged))) ≡ 0 ∷ 0 ∷ 0 ∷ [])
+    × (seen (slot_seven_of k (every_but empties_lines) None (old_answer k (Number 1)) (submitted 1 ∷ opens ∷ (answered ++ (exchanged ++ exchanged)))) ≡ 1 ∷ 1 ∷ 0 ∷ [])
+    × (seen (slot_seven_of k without_both None (old_answer k (Number 1)) (submitted 1 ∷ opens ∷ (answered ++ exchanged))) ≡ 0 ∷ 0 ∷ 0 ∷ [])
+    × (seen (slot_seven_of k without_both None (answer_to k (Number 0) MinusOne ++ old_answer k (Number 1)) (submitted 1 ∷ opens ∷ (loses ++ (answered ++ (loses ++ answered))))) ≡ 0 ∷ 1 ∷ 0 ∷ [])
+    × (seen (slot_seven_of k (every_but empties_lines) (Some 2) (old_answer k MinusOne) (submitted 1 ∷ opens ∷ (loses ++ (answered ++ exchanged)))) ≡ 0 ∷ 1 ∷ 0 ∷ [])
+    × (seen (slot_seven_of k (every_but empties_lines) None (old_answer k (Number 1)) disordered) ≡ 0 ∷ 1 ∷ 1 ∷ [])
 
 runs_hybrid : SlotSeven Hybrid
 unfolding times reversed sends reads decides reports_stored reports_failure receives answered exchanged submitted begun loses landed old_answer left left_pending left_read foreign open_decision left_open case case_of end_of five_digits three_digits count_field checksum_of hybrid_body hybrid_block minimal_block block_of type_matches header_ok checksum_matches judge_parts data_of judge_hybrid judge_minimal judge content_of same put valid valid_link end_verdict move run field_start field_of bytes_of number_field decimal begins readable_header header_of readable_answer acknowledgment_of code_field answer_message control_message packed unpacked in_words word_bytes bytes_in valid_control_id valid_expected row_of is_row carried valid_receiver decide_of answer_of valid_sender submit_of open_of timer_of block_read_of one_at others_at accepted_of some_of run_of blank slot_seven_of answer_to disordered
@@ -260,29 +257,29 @@ slot_seven_runs Minimal = runs_minimal
 
 -- ---- the line to the receiver is not empty when the tenancy begins: an earlier tenant's 1 is read before any circuit, and stored
 left_forward : List ℕ → Remains
-left_forward bs = record { forward = bs; back = []; pending = []; requests = []; answers = []; decision = NoDecision; message = [] }
+left_forward bs = record { forward = bs; back = []; pending = []; requests = []; answers = []; decision = None; message = [] }
 
 pub with_request : Kind → System
 with_request k =
     let l = example_link k in
-    run_of every l (beginning every l (Next 1) (left_forward (block_of (example_link k).settings (code "D") foreign))) (reversed (reads ++ decides ∷ receiver_persists ∷ []) [])
+    run_of every l (beginning every l (Some 1) (left_forward (block_of (example_link k).settings (code "D") foreign))) (reversed (reads ++ decides ∷ receiver_persists ∷ []) [])
 
 -- the same request, which was read before: the circuit is opened first, and without drops_verdicts it is decided on after that
 left_request : Kind → Remains
 left_request k =
     let g = (example_link k).settings in
-    record { forward = []; back = []; pending = []; requests = run g 0 between (block_of g (code "D") foreign); answers = []; decision = NoDecision; message = [] }
+    record { forward = []; back = []; pending = []; requests = run g 0 between (block_of g (code "D") foreign); answers = []; decision = None; message = [] }
 
 pub with_kept : (Duty → Bool) → Kind → System
 with_kept h k =
     let l = example_link k in
-    run_of h l (beginning h l Unknown (left_request k)) (reversed (submitted 1 ∷ opens ∷ decides ∷ receiver_persists ∷ []) [])
+    run_of h l (beginning h l None (left_request k)) (reversed (submitted 1 ∷ opens ∷ decides ∷ receiver_persists ∷ []) [])
 
 -- a decision on it is open, and without drops_decision is stored for the new tenant
 pub with_open : (Duty → Bool) → Kind → System
 with_open h k =
     let l = example_link k in
-    run_of h l (beginning h l Unknown left_open) (reversed (submitted 1 ∷ sender_persists ∷ receiver_persists ∷ []) [])
+    run_of h l (beginning h l None left_open) (reversed (submitted 1 ∷ sender_persists ∷ receiver_persists ∷ []) [])
 
 abbrev Stores : Kind → Type 0
 Stores k =

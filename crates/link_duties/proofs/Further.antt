@@ -1,4 +1,5 @@
 -- Where a duty has several sides: runs without it that show another side than its run in Counterexamples.antt does.
+use Rattle.std.specs.Prelude.{None}
 use mathlib.Core.Path.{◌≡◌, refl}
 use mathlib.Core.List.{List, [], ◌∷◌, ◌++◌}
 use mathlib.Core.Bool.{Bool, true, false, cond}
@@ -21,7 +22,6 @@ use Rattle.header.specs.Header.{begins, readable_header, header_of, readable_ans
 use Rattle.messages.specs.Messages.{answer_message, control_message, valid_control_id}
 use Rattle.control_id.specs.ControlId.{packed, unpacked, in_words, word_bytes, bytes_in}
 use Rattle.receiver.specs.Receiver.{valid_expected, row_of, is_row, carried, valid_receiver, decide_of, answer_of}
-use Rattle.receiver.specs.declared.Expected.TheVariants.{Unknown}
 use Rattle.sender.specs.Sender.{valid_sender, submit_of, open_of, ended_of, timer_of, block_read_of}
 use Rattle.sender.specs.declared.Persisted.{Persisted}
 use Rattle.link.specs.Duties.{Duty, empties_lines, drops_verdicts, brings_nothing_late, persists_as_one, settles_writes, drops_named, drops_reports, survives, one_at, others_at}
@@ -72,33 +72,33 @@ older = record { first = 1; delivered = 0; last = 2; resynchronized = true; froz
 
 unfoldable pub further_case_of : Kind → Further → Case
 -- the number of 1 is persisted, a crash comes before 1 is, and 1 is sent again: AR 2 is taken for a delivery
-further_case_of k number_alone = case Unknown nothing_left (begun ++ (sends ++ (reads ++ decides ∷ persists_number ∷ receiver_crashes ∷ timer ∷ exchanged)))
+further_case_of k number_alone = case None nothing_left (begun ++ (sends ++ (reads ++ decides ∷ persists_number ∷ receiver_crashes ∷ timer ∷ exchanged)))
 -- 2 went out when the delivery of 1 was persisted, and the disk has the older state again
-further_case_of k sender_reverts = case Unknown nothing_left (begun ++ (exchanged ++ (sends ++ sender_reverts_to older ∷ (reads ++ decides ∷ receiver_persists ∷ []))))
+further_case_of k sender_reverts = case None nothing_left (begun ++ (exchanged ++ (sends ++ sender_reverts_to older ∷ (reads ++ decides ∷ receiver_persists ∷ []))))
 -- a -1 comes late, behind 1: the receiver forgets, and stores 1 again
 further_case_of k request_late =
-    case Unknown nothing_left
+    case None nothing_left
     (begun ++ (sends ++ (reads ++ (receives ++ brings_late_request (block_of (example_link k).settings (code "D") (request_of (example_link k) MinusOne)) ∷ (reads
     ++ (receives ++ timer ∷ (sends ++ (reads ++ decides ∷ receiver_persists ∷ []))))))))
 -- 2 was named, the delivery of 1 could not be stored, and 2 is written after that
-further_case_of k restored_named = case Unknown nothing_left (begun ++ (exchanged ++ sender_restores ∷ sender_writes 0 ∷ (reads ++ decides ∷ receiver_persists ∷ [])))
+further_case_of k restored_named = case None nothing_left (begun ++ (exchanged ++ sender_restores ∷ sender_writes 0 ∷ (reads ++ decides ∷ receiver_persists ∷ [])))
 -- 1 is to be stored, a crash comes before it is, and it lands after that
 further_case_of k lands_restarted =
-    case Unknown nothing_left (begun ++ (sends ++ (reads ++ decides ∷ receiver_crashes ∷ landed ∷ timer ∷ (sends ++ (reads ++ decides ∷ receiver_persists ∷ [])))))
+    case None nothing_left (begun ++ (sends ++ (reads ++ decides ∷ receiver_crashes ∷ landed ∷ timer ∷ (sends ++ (reads ++ decides ∷ receiver_persists ∷ [])))))
 -- -1 was named twice. The second is stored, the receiver goes on from what is stored, and the report on it comes when 1 is open
 further_case_of k restored_report =
-    case Unknown nothing_left
+    case None nothing_left
     (submitted 1 ∷ opens ∷ timer ∷ (exchanged ++ (sends ++ (reads ++ decides ∷ receiver_persists ∷ receiver_restores ∷ (sends ++ (reads ++ decides ∷ reports_stored ∷ receiver_writes ∷ answered))))))
 -- the second answer to 0, which says that nothing is there, falls behind the answer to 1, and comes when the next circuit's 0 waits
 further_case_of k line_later =
     let none = answer_to k (Number 0) MinusOne in
     let one = old_answer k (Number 1) in
-    case Unknown nothing_left
+    case None nothing_left
     (second_circuit ++ (times (length none) sender_reads ++ sender_acts 0 ∷ (sends ++ (reads ++ (receives ++ receiver_writes ∷ damages_back (one ++ none) ∷ (times (length one) sender_reads
     ++ sender_acts 0 ∷ ends ∷ opens ∷ answered))))))
 -- the same, and it was read before
 further_case_of k verdict_later =
-    case Unknown nothing_left
+    case None nothing_left
     (second_circuit ++ (times 128 sender_reads ++ sender_acts 0 ∷ (sends ++ (reads ++ (receives ++ receiver_writes ∷ (times 64 sender_reads
     ++ sender_acts 1 ∷ ends ∷ opens ∷ sender_acts 0 ∷ []))))))
 

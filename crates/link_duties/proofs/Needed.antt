@@ -1,4 +1,5 @@
 -- Each duty of the hosts is needed: without it, and with every other kept, a run from a tenancy's beginning breaks the statement. A second decision is no duty: it is refused.
+use Rattle.std.specs.Prelude.{Option, Some, None, Result, Ok, Err}
 use mathlib.Core.Path.{◌≡◌, refl, ap, ◌∙◌}
 use mathlib.Core.List.{List, [], ◌∷◌}
 use mathlib.Core.Bool.{Bool, true, false, cond}
@@ -7,18 +8,16 @@ use Prim.Native.Char.{code}
 use lib.Dec.{eqb}
 use Rattle.settings.specs.declared.Kind.{Kind}
 use Rattle.refusal.specs.Refusal.{STATE}
-use Rattle.refusal.specs.declared.Verdict.{Verdict}
-use Rattle.refusal.specs.declared.Verdict.TheVariants.{Accepted, Refused}
+use Rattle.refusal.specs.declared.Accepted.{Accepted}
+use Rattle.refusal.specs.declared.Refusal.{Refusal}
 use Rattle.stream.specs.Stream.{Judged}
 use Rattle.header.specs.Header.{header_of}
 use Rattle.control_id.specs.declared.ControlId.{ControlId}
 use Rattle.numbers.specs.declared.SequenceNumber.TheVariants.{Number}
 use Rattle.receiver.specs.Receiver.{valid_expected, valid_receiver, is_closed, undecided, header_decided, decide_of}
 use Rattle.receiver.specs.declared.Application.{Application}
-use Rattle.receiver.specs.declared.Expected.TheVariants.{Unknown}
 use Rattle.receiver.specs.declared.Row.{Row}
-use Rattle.receiver.specs.declared.Open.{Open}
-use Rattle.receiver.specs.declared.Open.TheVariants.{Decision}
+use Rattle.receiver.specs.declared.Decision.{Decision}
 use Rattle.receiver.specs.declared.Receiver.{Receiver}
 use Rattle.link.specs.Duties.{Duty, exchanges, empties_lines, drops_replies, drops_verdicts, brings_nothing_late, writes_in_order, offers_in_order, sender_persists_first, persists_as_one}
 use Rattle.link.specs.Duties.{reports_persisted, reports_failed, settles_writes, drops_named, drops_reports, drops_decision, survives}
@@ -139,12 +138,12 @@ module _ (k : Kind) where
   unfolding valid_expected slot_seven_of left
   slot_seven_disordered =
       record {
-        expected = Unknown;
+        expected = None;
         valid = refl;
         remains = left (old_answer k (Number 1));
         only_answers = record { forward = refl; requests = refl };
         acts = reversed disordered [];
-        broken = unstored k (slot_seven_of k (every_but empties_lines) Unknown (old_answer k (Number 1)) disordered) 1 (slot_seven_runs k).5;
+        broken = unstored k (slot_seven_of k (every_but empties_lines) None (old_answer k (Number 1)) disordered) 1 (slot_seven_runs k).5;
       }
 
   pub slot_seven_late : Needed (example_link k) brings_nothing_late
@@ -184,7 +183,7 @@ module _ (k : Kind) where
   decision_left = needed drops_decision
 
 -- ---- 02, §1, "a decision .. while one is [open]" is refused, whatever duties the host keeps: a second decision from what is stored, which broke the statement once, cannot be made
-module _ (a : Application) (y : System) (id : ControlId) (r : Row) (e : y.receiving.receiver.decision ≡ Decision id r) where
+module _ (a : Application) (y : System) (id : ControlId) (r : Row) (e : y.receiving.receiver.decision ≡ Some (record { control_id = id; row = r })) where
   abbrev s : Receiver
   s = y.receiving.receiver
 
@@ -195,16 +194,16 @@ module _ (a : Application) (y : System) (id : ControlId) (r : Row) (e : y.receiv
   refused : (t : ℕ) (d : List ℕ) → decide_of a s t d ≡ undecided STATE 0 s
   unfolding decide_of
   refused t d =
-      ap (λ (z : Open). cond (valid_receiver s) (cond (is_closed z) (cond (eqb t (code "N")) (undecided 0 0 s) (header_decided a s d (header_of d))) (undecided STATE 0 s)) (undecided STATE 0 s)) e
+      ap (λ (z : Option Decision). cond (valid_receiver s) (cond (is_closed z) (cond (eqb t (code "N")) (undecided 0 0 s) (header_decided a s d (header_of d))) (undecided STATE 0 s)) (undecided STATE 0 s)) e
       ∙ either_way (valid_receiver s)
 
   offered : (zs ws : List Judged) → request_taken a y zs ws ≡ y
   offered [] ws = refl
   offered (w ∷ zs) ws = go w.verdict
     where
-      go : (v : Verdict) → verdict_decided a y ws w.content v ≡ y
-      go (Accepted t size) = ap (request_decided y ws w.content) (refused t w.content)
-      go (Refused n i) = refl
+      go : (v : Result Accepted Refusal) → verdict_decided a y ws w.content v ≡ y
+      go (Ok v) = ap (request_decided y ws w.content) (refused v.block_type w.content)
+      go (Err v) = refl
 
   -- whichever of the blocks that were read is offered, it stays as it was read, and so does all else
   pub second_refused : (h : Duty → Bool) (l : Link) (n : ℕ) → after_act h l (receiver_decides n a) y ≡ y

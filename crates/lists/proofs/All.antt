@@ -6,6 +6,7 @@ use Prim.Native.Nat.{ℕ, zero, suc, ◌+◌, ◌≤◌, ◌<◌}
 use lib.ListN.{length, take, drop, get_or}
 use Rattle.lists.proofs.Tests.{and_left, and_right}
 use Rattle.lists.proofs.Parts.{drop_more, drop_none}
+use Rattle.std.specs.List.{list_all}
 use Rattle.lists.specs.Bytes.{all}
 
 module _ (test : ℕ → Bool) where
@@ -29,3 +30,8 @@ module _ (test : ℕ → Bool) where
   all_drop zero s e = e
   all_drop (suc n) [] e = refl
   all_drop (suc n) (x ∷ xs) e = all_drop n xs (and_right (test x) (all test xs) e)
+
+  -- as `all` of an iterator says it
+  pub list_all-is : (s : List ℕ) → list_all test s ≡ all test s
+  list_all-is [] = refl
+  list_all-is (x ∷ xs) = rw (list_all-is xs)

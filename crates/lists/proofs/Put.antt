@@ -31,6 +31,14 @@ copied l vs last a h e =
     let m : length (mid_of a (length l - a) l) ≡ length l - a = length-take-le (length l - a) (drop a l) (simp length-drop (omega arith)) in
     back l vs last a (omega arith) (e ∙ over-fits (mid_of a (length l - a) l) vs (omega arith))
 
+-- and over a part of just their length
+pub copied_whole : (l vs last : List ℕ) (a n : ℕ) → n ≡ length vs → a + n ≤ length l → last ≡ overwritten (mid_of a n l) vs → put_mid a n l last ≡ put l a vs
+unfolding put
+copied_whole l vs last a n e h q =
+    let m : length (mid_of a n l) ≡ n = length-take-le n (drop a l) (simp length-drop (omega arith)) in
+    let w : last ≡ vs = q ∙ over-fits (mid_of a n l) vs (omega arith) ∙ rw (drop_none (mid_of a n l) (length vs) (omega arith)) (append-nil vs) in
+    rw (w, e, drop-drop (length vs) a l) (sym (append_assoc (take a l) vs (drop (a + length vs) l)))
+
 pub put_none : (l : List ℕ) (a : ℕ) → put l a [] ≡ l
 unfolding put
 put_none l a = rw (append-nil, add-zero, take-append-drop)

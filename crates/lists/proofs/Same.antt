@@ -7,6 +7,7 @@ use native.Mathlib.Omega.{arith}
 use lib.ListN.{length}
 use lib.Dec.{eqb}
 use borrow.Author.Tests.{eq-eqb, eqb-true}
+use Rattle.std.specs.Cmp.Lexicographic.{pointwise}
 use Rattle.lists.proofs.Tests.{and_left, and_right}
 use Rattle.lists.specs.Bytes.{same}
 
@@ -35,3 +36,11 @@ pub same_self : (a : List ℕ) → same a a ≡ true
 unfolding same
 same_self [] = refl
 same_self (x ∷ a) = rw (eq-eqb x x refl, same_self a)
+
+-- as `==` of two slices says it
+pub same-pointwise : (a b : List ℕ) → pointwise eqb a b ≡ same a b
+unfolding same
+same-pointwise [] [] = refl
+same-pointwise [] (y ∷ ys) = refl
+same-pointwise (x ∷ xs) [] = refl
+same-pointwise (x ∷ xs) (y ∷ ys) = rw (same-pointwise xs ys)

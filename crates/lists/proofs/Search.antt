@@ -1,25 +1,33 @@
 -- Laws of searching: what one byte more, or a stretch without a hit, does to the count and to the test.
 use mathlib.Core.Path.{◌≡◌, refl, ap, ◌∙◌}
 use mathlib.Core.List.{List, [], ◌∷◌}
-use mathlib.Core.Bool.{Bool, true, false, cond, ◌||◌, or_assoc, or-false, true≢false}
+use mathlib.Core.Bool.{Bool, true, false, cond, not, ◌||◌, true≢false}
 use Prim.Native.Nat.{ℕ, zero, suc, ◌+◌, ◌≤◌, ◌<◌}
+use native.Mathlib.Decide.{dec_le}
 use native.Mathlib.Omega.{arith}
 use lib.ListN.{length, take, drop, get_or}
 use lib.Seq.{drop-drop}
-use lib.Dec.{eqb}
-use borrow.Author.Tests.{eq-eqb, ne_eqb}
+use lib.Dec.{eqb, ltb}
+use borrow.Author.Tests.{eq-eqb, ne_eqb, lt-ltb, le-ltb}
+use Rattle.std.specs.Prelude.{unwrap_or, position, Some, None}
+use Rattle.std.specs.List.{position_or_len}
+use Rattle.std.proofs.lemmas.List.Sums.{prefix_len-le-length}
 use Rattle.lists.proofs.Parts.{drop_more, drop_none}
 use Rattle.lists.proofs.Tests.{cond_ind}
 use Rattle.lists.specs.Bytes.{clear, has_any}
 
+-- the place of the first that passes, or the end where there is none
+pub position-is : {A : Type 0} (test : A → Bool) (s : List A) → unwrap_or (position test s) (length s) ≡ position_or_len test s
+position-is test s = go (position_or_len test s) (length s) (prefix_len-le-length (λ x. not (test x)) s)
+  where
+    go : (n m : ℕ) → n ≤ m → unwrap_or (cond (ltb n m) (Some n) None) m ≡ n
+    go n m h = by (dec_le m n)
+      where
+        by : Dec (m ≤ n) → unwrap_or (cond (ltb n m) (Some n) None) m ≡ n
+        by (yes l) = rw (le-ltb n m l) (omega arith)
+        by (no l) = rw (lt-ltb n m (omega arith))
+
 module _ (a b : ℕ) where
-  pub any_more : (s : List ℕ) (i : ℕ) (h : Bool) → i < length s
-      → ((h || (eqb (get_or s i 0) a || eqb (get_or s i 0) b)) || has_any a b (drop (i + 1) s)) ≡ (h || has_any a b (drop i s))
-  any_more s i h l = rw (drop_more s i l) (or_assoc h (eqb (get_or s i 0) a || eqb (get_or s i 0) b) (has_any a b (drop (i + 1) s)))
-
-  pub any_none : (s : List ℕ) (i : ℕ) (h : Bool) → length s ≤ i → (h || has_any a b (drop i s)) ≡ h
-  any_none s i h l = rw (drop_none s i l) (or-false h)
-
   -- a stretch without a hit is passed whole
   pub clear_window : (n : ℕ) (s : List ℕ) → has_any a b (take n s) ≡ false → n ≤ length s → clear a b s ≡ n + clear a b (drop n s)
   clear_window zero s e l = omega arith

@@ -7,11 +7,8 @@ fn has_stop(s: &[u8], start_block: u8, end_block: u8) -> bool
     ensures { result ≡ has_any start_block end_block s.now }
 {
     let mut hit = false;
-    let mut i = 0;
-    while i < s.len() {
-        let x = s[i];
-        hit = hit | ((x == start_block) | (x == end_block));
-        i += 1;
+    for &x in s {
+        hit |= (x == start_block) | (x == end_block);
     }
     hit
 }

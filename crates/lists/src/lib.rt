@@ -4,26 +4,19 @@
 
 mod find;
 
-ghost use Rattle.std.specs.Prelude.{◌≡◌, min, take, drop};
+ghost use Rattle.std.specs.Prelude.{◌≡◌, take, drop};
 ghost use Rattle.lists.specs.Bytes.{overwritten, part_address};
 
 pub use find::find_stop;
 
-fn smaller(a: usize, b: usize) -> usize
-    ensures { result ≡ min a b }
-{
-    if a < b { a } else { b }
-}
-
-// Writes source over the beginning of target, as much of it as fits.
+// Writes source over the beginning of target, as much of it as fits. By a loop: `copy_from_slice` would have the archive call
+// memcpy, and it needs no function of the C library.
 pub fn copy_bytes(target: &mut [u8], source: &[u8])
     ensures { target.new ≡ overwritten target.old source.now }
 {
-    let end = smaller(source.len(), target.len());
-    let mut i = 0;
-    while i < end {
+    let end = source.len().min(target.len());
+    for i in 0..end {
         target[i] = source[i];
-        i += 1;
     }
 }
 
@@ -32,7 +25,7 @@ pub fn copy_bytes(target: &mut [u8], source: &[u8])
 pub fn part_of(s: &[u8], start: usize, size: usize) -> &[u8]
     ensures { (result.now ≡ take size (drop start s.now)) × (result.ref_ptr ≡ part_address s.entry start) }
 {
-    let from = smaller(start, s.len());
-    let held = smaller(size, s.len() - from);
+    let from = start.min(s.len());
+    let held = size.min(s.len() - from);
     &s[from..from + held]
 }

@@ -1,4 +1,5 @@
 -- The words stand for the master and its answer: what is written is read back.
+use Rattle.std.specs.Prelude.{Some}
 use mathlib.Core.Path.{◌≡◌, refl, ap, ◌∙◌}
 use mathlib.Core.List.{List, ◌∷◌, ◌++◌}
 use mathlib.Core.Bool.{Bool, true, false, cond}
@@ -24,7 +25,6 @@ use Rattle.master.specs.declared.End.{End}
 use Rattle.master.specs.declared.End.TheVariants.{NotEnded, Failed, BySlave, ByDriver, Reversed}
 use Rattle.master.specs.declared.Reversal.{Reversal}
 use Rattle.master.specs.declared.MasterActed.{MasterActed}
-use Rattle.master.specs.declared.DecodedMaster.TheVariants.{Known}
 use Rattle.master.specs.Reversal.{master_state, reversal_fits}
 use Rattle.master.specs.MasterHistory.{MasterAct, master_after}
 use Rattle.master.proofs.Valid.{fits_after}
@@ -53,7 +53,7 @@ flag_known false = refl
 module _ (v : Reversal) where
   -- the four words are known, and stand for v
   known_if_lem : (m : Master) (ws : List ℕ) → get_or ws 6 0 ≡ kind_word v.last → get_or ws 7 0 ≡ flag_word v.interrupted
-      → get_or ws 8 0 ≡ flag_word v.enquired → get_or ws 9 0 ≡ flag_word v.may_receive → reversal_fits m v ≡ true → known_if ws m ≡ Known (master_state m v)
+      → get_or ws 8 0 ≡ flag_word v.enquired → get_or ws 9 0 ≡ flag_word v.may_receive → reversal_fits m v ≡ true → known_if ws m ≡ Some (master_state m v)
   known_if_lem m ws e f g i h =
       rw (
         e,
@@ -71,14 +71,14 @@ module _ (v : Reversal) where
         h,
       )
 
-  words_read : (m : Master) (rest : List ℕ) → reversal_fits m v ≡ true → master_in (state_words m v ++ rest) ≡ Known (master_state m v)
+  words_read : (m : Master) (rest : List ℕ) → reversal_fits m v ≡ true → master_in (state_words m v ++ rest) ≡ Some (master_state m v)
   unfolding master_in
   words_read (Closed count) rest h = known_if_lem (Closed count) (state_words (Closed count) v ++ rest) refl refl refl refl h
   words_read (Idle count) rest h = known_if_lem (Idle count) (state_words (Idle count) v ++ rest) refl refl refl refl h
   words_read (Waiting o) rest h = known_if_lem (Waiting o) (state_words (Waiting o) v ++ rest) refl refl refl refl h
 
 -- every master, a corrupt one too, with what goes with it
-pub words_back : (st : List ℕ) (m : Master) (v : Reversal) → 10 ≤ length st → reversal_fits m v ≡ true → master_in (over st (state_words m v)) ≡ Known (master_state m v)
+pub words_back : (st : List ℕ) (m : Master) (v : Reversal) → 10 ≤ length st → reversal_fits m v ≡ true → master_in (over st (state_words m v)) ≡ Some (master_state m v)
 words_back st m v h f = ap master_in (over-is st (state_words m v) (let n = ten_words m v in omega (arith, n))) ∙ words_read v m (drop (length (state_words m v)) st) f
   where
     ten_words : (m : Master) (v : Reversal) → length (state_words m v) ≡ 10
@@ -87,7 +87,7 @@ words_back st m v h f = ap master_in (over-is st (state_words m v) (let n = ten_
     ten_words (Waiting o) v = refl
 
 -- so the words after every run from an opening are read as its state
-pub run_back : (st : List ℕ) (xs : List MasterAct) → 10 ≤ length st → master_in (over st (state_words (master_after xs).master (master_after xs).reversal)) ≡ Known (master_after xs)
+pub run_back : (st : List ℕ) (xs : List MasterAct) → 10 ≤ length st → master_in (over st (state_words (master_after xs).master (master_after xs).reversal)) ≡ Some (master_after xs)
 run_back st xs h = words_back st (master_after xs).master (master_after xs).reversal h (fits_after xs)
 
 -- ---- the report

@@ -1,5 +1,5 @@
 -- What the C functions of the X3.28 master return and leave in what was passed, for every input (include/giamuvich.h).
-use Rattle.std.specs.Prelude.{List, [], ◌∷◌, ◌++◌, Bool, true, false, cond, ◌&&◌, ℕ, length, get_or, leb, eqb}
+use Rattle.std.specs.Prelude.{List, [], ◌∷◌, ◌++◌, Bool, true, false, cond, ◌&&◌, ℕ, length, get_or, leb, eqb, Option, Some, None}
 use Rattle.lists.specs.Bytes.{over}
 use Rattle.lists.specs.Outcome.{need, Called, called}
 use Rattle.refusal.specs.Refusal.{SETTING, TOO_SHORT, STATE}
@@ -21,10 +21,7 @@ use Rattle.master.specs.declared.Reversal.{Reversal}
 use Rattle.master.specs.declared.MasterState.{MasterState}
 use Rattle.master.specs.declared.MasterActed.{MasterActed}
 use Rattle.master.specs.declared.MasterAnswer.{MasterAnswer}
-use Rattle.master.specs.declared.DecodedMaster.{DecodedMaster}
-use Rattle.master.specs.declared.DecodedMaster.TheVariants.{Unknown, Known}
-use Rattle.master.specs.declared.DecodedResponse.{DecodedResponse}
-use Rattle.master.specs.declared.DecodedResponse.TheVariants.{Unknown as NoResponse, Known as AResponse}
+use Rattle.master.specs.declared.Response.{Response}
 
 -- GMV_MASTER_PHASE, _MESSAGE_LENGTH, _BLOCK_SIZE, _OFFSET, _RESENDS, _COUNT
 abbrev pub master_words : Master → List ℕ
@@ -54,20 +51,20 @@ known_reversal ws = is_kind (get_or ws 6 0) && (leb (get_or ws 7 0) 1 && (leb (g
 abbrev pub reversal_in : List ℕ → Reversal
 reversal_in ws = reversal (kind_in (get_or ws 6 0)) (eqb (get_or ws 7 0) 1) (eqb (get_or ws 8 0) 1) (eqb (get_or ws 9 0) 1)
 
-abbrev pub known_if : List ℕ → Master → DecodedMaster
-known_if ws m = cond (known_reversal ws && reversal_fits m (reversal_in ws)) (Known (master_state m (reversal_in ws))) Unknown
+abbrev pub known_if : List ℕ → Master → Option MasterState
+known_if ws m = cond (known_reversal ws && reversal_fits m (reversal_in ws)) (Some (master_state m (reversal_in ws))) None
 
-unfoldable pub master_in : List ℕ → DecodedMaster
+unfoldable pub master_in : List ℕ → Option MasterState
 master_in ws =
     cond (eqb (get_or ws 0 0) 2) (known_if ws (Waiting (outstanding (get_or ws 1 0) (get_or ws 2 0) (get_or ws 3 0) (get_or ws 4 0) (get_or ws 5 0))))
     (cond (eqb (get_or ws 0 0) 1 && no_message ws) (known_if ws (Idle (get_or ws 5 0)))
-    (cond (eqb (get_or ws 0 0) 0 && no_message ws) (known_if ws (Closed (get_or ws 5 0))) Unknown))
+    (cond (eqb (get_or ws 0 0) 0 && no_message ws) (known_if ws (Closed (get_or ws 5 0))) None))
 
 -- GMV_REPLY_ACK, _NAK, _EOT, _RINT as the station's, GMV_REPLY_DAMAGED
-abbrev pub response_of : ℕ → ℕ → DecodedResponse
+abbrev pub response_of : ℕ → ℕ → Option Response
 response_of code n =
-    cond (eqb code 1) (AResponse (Ack n))
-    (cond (eqb code 2) (AResponse Nak) (cond (eqb code 3) (AResponse Eot) (cond (eqb code 4) (AResponse Damaged) (cond (eqb code 5) (AResponse Rint) NoResponse))))
+    cond (eqb code 1) (Some (Ack n))
+    (cond (eqb code 2) (Some Nak) (cond (eqb code 3) (Some Eot) (cond (eqb code 4) (Some Damaged) (cond (eqb code 5) (Some Rint) None))))
 
 -- GMV_ETB, GMV_ETX
 abbrev pub ending_word : Ending → ℕ
@@ -135,9 +132,9 @@ abbrev pub enough_master_words : ℕ → ℕ → Bool
 enough_master_words states reports = leb 10 states && leb 10 reports
 
 -- an act on the master that the words encode: 2, then 11 for words that encode none, then the act
-abbrev pub master_act_on : DecodedMaster → (MasterState → MasterAnswer) → List ℕ → List ℕ → Called
-master_act_on Unknown f st p = called STATE st [] p
-master_act_on (Known s) f st p = master_written st p (f s)
+abbrev pub master_act_on : Option MasterState → (MasterState → MasterAnswer) → List ℕ → List ℕ → Called
+master_act_on None f st p = called STATE st [] p
+master_act_on (Some s) f st p = master_written st p (f s)
 
 abbrev pub master_call : (MasterState → MasterAnswer) → List ℕ → List ℕ → Called
 master_call f st p = need (enough_master_words (length st) (length p)) (called TOO_SHORT st [] p) (master_act_on (master_in st) f st p)
@@ -155,9 +152,9 @@ unfoldable pub start_call : ℕ → ℕ → List ℕ → List ℕ → Called
 start_call n size st p = need (leb 1 size) (called SETTING st [] p) (master_call (start_answer n size) st p)
 
 -- gmv_master_reply: 1 for a code that is no reply, then as every act
-abbrev pub replied_with : DecodedResponse → List ℕ → List ℕ → Called
-replied_with NoResponse st p = called SETTING st [] p
-replied_with (AResponse r) st p = master_call (reply_answer r) st p
+abbrev pub replied_with : Option Response → List ℕ → List ℕ → Called
+replied_with None st p = called SETTING st [] p
+replied_with (Some r) st p = master_call (reply_answer r) st p
 
 unfoldable pub master_reply_call : ℕ → ℕ → List ℕ → List ℕ → Called
 master_reply_call code n st p = replied_with (response_of code n) st p

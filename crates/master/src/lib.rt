@@ -43,13 +43,6 @@ pub struct MasterState {
     pub reversal: Reversal,
 }
 
-// What a master's words encode.
-#[derive(Clone, Copy)]
-pub enum DecodedMaster {
-    Unknown,
-    Known(MasterState),
-}
-
 // A reply as it arrived.
 #[derive(Clone, Copy)]
 pub enum Response {
@@ -58,13 +51,6 @@ pub enum Response {
     Eot,
     Damaged,
     Rint,
-}
-
-// What a number from C stands for.
-#[derive(Clone, Copy)]
-pub enum DecodedResponse {
-    Unknown,
-    Known(Response),
 }
 
 // A block to send: its text is a part of the message.
@@ -94,15 +80,15 @@ pub enum Progress {
     Done,
 }
 
-// How the opening ended.
+// How the opening ended. Numbered as in the driver's words (GMV_MASTER_END_..).
 #[derive(Clone, Copy)]
 pub enum End {
-    NotEnded,
-    Failed,
-    BySlave,
-    ByDriver,
+    NotEnded = 0,
+    Failed = 1,
+    BySlave = 2,
+    ByDriver = 3,
     // The driver may receive, and no block is out.
-    Reversed,
+    Reversed = 4,
 }
 
 // What an act answers.

@@ -6,32 +6,23 @@ ghost use Rattle.master.specs.Master.{block_number, ending_of_part, block_out, m
 
 use master::{BlockPart, End, Master, MasterActed, Outstanding, Progress, Transmission};
 use station::Ending;
+use station_calls::LAST_NUMBER;
 
 // 000's L: a block is sent again at most so often.
-const MOST_RESENDS: u64 = 5;
+pub(crate) const MOST_RESENDS: u64 = 5;
 
-// The last block number: after it comes 0.
-const LAST_NUMBER: u64 = 7;
-
-const GREATEST_WORD: u64 = 0xFFFFFFFFFFFFFFFF;
-
+#[tactic(auto, unfolding(master::specs::Master::block_number, station::specs::Station::next_number))]
 fn block_number(count: u64) -> u64
     ensures { result ≡ block_number count }
 {
     let before = count % 8;
-    if before == LAST_NUMBER {
-        return 0;
-    }
-    before + 1
+    if before == LAST_NUMBER { 0 } else { before + 1 }
 }
 
 fn ending_of_part(last: bool) -> Ending
     ensures { result ≡ ending_of_part last }
 {
-    if last {
-        return Ending::Etx;
-    }
-    Ending::Etb
+    if last { Ending::Etx } else { Ending::Etb }
 }
 
 fn block_out(o: Outstanding) -> BlockPart
@@ -69,27 +60,22 @@ pub(crate) fn refuse(number: u64, master: Master) -> MasterActed
 {
     MasterActed {
         refusal: number,
-        master,
-        send: Transmission::Nothing,
-        progress: Progress::NoProgress,
-        end: End::NotEnded,
+        ..nothing_changes(master)
     }
 }
 
 pub(crate) fn send_out(progress: Progress, o: Outstanding) -> MasterActed
     ensures { result ≡ sends_out progress o }
 {
-    let part = block_out(o);
     MasterActed {
-        refusal: 0,
-        master: Master::Waiting(o),
-        send: Transmission::SendBlock(part),
+        send: Transmission::SendBlock(block_out(o)),
         progress,
-        end: End::NotEnded,
+        ..nothing_changes(Master::Waiting(o))
     }
 }
 
 // The block is sent again, or the opening fails.
+#[tactic(auto, unfolding(master::specs::Master::resend_of))]
 pub(crate) fn resend(o: Outstanding) -> MasterActed
     ensures { result ≡ resend_of o }
 {
@@ -97,16 +83,14 @@ pub(crate) fn resend(o: Outstanding) -> MasterActed
         return answer(Master::Closed(o.count), Transmission::SendEot, End::Failed);
     }
     let again = Outstanding {
-        message_length: o.message_length,
-        block_size: o.block_size,
-        offset: o.offset,
         resends: o.resends + 1,
-        count: o.count,
+        ..o
     };
     send_out(Progress::NoProgress, again)
 }
 
 // The next block, or the message is done.
+#[tactic(auto, using(fragments::proofs::Fragments::ends_before), unfolding(master::specs::Master::acknowledged_of))]
 fn go_on(o: Outstanding) -> MasterActed
     requires { o.count < greatest_word }
     ensures { result ≡ acknowledged_of o }
@@ -114,43 +98,39 @@ fn go_on(o: Outstanding) -> MasterActed
     let extent = fragments::extent_at(o.message_length, o.block_size, o.offset);
     if extent.last {
         return MasterActed {
-            refusal: 0,
-            master: Master::Idle(o.count + 1),
-            send: Transmission::Nothing,
             progress: Progress::Done,
-            end: End::NotEnded,
+            ..nothing_changes(Master::Idle(o.count + 1))
         };
     }
     let next = Outstanding {
-        message_length: o.message_length,
-        block_size: o.block_size,
         offset: o.offset + o.block_size,
         resends: 0,
         count: o.count + 1,
+        ..o
     };
     send_out(Progress::Acknowledged, next)
 }
 
 // The block out is accepted. What could not be counted is not taken.
+#[tactic(auto, unfolding(master::specs::Master::accepted_of))]
 pub(crate) fn accept(o: Outstanding) -> MasterActed
     ensures { result ≡ accepted_of o }
 {
-    if o.count == GREATEST_WORD {
+    if o.count == u64::MAX {
         return nothing_changes(Master::Waiting(o));
     }
     go_on(o)
 }
 
 // ACK with any number, while a block is out.
+#[tactic(auto, unfolding(master::specs::Master::ack_of))]
 pub(crate) fn take_ack(n: u64, o: Outstanding) -> MasterActed
     ensures { result ≡ ack_of n o }
 {
     let number = block_number(o.count);
-    if n == number {
-        return accept(o);
+    match n {
+        _ if n == number => accept(o),
+        _ if station_calls::precedes(n, number) => resend(o),
+        _ => nothing_changes(Master::Waiting(o)),
     }
-    if station_calls::precedes(n, number) {
-        return resend(o);
-    }
-    nothing_changes(Master::Waiting(o))
 }

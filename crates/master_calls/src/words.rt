@@ -1,167 +1,124 @@
 // A master and its answer as words.
-ghost use Rattle.std.specs.Prelude.{◌≡◌, [], ◌∷◌, ◌≤◌, length, get_or};
+ghost use Rattle.std.specs.Prelude.{◌≡◌, ◌≤◌, length, cond, Some, None};
 ghost use Rattle.lists.specs.Bytes.{over};
-ghost use Rattle.master.specs.MasterCalls.{master_words, no_message, flag_word, reversal_words, state_words, known_reversal, reversal_in, known_if, master_in, response_of, ending_word, transmission_words, progress_words, end_word, count_words, master_report};
+ghost use Rattle.master.specs.MasterCalls.{master_words, reversal_words, state_words, known_reversal, reversal_in, known_if, master_in, response_of, ending_word, transmission_words, progress_words, count_words, master_report};
 
 use crate::reversals::fits;
 use master::{
-    DecodedMaster, DecodedResponse, End, Master, MasterActed, MasterState, Outstanding, Progress,
-    Response, Reversal, Transmission,
+    End, Master, MasterActed, MasterState, Outstanding, Progress, Response, Reversal, Transmission,
 };
 use station::Ending;
 
-// Writes over the first six words.
-fn write_six(
-    words: &mut [u64],
-    phase: u64,
-    extent: u64,
-    size: u64,
-    offset: u64,
-    resends: u64,
-    count: u64,
-)
-    requires { 6 ≤ length words.old }
-    ensures { words.new ≡ over words.old (phase ∷ extent ∷ size ∷ offset ∷ resends ∷ count ∷ []) }
-{
-    words[0] = phase;
-    words[1] = extent;
-    words[2] = size;
-    words[3] = offset;
-    words[4] = resends;
-    words[5] = count;
-}
-
-fn write_base(words: &mut [u64], master: Master)
-    requires { 6 ≤ length words.old }
-    ensures { words.new ≡ over words.old (master_words master) }
+fn master_words(master: Master) -> [u64; 6]
+    ensures { result ≡ master_words master }
 {
     match master {
-        Master::Closed(count) => write_six(words, 0, 0, 0, 0, 0, count),
-        Master::Idle(count) => write_six(words, 1, 0, 0, 0, 0, count),
-        Master::Waiting(o) => write_six(
-            words,
+        Master::Closed(count) => [0, 0, 0, 0, 0, count],
+        Master::Idle(count) => [1, 0, 0, 0, 0, count],
+        Master::Waiting(o) => [
             2,
             o.message_length,
             o.block_size,
             o.offset,
             o.resends,
             o.count,
-        ),
+        ],
     }
 }
 
-fn flag_word(flag: bool) -> u64
-    ensures { result ≡ flag_word flag }
+fn reversal_words(v: Reversal) -> [u64; 4]
+    ensures { result ≡ reversal_words v }
 {
-    if flag {
-        return 1;
-    }
-    0
-}
-
-// Writes over the first four words.
-fn write_reversal(words: &mut [u64], v: Reversal)
-    requires { 4 ≤ length words.old }
-    ensures { words.new ≡ over words.old (reversal_words v) }
-{
-    let kind = v.last;
-    words[0] = station_calls::kind_word(kind);
-    words[1] = flag_word(v.interrupted);
-    words[2] = flag_word(v.enquired);
-    words[3] = flag_word(v.may_receive);
+    [
+        station_calls::kind_word(v.last),
+        u64::from(v.interrupted),
+        u64::from(v.enquired),
+        u64::from(v.may_receive),
+    ]
 }
 
 // Writes over the first ten words.
+#[tactic(auto, unfolding(lists::specs::Bytes::over))]
 pub(crate) fn write_master(words: &mut [u64], master: Master, v: Reversal)
     requires { 10 ≤ length words.old }
     ensures { words.new ≡ over words.old (state_words master v) }
 {
-    write_base(words, master);
-    write_reversal(&mut words[6..], v);
+    words[..6].copy_from_slice(&master_words(master));
+    words[6..10].copy_from_slice(&reversal_words(v));
 }
 
-fn no_message(words: &[u64]) -> bool
-    requires { 6 ≤ length words.now }
-    ensures { result ≡ no_message words.now }
-{
-    (words[1] == 0) & ((words[2] == 0) & ((words[3] == 0) & (words[4] == 0)))
-}
-
-fn known_reversal(words: &[u64]) -> bool
+fn read_reversal(words: &[u64]) -> Option<Reversal>
     requires { 10 ≤ length words.now }
-    ensures { result ≡ known_reversal words.now }
+    ensures { result ≡ cond (known_reversal words.now) (Some (reversal_in words.now)) None }
 {
-    let kind = station_calls::is_kind(words[6]);
-    kind & ((words[7] <= 1) & ((words[8] <= 1) & (words[9] <= 1)))
-}
-
-fn read_reversal(words: &[u64]) -> Reversal
-    requires { 10 ≤ length words.now }
-    ensures { result ≡ reversal_in words.now }
-{
-    Reversal {
-        last: station_calls::kind_in(words[6]),
-        interrupted: words[7] == 1,
-        enquired: words[8] == 1,
-        may_receive: words[9] == 1,
+    let &[
+        _,
+        _,
+        _,
+        _,
+        _,
+        _,
+        last,
+        interrupted,
+        enquired,
+        may_receive,
+        ..
+    ] = words
+    else {
+        unreachable!();
+    };
+    if !station_calls::is_kind(last) || 1 < interrupted || 1 < enquired || 1 < may_receive {
+        return None;
     }
+    Some(Reversal {
+        last: station_calls::kind_in(last),
+        interrupted: interrupted == 1,
+        enquired: enquired == 1,
+        may_receive: may_receive == 1,
+    })
 }
 
-fn known_if(words: &[u64], master: Master) -> DecodedMaster
+fn known_if(words: &[u64], master: Master) -> Option<MasterState>
     requires { 10 ≤ length words.now }
     ensures { result ≡ known_if words.now master }
 {
-    let reversal = read_reversal(words);
-    if known_reversal(words) & fits(master, reversal) {
-        return DecodedMaster::Known(MasterState { master, reversal });
-    }
-    DecodedMaster::Unknown
+    let reversal = read_reversal(words)?;
+    fits(master, reversal).then_some(MasterState { master, reversal })
 }
 
-pub(crate) fn read_master(words: &[u64]) -> DecodedMaster
+#[tactic(auto, unfolding(master::specs::MasterCalls::master_in))]
+pub(crate) fn read_master(words: &[u64]) -> Option<MasterState>
     requires { 10 ≤ length words.now }
     ensures { result ≡ master_in words.now }
 {
-    let phase = words[0];
-    if phase == 2 {
-        let waiting = Outstanding {
-            message_length: words[1],
-            block_size: words[2],
-            offset: words[3],
-            resends: words[4],
-            count: words[5],
-        };
-        return known_if(words, Master::Waiting(waiting));
+    match *words {
+        [2, message_length, block_size, offset, resends, count, ..] => {
+            let waiting = Outstanding {
+                message_length,
+                block_size,
+                offset,
+                resends,
+                count,
+            };
+            known_if(words, Master::Waiting(waiting))
+        }
+        [1, 0, 0, 0, 0, count, ..] => known_if(words, Master::Idle(count)),
+        [0, 0, 0, 0, 0, count, ..] => known_if(words, Master::Closed(count)),
+        _ => None,
     }
-    let none = no_message(words);
-    if (phase == 1) & none {
-        return known_if(words, Master::Idle(words[5]));
-    }
-    if (phase == 0) & none {
-        return known_if(words, Master::Closed(words[5]));
-    }
-    DecodedMaster::Unknown
 }
 
-pub(crate) fn response_of(code: u64, number: u64) -> DecodedResponse
+pub(crate) fn response_of(code: u64, number: u64) -> Option<Response>
     ensures { result ≡ response_of code number }
 {
-    if code == 1 {
-        return DecodedResponse::Known(Response::Ack(number));
+    match code {
+        1 => Some(Response::Ack(number)),
+        2 => Some(Response::Nak),
+        3 => Some(Response::Eot),
+        4 => Some(Response::Damaged),
+        5 => Some(Response::Rint),
+        _ => None,
     }
-    if code == 2 {
-        return DecodedResponse::Known(Response::Nak);
-    }
-    if code == 3 {
-        return DecodedResponse::Known(Response::Eot);
-    }
-    if code == 4 {
-        return DecodedResponse::Known(Response::Damaged);
-    }
-    if code == 5 {
-        return DecodedResponse::Known(Response::Rint);
-    }
-    DecodedResponse::Unknown
 }
 
 fn ending_word(ending: Ending) -> u64
@@ -173,133 +130,68 @@ fn ending_word(ending: Ending) -> u64
     }
 }
 
-fn send_word(send: Transmission) -> u64
-    ensures { result ≡ get_or (transmission_words send) 0 0 }
+fn transmission_words(send: Transmission) -> [u64; 5]
+    ensures { result ≡ transmission_words send }
 {
     match send {
-        Transmission::Nothing => 0,
-        Transmission::SendBlock(_) => 1,
-        Transmission::SendEot => 2,
-        Transmission::SendEnq => 3,
+        Transmission::Nothing => [0, 0, 0, 0, 0],
+        Transmission::SendBlock(part) => [
+            1,
+            part.number,
+            ending_word(part.ending),
+            part.offset,
+            part.length,
+        ],
+        Transmission::SendEot => [2, 0, 0, 0, 0],
+        Transmission::SendEnq => [3, 0, 0, 0, 0],
     }
 }
 
-fn number_word(send: Transmission) -> u64
-    ensures { result ≡ get_or (transmission_words send) 1 0 }
-{
-    match send {
-        Transmission::Nothing => 0,
-        Transmission::SendBlock(part) => part.number,
-        Transmission::SendEot => 0,
-        Transmission::SendEnq => 0,
-    }
-}
-
-fn ended_word(send: Transmission) -> u64
-    ensures { result ≡ get_or (transmission_words send) 2 0 }
-{
-    match send {
-        Transmission::Nothing => 0,
-        Transmission::SendBlock(part) => {
-            let ending = part.ending;
-            ending_word(ending)
-        }
-        Transmission::SendEot => 0,
-        Transmission::SendEnq => 0,
-    }
-}
-
-fn offset_word(send: Transmission) -> u64
-    ensures { result ≡ get_or (transmission_words send) 3 0 }
-{
-    match send {
-        Transmission::Nothing => 0,
-        Transmission::SendBlock(part) => part.offset,
-        Transmission::SendEot => 0,
-        Transmission::SendEnq => 0,
-    }
-}
-
-fn length_word(send: Transmission) -> u64
-    ensures { result ≡ get_or (transmission_words send) 4 0 }
-{
-    match send {
-        Transmission::Nothing => 0,
-        Transmission::SendBlock(part) => part.length,
-        Transmission::SendEot => 0,
-        Transmission::SendEnq => 0,
-    }
-}
-
-fn acknowledged_word(progress: Progress) -> u64
-    ensures { result ≡ get_or (progress_words progress) 0 0 }
+fn progress_words(progress: Progress) -> [u64; 2]
+    ensures { result ≡ progress_words progress }
 {
     match progress {
-        Progress::NoProgress => 0,
-        Progress::Acknowledged => 1,
-        Progress::Done => 1,
+        Progress::NoProgress => [0, 0],
+        Progress::Acknowledged => [1, 0],
+        Progress::Done => [1, 1],
     }
 }
 
-fn done_word(progress: Progress) -> u64
-    ensures { result ≡ get_or (progress_words progress) 1 0 }
-{
-    match progress {
-        Progress::NoProgress => 0,
-        Progress::Acknowledged => 0,
-        Progress::Done => 1,
-    }
-}
-
-fn end_word(end: End) -> u64
-    ensures { result ≡ end_word end }
-{
-    match end {
-        End::NotEnded => 0,
-        End::Failed => 1,
-        End::BySlave => 2,
-        End::ByDriver => 3,
-        End::Reversed => 4,
-    }
-}
-
-fn count_word(master: Master) -> u64
-    ensures { result ≡ get_or (count_words master) 0 0 }
+fn count_words(master: Master) -> [u64; 2]
+    ensures { result ≡ count_words master }
 {
     match master {
-        Master::Closed(count) => count,
-        Master::Idle(count) => count,
-        Master::Waiting(o) => o.count,
+        Master::Closed(count) | Master::Idle(count) => [count, 0],
+        Master::Waiting(o) => [o.count, o.resends],
     }
 }
 
-fn resends_word(master: Master) -> u64
-    ensures { result ≡ get_or (count_words master) 1 0 }
+fn report_words(acted: MasterActed) -> [u64; 10]
+    ensures { result ≡ master_report acted }
 {
-    match master {
-        Master::Closed(_) => 0,
-        Master::Idle(_) => 0,
-        Master::Waiting(o) => o.resends,
-    }
+    let [send, number, ending, offset, length] = transmission_words(acted.send);
+    let [acknowledged, done] = progress_words(acted.progress);
+    let end = acted.end as u64;
+    let [count, resends] = count_words(acted.master);
+    [
+        send,
+        number,
+        ending,
+        offset,
+        length,
+        acknowledged,
+        done,
+        end,
+        count,
+        resends,
+    ]
 }
 
 // Writes over the first ten words.
+#[tactic(auto, unfolding(lists::specs::Bytes::over))]
 pub(crate) fn write_report(words: &mut [u64], acted: MasterActed)
     requires { 10 ≤ length words.old }
     ensures { words.new ≡ over words.old (master_report acted) }
 {
-    let send = acted.send;
-    let progress = acted.progress;
-    let end = acted.end;
-    let master = acted.master;
-    words[0] = send_word(send);
-    words[1] = number_word(send);
-    words[2] = ended_word(send);
-    words[3] = offset_word(send);
-    words[4] = length_word(send);
-    words[5] = acknowledged_word(progress);
-    words[6] = done_word(progress);
-    words[7] = end_word(end);
-    words[8] = count_word(master);
-    words[9] = resends_word(master);
+    words[..10].copy_from_slice(&report_words(acted));
 }

@@ -1,4 +1,3 @@
 pub mod MessageCalls
 pub mod FieldCalls
 pub mod ControlCalls
-pub mod Internal

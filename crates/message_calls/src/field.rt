@@ -1,12 +1,12 @@
 // What the C function of the field reader does, on slices: the words are looked at, the reader is asked, and its answer is
 // written into the words.
-ghost use Rattle.std.specs.Prelude.{◌≡◌, [], ◌≤◌, length};
-ghost use Rattle.lists.specs.Bytes.{over};
+ghost use Rattle.std.specs.Prelude.{◌≡◌, []};
 ghost use Rattle.lists.specs.Outcome.{called};
-ghost use Rattle.message_calls.specs.FieldCalls.{delimiter_word, field_words, next_call};
+ghost use Rattle.refusal.specs.Refusal.{number_of, answer_by};
+ghost use Rattle.message_calls.specs.FieldCalls.{delimiter_word, next_call};
 
-use field_reader::{Delimiter, NextField};
-use fields::Field;
+use field_reader::Delimiter;
+use refusal::Refusal;
 
 fn delimiter_word(delimiter: Delimiter) -> u64
     ensures { result ≡ delimiter_word delimiter }
@@ -18,35 +18,24 @@ fn delimiter_word(delimiter: Delimiter) -> u64
     }
 }
 
-// Writes over the first five words.
-fn write_field(words: &mut [u64], found: u64, field: Field, delimiter: u64, position: usize)
-    requires { 5 ≤ length words.old }
-    ensures { words.new ≡ over words.old (field_words found field delimiter position) }
-{
-    words[0] = found;
-    words[1] = field.start as u64;
-    words[2] = field.length as u64;
-    words[3] = delimiter;
-    words[4] = position as u64;
-}
-
 // The next field from `position` on.
-pub fn next_field_words(message: &[u8], position: usize, words: &mut [u64]) -> u64
-    ensures { called result [] [] words.new ≡ next_call message.now position words.old }
+#[tactic(auto, unfolding(crate::specs::FieldCalls::next_call, lists::specs::Bytes::over))]
+pub fn next_field_words(message: &[u8], position: usize, words: &mut [u64]) -> Result<(), Refusal>
+    ensures { (called (number_of result) [] [] words.new ≡ next_call message.now position words.old) × (result ≡ answer_by (number_of result)) }
 {
     if words.len() < 5 {
-        return refusal::TOO_SHORT;
+        return Err(Refusal::TOO_SHORT);
     }
-    let NextField::Found(field, delimiter, after) = field_reader::next_field(message, position)
-    else {
-        let nothing = Field {
-            start: 0,
-            length: 0,
-        };
-        write_field(words, 0, nothing, 0, position);
-        return 0;
+    let next = match field_reader::next_field(message, position) {
+        None => [0, 0, 0, 0, position as u64],
+        Some(found) => [
+            1,
+            found.field.start as u64,
+            found.field.length as u64,
+            delimiter_word(found.delimiter),
+            found.after as u64,
+        ],
     };
-    let ended = delimiter_word(delimiter);
-    write_field(words, 1, field, ended, after);
-    0
+    words[..5].copy_from_slice(&next);
+    Ok(())
 }

@@ -10,20 +10,5 @@ mod write;
 
 pub use control::control_block_words;
 pub use field::next_field_words;
-use header::Code;
-use messages::Control;
 pub use read::{read_answer_words, read_header_words};
 pub use write::{write_answer_words, write_control_words};
-
-// What a number from C stands for.
-#[derive(Clone, Copy)]
-pub enum CodeMade {
-    Unknown,
-    Known(Code),
-}
-
-#[derive(Clone, Copy)]
-pub enum ControlMade {
-    Unknown,
-    Known(Control),
-}

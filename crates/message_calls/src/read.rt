@@ -1,20 +1,21 @@
 // Reading the fields of a message.
-ghost use Rattle.std.specs.Prelude.{◌≡◌, [], ◌≤◌, length};
-ghost use Rattle.lists.specs.Bytes.{over};
+ghost use Rattle.std.specs.Prelude.{◌≡◌, []};
 ghost use Rattle.lists.specs.Outcome.{called};
-ghost use Rattle.message_calls.specs.MessageCalls.{kind_of, word_of, value_of, code_word, header_words, answer_words, header_call, answer_call};
+ghost use Rattle.refusal.specs.Refusal.{number_of, answer_by};
+ghost use Rattle.message_calls.specs.MessageCalls.{kind_of, word_of, value_of, code_word, header_call, answer_call};
 
-use fields::{Field, field_content};
-use header::{Acknowledgment, Code, CodeField, Header};
-use numbers::{NumberField, SequenceNumber, read_number};
+use fields::field_content;
+use header::Code;
+use numbers::{NumberError, SequenceNumber, read_number};
+use refusal::Refusal;
 
-fn kind_of(field: NumberField) -> u64
+fn kind_of(field: Result<SequenceNumber, NumberError>) -> u64
     ensures { result ≡ kind_of field }
 {
     match field {
-        NumberField::Missing => 0,
-        NumberField::NotNumber => 1,
-        NumberField::Present(_) => 2,
+        Err(NumberError::Missing) => 0,
+        Err(NumberError::NotNumber) => 1,
+        Ok(_) => 2,
     }
 }
 
@@ -27,103 +28,66 @@ fn word_of(number: SequenceNumber) -> u64
     }
 }
 
-fn value_of(field: NumberField) -> u64
+fn value_of(field: Result<SequenceNumber, NumberError>) -> u64
     ensures { result ≡ value_of field }
 {
-    match field {
-        NumberField::Missing => 0,
-        NumberField::NotNumber => 0,
-        NumberField::Present(number) => word_of(number),
-    }
+    field.map_or(0, word_of)
 }
 
-fn code_number(code: Code) -> u64
-    ensures { result ≡ code_word (CodeField.Known code) }
-{
-    match code {
-        Code::AA => 1,
-        Code::AE => 2,
-        Code::AR => 3,
-    }
-}
-
-fn code_word(field: CodeField) -> u64
+fn code_word(field: Option<Code>) -> u64
     ensures { result ≡ code_word field }
 {
-    match field {
-        CodeField::Other => 0,
-        CodeField::Known(code) => code_number(code),
-    }
-}
-
-fn write_header(words: &mut [u64], control_id: Field, sequence: Field, number: NumberField)
-    requires { 6 ≤ length words.old }
-    ensures { words.new ≡ over words.old (header_words control_id sequence number) }
-{
-    words[0] = control_id.start as u64;
-    words[1] = control_id.length as u64;
-    words[2] = sequence.start as u64;
-    words[3] = sequence.length as u64;
-    words[4] = kind_of(number);
-    words[5] = value_of(number);
+    field.map_or(0, |code| code as u64 + 1)
 }
 
 // MSH-10 and MSH-13.
-pub fn read_header_words(message: &[u8], words: &mut [u64]) -> u64
-    ensures { called result [] [] words.new ≡ header_call message.now words.old }
+#[tactic(auto, unfolding(crate::specs::MessageCalls::header_call, lists::specs::Bytes::over))]
+pub fn read_header_words(message: &[u8], words: &mut [u64]) -> Result<(), Refusal>
+    ensures { (called (number_of result) [] [] words.new ≡ header_call message.now words.old) × (result ≡ answer_by (number_of result)) }
 {
     if words.len() < 6 {
-        return refusal::TOO_SHORT;
+        return Err(Refusal::TOO_SHORT);
     }
-    let Header::Readable(control_id, sequence) = header::read_header(message) else {
-        return refusal::HEAD;
-    };
+    let header = header::read_header(message).ok_or(Refusal::HEAD)?;
     let number = read_number(
-        field_content(message, sequence),
+        field_content(message, header.sequence),
         SequenceNumber::GREATEST_SENT,
     );
-    write_header(words, control_id, sequence, number);
-    0
-}
-
-fn write_acknowledgment(
-    words: &mut [u64],
-    code: Field,
-    read: CodeField,
-    control_id: Field,
-    expected: Field,
-    number: NumberField,
-)
-    requires { 9 ≤ length words.old }
-    ensures { words.new ≡ over words.old (answer_words code read control_id expected number) }
-{
-    words[0] = code.start as u64;
-    words[1] = code.length as u64;
-    words[2] = code_word(read);
-    words[3] = control_id.start as u64;
-    words[4] = control_id.length as u64;
-    words[5] = expected.start as u64;
-    words[6] = expected.length as u64;
-    words[7] = kind_of(number);
-    words[8] = value_of(number);
+    words[..6].copy_from_slice(&[
+        header.control_id.start as u64,
+        header.control_id.length as u64,
+        header.sequence.start as u64,
+        header.sequence.length as u64,
+        kind_of(number),
+        value_of(number),
+    ]);
+    Ok(())
 }
 
 // MSA-1, MSA-2 and MSA-4.
-pub fn read_answer_words(message: &[u8], words: &mut [u64]) -> u64
-    ensures { called result [] [] words.new ≡ answer_call message.now words.old }
+#[tactic(auto, unfolding(crate::specs::MessageCalls::answer_call, lists::specs::Bytes::over))]
+pub fn read_answer_words(message: &[u8], words: &mut [u64]) -> Result<(), Refusal>
+    ensures { (called (number_of result) [] [] words.new ≡ answer_call message.now words.old) × (result ≡ answer_by (number_of result)) }
 {
     if words.len() < 9 {
-        return refusal::TOO_SHORT;
+        return Err(Refusal::TOO_SHORT);
     }
-    let Acknowledgment::Readable(code, control_id, expected) = header::read_acknowledgment(message)
-    else {
-        return refusal::HEAD;
-    };
-    let read = header::read_code(field_content(message, code));
+    let answer = header::read_acknowledgment(message).ok_or(Refusal::HEAD)?;
+    let code = header::read_code(field_content(message, answer.code));
     let number = read_number(
-        field_content(message, expected),
+        field_content(message, answer.expected),
         SequenceNumber::GREATEST_EXPECTED,
     );
-    write_acknowledgment(words, code, read, control_id, expected, number);
-    0
+    words[..9].copy_from_slice(&[
+        answer.code.start as u64,
+        answer.code.length as u64,
+        code_word(code),
+        answer.control_id.start as u64,
+        answer.control_id.length as u64,
+        answer.expected.start as u64,
+        answer.expected.length as u64,
+        kind_of(number),
+        value_of(number),
+    ]);
+    Ok(())
 }

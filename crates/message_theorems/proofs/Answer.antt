@@ -1,4 +1,5 @@
 -- What the answer writer wrote reads back, and is data that fits into a block.
+use Rattle.std.specs.Prelude.{Some}
 use mathlib.Core.Path.{◌≡◌, refl, ap, ◌∙◌}
 use mathlib.Core.List.{List, [], ◌∷◌, ◌++◌, append_assoc}
 use mathlib.Core.Bool.{true, false, not, ◌&&◌}
@@ -16,8 +17,6 @@ use Rattle.fields.proofs.Joined.{Each}
 use Rattle.header.specs.Header.{begins, answer_field, readable_header, readable_answer, acknowledgment_of, code_field}
 use Rattle.header.specs.declared.Code.{Code}
 use Rattle.header.specs.declared.Code.TheVariants.{AA, AE, AR}
-use Rattle.header.specs.declared.CodeField.TheVariants.{Known}
-use Rattle.header.specs.declared.Acknowledgment.TheVariants.{Readable}
 use Rattle.numbers.specs.Numbers.{number_field, greatest_expected, text_of}
 use Rattle.numbers.specs.declared.SequenceNumber.{SequenceNumber}
 use Rattle.numbers.specs.declared.SequenceNumber.TheVariants.{MinusOne, Number}
@@ -59,7 +58,7 @@ code_allowed AA = refl
 code_allowed AE = refl
 code_allowed AR = refl
 
-code_back : (code : Code) → code_field (code_text code) ≡ Known code
+code_back : (code : Code) → code_field (code_text code) ≡ Some code
 unfolding code_field same
 code_back AA = refl
 code_back AE = refl
@@ -137,6 +136,6 @@ module _ (id : List ℕ) (code : Code) (n : SequenceNumber) where
 
 -- what reads as an answer is one to the reader
 pub answer_acknowledges : (m : List ℕ) (code : Code) (id : List ℕ) (n : SequenceNumber) → ReadsAnswer m code id n
-    → acknowledgment_of m ≡ Readable (answer_field 1 m) (answer_field 2 m) (answer_field 4 m)
+    → acknowledgment_of m ≡ Some (record { code = answer_field 1 m; control_id = answer_field 2 m; expected = answer_field 4 m })
 unfolding acknowledgment_of
 answer_acknowledges m code id n r = rw r.readable

@@ -1,4 +1,5 @@
 -- What the writer of control messages wrote reads back, and is data that fits into a block.
+use Rattle.std.specs.Prelude.{Some}
 use mathlib.Core.Path.{◌≡◌, refl, ap, ◌∙◌}
 use mathlib.Core.List.{List, [], ◌∷◌, ◌++◌, append_assoc}
 use mathlib.Core.Bool.{true, false}
@@ -16,7 +17,6 @@ use Rattle.fields.specs.Fields.{bar}
 use Rattle.fields.specs.Joined.{joined_fields}
 use Rattle.fields.proofs.Joined.{Each}
 use Rattle.header.specs.Header.{begins, control_id_field, sequence_field, header_of}
-use Rattle.header.specs.declared.Header.TheVariants.{Readable}
 use Rattle.numbers.specs.Numbers.{number_field, greatest_sent, text_of}
 use Rattle.numbers.specs.declared.SequenceNumber.{SequenceNumber}
 use Rattle.numbers.proofs.Reading.{is_within, text_back, text_no_end, text_least, text_allowed, number_most}
@@ -118,6 +118,6 @@ control_length t Resynchronize = omega (arith, length_resynchronize t)
 control_length t Query = omega (arith, length_query t)
 
 -- what reads as a control message has a header to the reader
-pub control_header : (m : List ℕ) (n : SequenceNumber) → ReadsControl m n → header_of m ≡ Readable (control_id_field m) (sequence_field m)
+pub control_header : (m : List ℕ) (n : SequenceNumber) → ReadsControl m n → header_of m ≡ Some (record { control_id = control_id_field m; sequence = sequence_field m })
 unfolding header_of
 control_header m n r = rw r.readable

@@ -1,5 +1,6 @@
 -- What the reader hands out can stand in an answer, so the answer writer takes the control ID of every message from an accepted block.
-use mathlib.Core.Path.{◌≡◌}
+use Rattle.std.specs.Prelude.{Option, Some, None}
+use mathlib.Core.Path.{◌≡◌, ap}
 use mathlib.Core.List.{List}
 use mathlib.Core.Bool.{true, false, ◌&&◌}
 use Prim.Native.Nat.{ℕ, ◌+◌, ◌≤◌}
@@ -18,7 +19,6 @@ use Rattle.fields.specs.declared.Field.{Field}
 use Rattle.header.specs.Header.{begins, ended, control_id_field, sequence_field, readable_header, header_of}
 use Rattle.header.specs.declared.Code.{Code}
 use Rattle.header.specs.declared.Header.{Header}
-use Rattle.header.specs.declared.Header.TheVariants.{Unreadable, Readable}
 use Rattle.numbers.specs.declared.SequenceNumber.{SequenceNumber}
 use Rattle.messages.specs.Messages.{answer_message, valid_control_id, answerable}
 use Rattle.messages.specs.Write.{write_answer_of}
@@ -44,15 +44,18 @@ unfolding valid_control_id
 handed_out m h = rw (bytes-length m 9, id_length_lem m h, field_free m 0 9)
 
 -- the same of the field in the reader's answer
-pub handed_out_read : (m : List ℕ) (id sequence : Field) → header_of m ≡ Readable id sequence → valid_control_id (bytes_of id m) ≡ true
+pub handed_out_read : (m : List ℕ) (id sequence : Field) → header_of m ≡ Some (record { control_id = id; sequence = sequence }) → valid_control_id (bytes_of id m) ≡ true
 unfolding header_of
 handed_out_read m id sequence =
-    cond_ind (λ (r : Header). r ≡ Readable id sequence → valid_control_id (bytes_of id m) ≡ true) (readable_header m)
-    (Readable (control_id_field m) (sequence_field m)) Unreadable
-    (λ h e. let i : control_id_field m ≡ id = cc in rw (← i) (handed_out m h))
+    cond_ind (λ (r : Option Header). r ≡ Some (record { control_id = id; sequence = sequence }) → valid_control_id (bytes_of id m) ≡ true) (readable_header m)
+    (Some (record { control_id = control_id_field m; sequence = sequence_field m })) None
+    (λ h e.
+    let j : ◌≡◌ {A = Header} (record { control_id = control_id_field m; sequence = sequence_field m }) (record { control_id = id; sequence = sequence }) = cc in
+    let i : control_id_field m ≡ id = ap (λ (z : Header). z.control_id) j in
+    rw (← i) (handed_out m h))
     (λ h e. absurd (unread id sequence e))
   where
-    unread : (id sequence : Field) → Unreadable ≡ Readable id sequence → ⊥
+    unread : (id sequence : Field) → ◌≡◌ {A = Option Header} None (Some (record { control_id = id; sequence = sequence })) → ⊥
     unread id sequence e = let z : ◌≡◌ {A = ℕ} 0 1 = cc in omega arith
 
 -- "Data bytes are 20 to 7E and CR.": and so are the bytes of every field of data

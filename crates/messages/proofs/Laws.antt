@@ -1,31 +1,25 @@
 -- Pieces written one after the other, and which control IDs and letters are taken.
+use Rattle.refusal.specs.Refusal.{refused_by}
+use Rattle.std.specs.Prelude.{Some, None}
 use mathlib.Core.Path.{◌≡◌, refl, sym, ap, ◌∙◌}
-use mathlib.Core.List.{List, [], ◌∷◌, ◌++◌}
+use mathlib.Core.List.{List, [], ◌∷◌, ◌++◌, append_assoc}
 use mathlib.Core.Bool.{Bool, true, false, not, ◌&&◌, ◌||◌, true≢false}
 use Prim.Native.Nat.compare
-use Prim.Native.Nat.{ℕ, suc, ◌+◌, ◌-◌, ◌≤◌, ◌<◌, ◌/◌}
+use Prim.Native.Nat.{ℕ, suc, ◌+◌, ◌≤◌, ◌<◌}
 use native.Mathlib.Omega.{arith}
 use native.Mathlib.Nat.{add_assoc}
-use native.Mathlib.Numerals.{add-one}
-use native.Mathlib.Decide.{dec_le}
-use lib.ListN.{length, take, set, get_or, length-append}
-use lib.Seq.{length-take-le, take-length, take-suc}
+use lib.ListN.{length, get_or, length-append}
+use Rattle.std.specs.List.{list_all}
 use lib.Dec.{leb, ltb, eqb}
-use borrow.Author.Tests.{le-leb, lt-leb, lt-ltb, le-ltb, eq-eqb, ne_eqb, eqb-true, not-true, not-false}
+use borrow.Author.Tests.{lt-leb, lt-ltb, le-ltb, eq-eqb, ne_eqb, eqb-true, not-true, not-false}
 use Rattle.lists.specs.Bytes.{put, has_any, all}
-use Rattle.lists.proofs.Put.{put_none, put-put, set-put, length-put}
-use Rattle.refusal.specs.declared.Written.TheVariants.{Refused}
+use Rattle.lists.proofs.Put.{put-put, length-put}
 use Rattle.settings.specs.Settings.{allowed}
 use Rattle.settings.specs.DataBytes.{all_allowed, first_forbidden}
 use Rattle.fields.specs.Fields.{bar}
 use Rattle.messages.specs.Messages.{is_capital, valid_control_id, valid_type, message_type}
 use Rattle.messages.specs.Internal.{Puts, id_byte, id_refusal}
 use Rattle.messages.specs.declared.MessageType.{MessageType}
-use Rattle.messages.specs.declared.TypeMade.TheVariants.{Unknown, Known}
-
--- nothing written yet
-pub begun : (l : List ℕ) (a : ℕ) → Puts l a [] a l
-begun l a = record { next = omega arith; content = sym (put_none l a) }
 
 -- one piece more: vs stands from a on, and ws was written after it
 pub then : {l m n : List ℕ} {a at r : ℕ} (vs ws : List ℕ) → Puts l a vs at m → a + length vs ≤ length l → Puts m at ws r n → Puts l a (vs ++ ws) r n
@@ -41,19 +35,9 @@ then {l} {m} {n} {a} {at} {r} vs ws p h q =
 pub same_long : {l m : List ℕ} {a r : ℕ} (vs : List ℕ) → Puts l a vs r m → a + length vs ≤ length l → length m ≡ length l
 same_long {l} {m} {a} {r} vs p h = ap length p.content ∙ length-put l vs a h
 
--- one byte more of a piece
-pub piece_more : (l vs : List ℕ) (a i : ℕ) → a + length vs ≤ length l → i < length vs
-    → set (put l a (take i vs)) (a + i) (get_or vs i 0) ≡ put l a (take (i + 1) vs)
-piece_more l vs a i h m =
-    let n : length (take i vs) ≡ i = length-take-le i vs (omega arith) in
-    let k : length (put l a (take i vs)) ≡ length l = length-put l (take i vs) a (omega (arith, n)) in
-    set-put (put l a (take i vs)) (a + i) (get_or vs i 0) (omega (arith, k))
-    ∙ ap (λ (z : ℕ). put (put l a (take i vs)) (a + z) (get_or vs i 0 ∷ [])) (sym n)
-    ∙ put-put l (take i vs) (get_or vs i 0 ∷ []) a (omega (arith, n))
-    ∙ ap (λ (z : List ℕ). put l a z) (sym (ap (λ (j : ℕ). take j vs) (add-one i) ∙ take-suc vs i 0 m))
-
-pub piece_done : (l vs m : List ℕ) (a i : ℕ) → i ≡ length vs → m ≡ put l a (take i vs) → Puts l a vs (a + length vs) m
-piece_done l vs m a i e p = record { next = refl; content = p ∙ rw (e, take-length) }
+-- what is left of the fits_after after a piece
+pub fits_after : {l m : List ℕ} {a at : ℕ} (vs : List ℕ) (n : ℕ) → Puts l a vs at m → a + (length vs + n) ≤ length l → at + n ≤ length m
+fits_after vs n p h = omega (arith, p.next, same_long vs p (omega (arith, h)), h)
 
 -- which bytes a control ID may have
 byte_is : (s b c u v : Bool) → (c ≡ true → s ≡ false) → ((s && not b) && (u && not v)) ≡ (((s || c) && u) && not ((b || c) || v))
@@ -78,17 +62,17 @@ none_after true = refl
 none_after false = refl
 
 -- which control IDs can stand in a field
-pub id_short : (id : List ℕ) → length id < 1 → false ≡ (all_allowed id && valid_control_id id)
+pub id_size : (id : List ℕ) → (leb 1 (length id) && leb (length id) 20) ≡ false → false ≡ (all_allowed id && valid_control_id id)
 unfolding valid_control_id
-id_short id h = rw (lt-leb 1 (length id) h) (none_after (all_allowed id))
+id_size id h = rw h (none_after (all_allowed id))
 
-pub id_long : (id : List ℕ) → 1 ≤ length id → 20 < length id → false ≡ (all_allowed id && valid_control_id id)
-unfolding valid_control_id
-id_long id h l = rw (le-leb 1 (length id) h, lt-leb (length id) 20 l) (none_after (all_allowed id))
+list_all_is : (s : List ℕ) → list_all id_byte s ≡ all id_byte s
+list_all_is [] = refl
+list_all_is (x ∷ s) = rw (list_all_is s)
 
-pub id_free : (id : List ℕ) → 1 ≤ length id → length id ≤ 20 → all id_byte id ≡ (all_allowed id && valid_control_id id)
+pub id_free : (id : List ℕ) → (leb 1 (length id) && leb (length id) 20) ≡ true → list_all id_byte id ≡ (all_allowed id && valid_control_id id)
 unfolding valid_control_id
-id_free id h l = rw (le-leb 1 (length id) h, le-leb (length id) 20 l) (bytes_are id)
+id_free id h = rw (list_all_is id, h) (bytes_are id)
 
 -- why others are refused
 forbidden_some : (s : List ℕ) → ltb (first_forbidden s) (length s) ≡ not (all_allowed s)
@@ -101,34 +85,18 @@ forbidden_some (x ∷ xs) = go (allowed x) refl (forbidden_some xs)
     go false e h = rw e (lt-ltb 0 (suc (length xs)) (omega arith))
 
 module _ (id : List ℕ) (f : ℕ) (q : f ≡ first_forbidden id) where
-  pub refused_byte : f < length id → Refused 3 f ≡ id_refusal id
+  pub refused_byte : f < length id → refused_by 3 f ≡ id_refusal id
   refused_byte h =
       let e : all_allowed id ≡ false = not-true (all_allowed id) (sym (forbidden_some id) ∙ lt-ltb (first_forbidden id) (length id) (omega (arith, q))) in
       rw (e, q)
 
-  pub refused_header : length id ≤ f → Refused 9 0 ≡ id_refusal id
+  pub refused_header : length id ≤ f → refused_by 9 0 ≡ id_refusal id
   refused_header h =
       let e : all_allowed id ≡ true = not-false (all_allowed id) (sym (forbidden_some id) ∙ le-ltb (first_forbidden id) (length id) (omega (arith, q))) in
       rw e
 
--- how long the buffer must be
-pub answer_fits : (have start id d : ℕ) → start ≤ have → 38 ≤ have - start → d ≤ have - start - 38
-    → leb id ((have - start - 38 - d) / 2) ≡ leb (start + (38 + (d + (id + id)))) have
-answer_fits have start id d h k l = go (dec_le (start + (38 + (d + (id + id)))) have)
-  where
-    go : Dec (start + (38 + (d + (id + id))) ≤ have) → leb id ((have - start - 38 - d) / 2) ≡ leb (start + (38 + (d + (id + id)))) have
-    go (yes e) = le-leb id ((have - start - 38 - d) / 2) (omega arith) ∙ sym (le-leb (start + (38 + (d + (id + id)))) have e)
-    go (no e) = lt-leb id ((have - start - 38 - d) / 2) (omega arith) ∙ sym (lt-leb (start + (38 + (d + (id + id)))) have (omega arith))
-
-pub fits : (have start size : ℕ) → start ≤ have → leb size (have - start) ≡ leb (start + size) have
-fits have start size h = go (dec_le (start + size) have)
-  where
-    go : Dec (start + size ≤ have) → leb size (have - start) ≡ leb (start + size) have
-    go (yes e) = le-leb size (have - start) (omega arith) ∙ sym (le-leb (start + size) have e)
-    go (no e) = lt-leb size (have - start) (omega arith) ∙ sym (lt-leb (start + size) have (omega arith))
-
 -- three letters from outside
-pub letters_other : (s : List ℕ) → (length s ≡ 3 → ⊥) → Unknown ≡ message_type s
+pub letters_other : (s : List ℕ) → (length s ≡ 3 → ⊥) → None ≡ message_type s
 unfolding message_type
 letters_other s h = rw (ne_eqb (length s) 3 h)
 
@@ -147,10 +115,15 @@ module _ (s : List ℕ) (h : length s ≡ 3) where
       go (x ∷ y ∷ z ∷ []) h = refl
       go (x ∷ y ∷ z ∷ w ∷ r) h = absurd (omega arith)
 
-  pub letters_known : valid_type made ≡ true → Known made ≡ message_type s
+  pub letters_known : valid_type made ≡ true → Some made ≡ message_type s
   unfolding message_type
   letters_known v = rw (eq-eqb (length s) 3 h, all_three, v)
 
-  pub letters_unknown : valid_type made ≡ false → Unknown ≡ message_type s
+  pub letters_unknown : valid_type made ≡ false → None ≡ message_type s
   unfolding message_type
   letters_unknown v = rw (eq-eqb (length s) 3 h, all_three, v)
+
+pub ruleset letters = (letters_other, letters_known, letters_unknown)
+
+-- pieces written one after the other
+pub ruleset piece_cases = (put-put, length-put, length-append, append_assoc, fits_after)

@@ -1,16 +1,18 @@
 -- The messages, as the pieces in which they are written.
 use mathlib.Core.Path.{◌≡◌, refl}
 use mathlib.Core.List.{List, ◌++◌, append_assoc}
-use Prim.Native.Nat.{ℕ, ◌+◌}
+use Prim.Native.Nat.{ℕ, ◌+◌, ◌≤◌}
 use native.Mathlib.Omega.{arith}
 use lib.ListN.{length, length-append}
 use Rattle.lists.specs.Bytes.{bytes}
+use Rattle.messages.proofs.Laws.{fits_after}
 use Rattle.header.specs.declared.Code.{Code}
 use Rattle.header.specs.declared.Code.TheVariants.{AA, AE, AR}
 use Rattle.numbers.specs.Numbers.{text_of, decimal}
 use Rattle.numbers.specs.declared.SequenceNumber.{SequenceNumber}
 use Rattle.messages.specs.Messages.{code_text, answer_message, control_message, type_text}
 use Rattle.messages.specs.Internal.{header_pieces, answer_pieces}
+use Rattle.messages.specs.declared.Control.{Control}
 use Rattle.messages.specs.declared.Control.TheVariants.{Resynchronize, Query}
 use Rattle.messages.specs.declared.MessageType.{MessageType}
 
@@ -43,6 +45,10 @@ pub length_query : (t : MessageType) → length (control_message t Query) ≡ 31
 unfolding control_message decimal
 length_query t = refl
 
+pub length_control : (t : MessageType) (c : Control) → 31 ≤ length (control_message t c)
+length_control t Resynchronize = omega (arith, length_resynchronize t)
+length_control t Query = omega (arith, length_query t)
+
 -- the control messages with their numbers written out
 pub query_is : (t : MessageType) → bytes "MSH|^~\\&|||||||" ++ type_text t ++ bytes "|0|P|2.3.1|0\r" ≡ control_message t Query
 unfolding control_message decimal
@@ -51,3 +57,5 @@ query_is t = refl
 pub resynchronize_is : (t : MessageType) → bytes "MSH|^~\\&|||||||" ++ type_text t ++ bytes "|-1|P|2.3.1|-1\r" ≡ control_message t Resynchronize
 unfolding control_message
 resynchronize_is t = refl
+
+pub ruleset control_pieces = (fits_after, length_control, length_resynchronize, length_query)

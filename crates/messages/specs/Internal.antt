@@ -1,8 +1,8 @@
 -- What the contracts of the private functions cite. Nobody needs to believe these: no public function's contract cites them.
-use Rattle.std.specs.Prelude.{◌≡◌, List, ◌++◌, Bool, cond, not, ◌&&◌, ℕ, ◌+◌, length, leb, eqb}
+use Rattle.refusal.specs.Refusal.{refused_by}
+use Rattle.std.specs.Prelude.{◌≡◌, List, ◌++◌, Bool, cond, not, ◌&&◌, ℕ, ◌+◌, length, leb, eqb, Result}
 use Rattle.lists.specs.Bytes.{bytes, put}
-use Rattle.refusal.specs.declared.Written.{Written}
-use Rattle.refusal.specs.declared.Written.TheVariants.{Refused}
+use Rattle.refusal.specs.declared.Refusal.{Refusal}
 use Rattle.settings.specs.DataBytes.{all_allowed, first_forbidden}
 use Rattle.fields.specs.Fields.{bar}
 use Rattle.header.specs.declared.Code.{Code}
@@ -28,8 +28,8 @@ abbrev pub answer_pieces : List ℕ → SequenceNumber → List ℕ
 answer_pieces id n = id ++ bytes "||" ++ text_of n ++ bytes "\r"
 
 -- why a control ID is refused
-abbrev pub id_refusal : List ℕ → Written
-id_refusal id = cond (all_allowed id) (Refused 9 0) (Refused 3 (first_forbidden id))
+abbrev pub id_refusal : List ℕ → Result ℕ Refusal
+id_refusal id = cond (all_allowed id) (refused_by 9 0) (refused_by 3 (first_forbidden id))
 
 -- which bytes a control ID may have
 abbrev pub id_byte : ℕ → Bool

@@ -1,5 +1,5 @@
 -- Document 01, 'Header fields': the two messages that the library writes, byte for byte.
-use Rattle.std.specs.Prelude.{List, [], ◌∷◌, ◌++◌, Bool, true, not, ◌&&◌, ℕ, length, get_or, leb, eqb}
+use Rattle.std.specs.Prelude.{List, [], ◌∷◌, ◌++◌, Bool, true, not, ◌&&◌, ℕ, length, get_or, leb, eqb, Option, Some, None}
 use Prim.Native.Char.{code}
 use Rattle.lists.specs.Bytes.{bytes, all, has_any}
 use Rattle.lists.specs.Outcome.{need}
@@ -12,8 +12,6 @@ use Rattle.numbers.specs.declared.SequenceNumber.TheVariants.{MinusOne, Number}
 use Rattle.messages.specs.declared.Control.{Control}
 use Rattle.messages.specs.declared.Control.TheVariants.{Resynchronize, Query}
 use Rattle.messages.specs.declared.MessageType.{MessageType}
-use Rattle.messages.specs.declared.TypeMade.{TypeMade}
-use Rattle.messages.specs.declared.TypeMade.TheVariants.{Unknown, Known}
 
 abbrev pub code_text : Code → List ℕ
 code_text AA = bytes "AA"
@@ -49,9 +47,9 @@ unfoldable pub valid_type : MessageType → Bool
 valid_type t = all is_capital (type_text t)
 
 -- what is made of letters that come from outside
-unfoldable pub message_type : List ℕ → TypeMade
+unfoldable pub message_type : List ℕ → Option MessageType
 message_type s =
-    need (eqb (length s) 3 && all is_capital s) Unknown (Known (record { first = get_or s 0 0; second = get_or s 1 0; third = get_or s 2 0 }))
+    need (eqb (length s) 3 && all is_capital s) None (Some (record { first = get_or s 0 0; second = get_or s 1 0; third = get_or s 2 0 }))
 
 -- which control IDs can stand in MSH-10 and MSA-2 and be read back: 1 to 20 bytes, and among them neither bar nor CR
 unfoldable pub valid_control_id : List ℕ → Bool

@@ -10,62 +10,48 @@ ghost use Rattle.messages.specs.Internal.{Puts, header_pieces, answer_pieces, id
 use crate::pieces::{put_code, put_number, put_piece};
 use header::Code;
 use numbers::SequenceNumber;
-use refusal::Written;
+use refusal::{Refusal, Written};
 
 // Whether an answer fits from the offset on: 38 bytes, the control ID twice, the number.
 fn is_long_enough(have: usize, start: usize, id_length: usize, digits: usize) -> bool
     ensures { result ≡ leb (start + (38 + (digits + (id_length + id_length)))) have }
 {
-    if have < start {
-        return false;
-    }
-    let rest = have - start;
-    if rest < 38 {
-        return false;
-    }
-    if rest - 38 < digits {
-        return false;
-    }
-    id_length <= (rest - 38 - digits) / 2
+    have.checked_sub(start)
+        .and_then(|rest| rest.checked_sub(38))
+        .and_then(|rest| rest.checked_sub(digits))
+        .and_then(|rest| rest.checked_sub(id_length))
+        .is_some_and(|rest| id_length <= rest)
 }
 
 // Whether the control ID can stand in a field of a block's data: 1 to 20 bytes that are allowed, and neither bar nor CR.
 pub fn is_control_id(control_id: &[u8]) -> bool
     ensures { result ≡ (all_allowed control_id.now && valid_control_id control_id.now) }
 {
-    if control_id.len() < 1 {
-        return false;
-    }
-    if 20 < control_id.len() {
-        return false;
-    }
-    let mut good = true;
-    let mut i = 0;
-    while i < control_id.len() {
-        let x = control_id[i];
-        good = good & (((0x20 <= x) & (x <= 0x7e)) & (x != fields::BAR));
-        i += 1;
-    }
-    good
+    (1..=20).contains(&control_id.len())
+        && control_id
+            .iter()
+            .all(|x| matches!(*x, b' '..=b'~') && *x != fields::BAR)
 }
 
 // The refusal of a control ID that cannot: by 3, or by 9 where all its bytes are allowed.
+#[tactic(auto, using(crate::proofs::Laws::refused_byte, crate::proofs::Laws::refused_header))]
 fn refuse_control_id(control_id: &[u8]) -> Written
     ensures { result ≡ id_refusal control_id.now }
 {
     let first = settings::first_forbidden(control_id);
     if first < control_id.len() {
-        return Written::Refused(refusal::BYTE, first);
+        return Err(Refusal::forbidden(first));
     }
-    Written::Refused(refusal::HEAD, 0)
+    Err(Refusal::HEAD)
 }
 
+#[tactic(auto, unfolding(crate::specs::Messages::answerable))]
 fn is_answerable(number: SequenceNumber) -> bool
     ensures { result ≡ answerable number }
 {
     match number {
         SequenceNumber::MinusOne => true,
-        SequenceNumber::Number(n) => (1 <= n) & (n <= SequenceNumber::GREATEST_EXPECTED),
+        SequenceNumber::Number(n) => (1..=SequenceNumber::GREATEST_EXPECTED).contains(&n),
     }
 }
 
@@ -80,6 +66,7 @@ fn put_header(out: &mut [u8], at: usize, control_id: &[u8], code: Code) -> usize
 }
 
 // 17||17<CR>
+#[tactic(auto, using(crate::proofs::Laws::piece_cases))]
 fn put_acknowledgment(
     out: &mut [u8],
     at: usize,
@@ -98,6 +85,7 @@ fn put_acknowledgment(
 }
 
 // Writes the answer into the buffer from an offset on. A refusal writes nothing.
+#[tactic(auto, using(crate::proofs::Returns::answer_cases))]
 pub fn write_answer(
     control_id: &[u8],
     code: Code,
@@ -109,15 +97,15 @@ pub fn write_answer(
 {
     let digits = numbers::text_length(number);
     if !is_long_enough(buffer.len(), start, control_id.len(), digits) {
-        return Written::Refused(refusal::TOO_SHORT, 0);
+        return Err(Refusal::TOO_SHORT);
     }
     if !is_control_id(control_id) {
         return refuse_control_id(control_id);
     }
     if !is_answerable(number) {
-        return Written::Refused(refusal::NUMBER, 0);
+        return Err(Refusal::NUMBER);
     }
     let next = put_header(buffer, start, control_id, code);
     let end = put_acknowledgment(buffer, next, control_id, number, digits);
-    Written::Done(end - start)
+    Ok(end - start)
 }

@@ -1,63 +1,52 @@
 // The sender's control message: MSH|^~\&|||||||ADT|0|P|2.3.1|0<CR>
-ghost use Rattle.std.specs.Prelude.{◌≡◌, ◌+◌, ◌≤◌, leb, length};
+ghost use Rattle.std.specs.Prelude.{◌≡◌, ◌+◌, ◌≤◌, length};
 ghost use Rattle.lists.specs.Outcome.{outcome};
-ghost use Rattle.messages.specs.Messages.{is_capital, valid_type, control_message};
+ghost use Rattle.messages.specs.Messages.{valid_type, control_message};
 ghost use Rattle.messages.specs.Write.{write_control_of};
 ghost use Rattle.messages.specs.declared.Control.TheVariants.{Resynchronize, Query};
 ghost use Rattle.messages.specs.Internal.{Puts};
 
 use crate::pieces::put_piece;
 use crate::{Control, MessageType};
-use refusal::Written;
-
-fn is_capital(x: u8) -> bool
-    ensures { result ≡ is_capital x }
-{
-    (b'A' <= x) & (x <= b'Z')
-}
+use refusal::{Refusal, Written};
 
 // Whether it is three capital letters.
+#[tactic(auto, unfolding(crate::specs::Messages::valid_type))]
 pub fn is_type(name: MessageType) -> bool
     ensures { result ≡ valid_type name }
 {
-    is_capital(name.first) & (is_capital(name.second) & is_capital(name.third))
+    name.first.is_ascii_uppercase()
+        && name.second.is_ascii_uppercase()
+        && name.third.is_ascii_uppercase()
 }
 
-// Whether a message of `size` bytes, a small number, fits from the offset on.
-fn is_long_enough(have: usize, start: usize, size: usize) -> bool
-    ensures { result ≡ leb (start + size) have }
+// How many bytes the message has.
+#[tactic(auto, using(crate::proofs::Shapes::length_resynchronize, crate::proofs::Shapes::length_query))]
+fn message_length(name: MessageType, control: Control) -> usize
+    ensures { result ≡ length (control_message name control) }
 {
-    if have < start {
-        return false;
+    match control {
+        Control::Resynchronize => 33,
+        Control::Query => 31,
     }
-    size <= have - start
 }
 
-// The message for 0.
-fn put_query(out: &mut [u8], at: usize, name: MessageType) -> usize
-    requires { at + 31 ≤ length out.old }
-    ensures { Puts out.old at (control_message name Query) result out.new }
+// MSH|^~\&|||||||ADT|0|P|2.3.1|0<CR>
+#[tactic(auto, using(crate::proofs::Shapes::control_pieces))]
+fn put_control(out: &mut [u8], at: usize, name: MessageType, control: Control) -> usize
+    requires { at + length (control_message name control) ≤ length out.old }
+    ensures { Puts out.old at (control_message name control) result out.new }
 {
-    let mut message = *b"MSH|^~\\&|||||||ADT|0|P|2.3.1|0\r";
-    message[15] = name.first;
-    message[16] = name.second;
-    message[17] = name.third;
-    put_piece(out, at, &message)
-}
-
-// The message for -1.
-fn put_resynchronize(out: &mut [u8], at: usize, name: MessageType) -> usize
-    requires { at + 33 ≤ length out.old }
-    ensures { Puts out.old at (control_message name Resynchronize) result out.new }
-{
-    let mut message = *b"MSH|^~\\&|||||||ADT|-1|P|2.3.1|-1\r";
-    message[15] = name.first;
-    message[16] = name.second;
-    message[17] = name.third;
-    put_piece(out, at, &message)
+    let type_at = put_piece(out, at, b"MSH|^~\\&|||||||");
+    let number_at = put_piece(out, type_at, &[name.first, name.second, name.third]);
+    match control {
+        Control::Resynchronize => put_piece(out, number_at, b"|-1|P|2.3.1|-1\r"),
+        Control::Query => put_piece(out, number_at, b"|0|P|2.3.1|0\r"),
+    }
 }
 
 // Writes the control message into the buffer from an offset on. A refusal writes nothing.
+#[tactic(auto, using(crate::proofs::Returns::control_cases))]
 pub fn write_control(
     name: MessageType,
     control: Control,
@@ -67,22 +56,12 @@ pub fn write_control(
     ensures { outcome result buffer.new ≡ write_control_of name control start buffer.old }
 {
     if !is_type(name) {
-        return Written::Refused(refusal::SETTING, 0);
+        return Err(Refusal::SETTING);
     }
-    match control {
-        Control::Resynchronize => {
-            if !is_long_enough(buffer.len(), start, 33) {
-                return Written::Refused(refusal::TOO_SHORT, 0);
-            }
-            let end = put_resynchronize(buffer, start, name);
-            Written::Done(33)
-        }
-        Control::Query => {
-            if !is_long_enough(buffer.len(), start, 31) {
-                return Written::Refused(refusal::TOO_SHORT, 0);
-            }
-            let end = put_query(buffer, start, name);
-            Written::Done(31)
-        }
+    let size = message_length(name, control);
+    if buffer.len().saturating_sub(start) < size {
+        return Err(Refusal::TOO_SHORT);
     }
+    put_control(buffer, start, name, control);
+    Ok(size)
 }

@@ -29,30 +29,20 @@ pub struct MessageType {
     pub third: u8,
 }
 
-// A message type made of letters, or a refusal (1).
-#[derive(Clone, Copy)]
-pub enum TypeMade {
-    Unknown,
-    Known(MessageType),
-}
-
 impl MessageType {
     // Exactly three capital letters.
-    pub fn from_letters(letters: &[u8]) -> TypeMade
+    #[tactic(auto, using(crate::proofs::Laws::letters))]
+    pub fn from_letters(letters: &[u8]) -> Option<MessageType>
         ensures { result ≡ message_type letters.now }
     {
-        if letters.len() != 3 {
-            return TypeMade::Unknown;
-        }
-        let name = MessageType {
-            first: letters[0],
-            second: letters[1],
-            third: letters[2],
+        let &[first, second, third] = letters else {
+            return None;
         };
-        if control_message::is_type(name) {
-            TypeMade::Known(name)
-        } else {
-            TypeMade::Unknown
-        }
+        let name = MessageType {
+            first,
+            second,
+            third,
+        };
+        control_message::is_type(name).then_some(name)
     }
 }

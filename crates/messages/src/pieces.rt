@@ -8,15 +8,12 @@ use numbers::SequenceNumber;
 use settings::digit_of;
 
 // Writes a piece from `at` on, and returns the offset after it.
+#[tactic(auto, using(lists::proofs::Put::copied_whole))]
 pub(crate) fn put_piece(out: &mut [u8], at: usize, piece: &[u8]) -> usize
     requires { at + length piece.now ≤ length out.old }
     ensures { Puts out.old at piece.now result out.new }
 {
-    let mut i = 0;
-    while i < piece.len() {
-        out[at + i] = piece[i];
-        i += 1;
-    }
+    lists::copy_bytes(&mut out[at..at + piece.len()], piece);
     at + piece.len()
 }
 
@@ -26,14 +23,11 @@ fn put_digits(out: &mut [u8], at: usize, n: u64, digits: usize) -> usize
     requires digits_in_bounds { at + digits ≤ length out.old }
     ensures { Puts out.old at (decimal n) result out.new }
 {
-    let mut i = at + digits;
     let mut rest = n;
-    while 9 < rest {
-        i -= 1;
+    for i in (at..at + digits).rev() {
         out[i] = digit_of(rest as usize);
-        rest = rest / 10;
+        rest /= 10;
     }
-    out[at] = digit_of(rest as usize);
     at + digits
 }
 

@@ -1,11 +1,11 @@
 -- Laws by which the functions on numbers go: what one digit more does to each definition, and what a decimal is.
-use mathlib.Core.Path.{◌≡◌, refl, ap, ◌∙◌}
+use Rattle.std.specs.Prelude.{Ok, Err}
+use mathlib.Core.Path.{◌≡◌, refl, ap, sym, ◌∙◌}
 use mathlib.Core.List.{List, [], ◌∷◌, ◌++◌, append_assoc}
 use mathlib.Core.Bool.{Bool, true, false, cond, ◌&&◌}
-use Prim.Native.Nat.{ℕ, zero, suc, ◌+◌, ◌-◌, ◌*◌, ◌/◌, ◌^◌, ◌≤◌, ◌<◌}
+use Prim.Native.Nat.{ℕ, zero, suc, ◌+◌, ◌*◌, ◌/◌, ◌^◌, ◌≤◌, ◌<◌}
 use Prim.Native.Char.{code}
 use native.Mathlib.Nat.{zero-add, pow-suc, pow-le-pow_right}
-use native.Mathlib.Numerals.{add-one}
 use native.Mathlib.Decide.{dec_le}
 use native.Mathlib.Omega.{arith}
 use lib.ListN.{length, take, drop, get_or, set, length-append, length-set}
@@ -14,12 +14,12 @@ use lib.Dec.{leb, ltb}
 use borrow.Author.Tests.{leb-true, lt-ltb, le-ltb, ltb-false, le-leb, lt-leb}
 use Rattle.lists.specs.Bytes.{bytes, all, same, put, over}
 use Rattle.lists.proofs.Tests.{and_left, and_right}
-use Rattle.lists.proofs.Parts.{drop_more, drop_none}
-use Rattle.lists.proofs.Put.{set-put}
+use Rattle.lists.proofs.All.{list_all-is}
+use Rattle.lists.proofs.Parts.{drop_more}
 use Rattle.settings.specs.DataBytes.{digit}
-use Rattle.numbers.specs.Numbers.{is_digit, value_from, value, number_field, decimal_of, decimal}
+use Rattle.numbers.specs.Numbers.{is_digit, value, number_field, decimal_of, decimal}
 use Rattle.numbers.specs.declared.SequenceNumber.TheVariants.{MinusOne, Number}
-use Rattle.numbers.specs.declared.NumberField.TheVariants.{Missing, NotNumber, Present}
+use Rattle.numbers.specs.declared.NumberError.TheVariants.{Missing, NotNumber}
 
 -- one digit more is read
 module _ (s : List ℕ) (i : ℕ) (h : i < length s) where
@@ -29,57 +29,40 @@ module _ (s : List ℕ) (i : ℕ) (h : i < length s) where
   here : all is_digit (drop i s) ≡ true → is_digit (get_or s i 0) ≡ true
   here e = and_left (is_digit (get_or s i 0)) (all is_digit (drop (i + 1) s)) (both e)
 
-  pub digit_least : all is_digit (drop i s) ≡ true → code "0" ≤ get_or s i 0
-  digit_least e = leb-true (code "0") (get_or s i 0) (and_left (leb (code "0") (get_or s i 0)) (leb (get_or s i 0) (code "9")) (here e))
-
   pub digit_most : all is_digit (drop i s) ≡ true → get_or s i 0 ≤ code "9"
   digit_most e = leb-true (get_or s i 0) (code "9") (and_right (leb (code "0") (get_or s i 0)) (leb (get_or s i 0) (code "9")) (here e))
 
-  pub digits_after : all is_digit (drop i s) ≡ true → all is_digit (drop (i + 1) s) ≡ true
-  digits_after e = and_right (is_digit (get_or s i 0)) (all is_digit (drop (i + 1) s)) (both e)
-
-  pub value_more : (sum : ℕ) → value_from (sum * 10 + (get_or s i 0 - code "0")) (drop (i + 1) s) ≡ value_from sum (drop i s)
-  value_more sum = rw (drop_more s i h)
-
-pub value_none : (s : List ℕ) (i sum : ℕ) → length s ≤ i → value_from sum (drop i s) ≡ sum
-value_none s i sum h = rw (drop_none s i h)
-
--- as many digits as that stand for less than that power of ten
-pub power_more : (sum x i : ℕ) → sum < 10 ^ i → x ≤ code "9" → sum * 10 + (x - code "0") < 10 ^ (i + 1)
-power_more sum x i h l = rw (add-one i, pow-suc 10 i) (omega arith)
-
-pub power_most : (sum i : ℕ) → sum < 10 ^ i → i < 15 → sum < 100000000000000
-power_most sum i h l =
-    let p : 10 ^ i ≤ 100000000000000 = pow-le-pow_right {n = 10} (omega arith) {i = i} {j = 14} (omega arith) in
-    omega arith
+-- the power of ten below which fewer than fifteen digits stand
+pub power_most : (i : ℕ) → i < 15 → 10 ^ i ≤ 100000000000000
+power_most i l = pow-le-pow_right {n = 10} (omega arith) {i = i} {j = 14} (omega arith)
 
 -- what a field is, by its tests in order
 module _ (most : ℕ) (s : List ℕ) where
-  pub field_missing : length s ≡ 0 → Missing ≡ number_field most s
+  pub field_missing : length s ≡ 0 → (Err Missing) ≡ number_field most s
   unfolding number_field
   field_missing h = rw (lt-leb 1 (length s) (omega arith))
 
   module _ (some : length s ≡ 0 → ⊥) where
-    pub field_minus : same s (bytes "-1") ≡ true → Present MinusOne ≡ number_field most s
+    pub field_minus : same s (bytes "-1") ≡ true → Ok MinusOne ≡ number_field most s
     unfolding number_field
     field_minus e = rw (le-leb 1 (length s) (omega arith), e)
 
     module _ (other : same s (bytes "-1") ≡ false) where
-      pub field_plain : number_field most s ≡ cond (leb (length s) 15 && (all is_digit s && leb (value s) most)) (Present (Number (value s))) NotNumber
+      pub field_plain : number_field most s ≡ cond (leb (length s) 15 && (all is_digit s && leb (value s) most)) (Ok (Number (value s))) (Err NotNumber)
       unfolding number_field
       field_plain = rw (le-leb 1 (length s) (omega arith), other)
 
-      pub field_long : 15 < length s → NotNumber ≡ number_field most s
+      pub field_long : 15 < length s → (Err NotNumber) ≡ number_field most s
       field_long h = rw (field_plain, lt-leb (length s) 15 h)
 
       module _ (short : length s ≤ 15) where
-        pub field_other : all is_digit s ≡ false → NotNumber ≡ number_field most s
+        pub field_other : all is_digit s ≡ false → (Err NotNumber) ≡ number_field most s
         field_other e = rw (field_plain, le-leb (length s) 15 short, e)
 
-        pub field-over : all is_digit s ≡ true → most < value s → NotNumber ≡ number_field most s
+        pub field-over : all is_digit s ≡ true → most < value s → (Err NotNumber) ≡ number_field most s
         field-over e h = rw (field_plain, le-leb (length s) 15 short, e, lt-leb (value s) most h)
 
-        pub field_number : all is_digit s ≡ true → value s ≤ most → Present (Number (value s)) ≡ number_field most s
+        pub field_number : all is_digit s ≡ true → value s ≤ most → Ok (Number (value s)) ≡ number_field most s
         field_number e h = rw (field_plain, le-leb (length s) 15 short, e, le-leb (value s) most h)
 
 -- a decimal does not depend on how many digits are allowed for, if they are enough
@@ -155,17 +138,34 @@ put_behind l vs a x h =
     let n : a + length vs + 1 ≡ a + length (vs ++ x ∷ []) = omega (arith, length-append vs (x ∷ [])) in
     rw (t, d, n) (regroup (take a l) vs (drop (a + length (vs ++ x ∷ [])) l) x)
 
--- the last digit of what is left of a number is written, and its others are still to come
-module _ (l : List ℕ) (a i n x : ℕ) (h : i ≡ a + length (decimal n)) (fit : i ≤ length l) (e : x ≡ digit n) where
-  pub put-digit : 10 ≤ n → put (set l (i - 1) x) a (decimal (n / 10)) ≡ put l a (decimal n)
-  put-digit m =
-      let g : i - 1 ≡ a + length (decimal (n / 10)) = omega (arith, h, length_more n m) in
-      rw (g, e, decimal_more n m) (put_behind l (decimal (n / 10)) a (digit n) (omega (arith, h, length_more n m)))
+-- the digits that are still to come: none, or those of what is left of a number
+abbrev pub coming : ℕ → ℕ → List ℕ
+coming zero n = []
+coming (suc k) n = decimal n
 
-  pub put_last : n < 10 → set l a x ≡ put l a (decimal n)
-  put_last m = rw (e, decimal_one n m) (set-put l a (digit n) (omega (arith, h, length_one n m)))
+-- the last digit of what is left of a number is written, and its others are still to come
+pub put_digit : (l : List ℕ) (a i k m n x : ℕ) → i ≡ a + k → m ≡ suc k → length (coming m n) ≡ m → i < length l → x ≡ digit n
+    → (length (coming k (n / 10)) ≡ k) × (put (set l i x) a (coming k (n / 10)) ≡ put l a (coming m n))
+put_digit l a i k m n x p q h fit e = rw (p, q, e) (go k (rw q at h) (omega (arith, p)))
+  where
+    go : (k : ℕ) → length (decimal n) ≡ suc k → a + k < length l → (length (coming k (n / 10)) ≡ k) × (put (set l (a + k) (digit n)) a (coming k (n / 10)) ≡ put l a (decimal n))
+    go zero h fit = by (dec_le 10 n)
+      where
+        by : Dec (10 ≤ n) → (length (coming 0 (n / 10)) ≡ 0) × (put (set l (a + 0) (digit n)) a [] ≡ put l a (decimal n))
+        by (yes m) = absurd (omega (arith, h, length_more n m, length_least (n / 10)))
+        by (no m) = (refl, rw (decimal_one n (omega arith)) (put_behind l [] a (digit n) fit))
+    go (suc k) h fit = by (dec_le 10 n)
+      where
+        by : Dec (10 ≤ n) → (length (decimal (n / 10)) ≡ suc k) × (put (set l (a + suc k) (digit n)) a (decimal (n / 10)) ≡ put l a (decimal n))
+        by (yes m) =
+            let g : length (decimal (n / 10)) ≡ suc k = omega (arith, h, length_more n m) in
+            (g, rw (sym g, decimal_more n m) (put_behind l (decimal (n / 10)) a (digit n) (omega (arith, g))))
+        by (no m) = absurd (omega (arith, h, length_one n (omega arith)))
 
 -- what fits is written
 pub fits : (b vs : List ℕ) → length vs ≤ length b → put b 0 vs ≡ over b vs
 unfolding put over
 fits b vs h = rw (le-leb (length vs) (length b) h, zero-add (length vs))
+
+-- what a number reads as, and `all` of an iterator
+pub ruleset field_cases = (list_all-is, field_missing, field_minus, field_long, field_other, field-over, field_number)

@@ -1,4 +1,5 @@
 -- Numbers as they are written read back as they were, two numbers are never written alike, and no byte of a number ends a field.
+use Rattle.std.specs.Prelude.{Result, Ok, Err}
 use mathlib.Core.Path.{◌≡◌, refl, sym, ap, ◌∙◌}
 use mathlib.Core.List.{List, [], ◌∷◌, ◌++◌}
 use mathlib.Core.Bool.{Bool, true, false, ◌&&◌, true≢false}
@@ -17,8 +18,8 @@ use Rattle.settings.specs.DataBytes.{digit, all_allowed}
 use Rattle.numbers.specs.Numbers.{is_digit, value_from, value, number_field, greatest_expected, decimal, text_of}
 use Rattle.numbers.specs.declared.SequenceNumber.{SequenceNumber}
 use Rattle.numbers.specs.declared.SequenceNumber.TheVariants.{MinusOne, Number}
-use Rattle.numbers.specs.declared.NumberField.{NumberField}
-use Rattle.numbers.specs.declared.NumberField.TheVariants.{Missing, NotNumber, Present}
+use Rattle.numbers.specs.declared.NumberError.{NumberError}
+use Rattle.numbers.specs.declared.NumberError.TheVariants.{Missing, NotNumber}
 use Rattle.numbers.proofs.Laws.{decimal_one, decimal_more, by_digits, length_least, decimal-length, field_plain, field_number}
 
 -- ---- digits
@@ -61,17 +62,17 @@ digits_not_minus (x ∷ xs) e =
 
 -- digits, few enough and for no more than the bound, are the number that they stand for
 digits_read : (most : ℕ) (s : List ℕ) → all is_digit s ≡ true → 1 ≤ length s → length s ≤ 15 → value s ≤ most
-    → number_field most s ≡ Present (Number (value s))
+    → number_field most s ≡ Ok (Number (value s))
 digits_read most s e l m h = sym (field_number most s (λ z. omega arith) (digits_not_minus s e) m e h)
 
 -- a number up to the bound, written in plain decimal, reads back as that number
-pub reads_back : (most n : ℕ) → n ≤ most → n < 10 ^ 15 → number_field most (decimal n) ≡ Present (Number n)
+pub reads_back : (most n : ℕ) → n ≤ most → n < 10 ^ 15 → number_field most (decimal n) ≡ Ok (Number n)
 reads_back most n h l =
     digits_read most (decimal n) (decimal_digits n) (length_least n) (decimal-length 14 n l) (omega (arith, value_back n))
-    ∙ ap (λ (m : ℕ). Present (Number m)) (value_back n)
+    ∙ ap (λ (m : ℕ). Ok (Number m)) (value_back n)
 
 -- -1 reads back as -1
-pub minus_one_back : (most : ℕ) → number_field most (text_of MinusOne) ≡ Present MinusOne
+pub minus_one_back : (most : ℕ) → number_field most (text_of MinusOne) ≡ Ok MinusOne
 unfolding number_field same
 minus_one_back most = refl
 
@@ -81,7 +82,7 @@ is_within most MinusOne = true
 is_within most (Number n) = leb n most
 
 -- every number within a bound of at most 15 digits reads back as it was
-pub text_back : (most : ℕ) → most < 10 ^ 15 → (v : SequenceNumber) → is_within most v ≡ true → number_field most (text_of v) ≡ Present v
+pub text_back : (most : ℕ) → most < 10 ^ 15 → (v : SequenceNumber) → is_within most v ≡ true → number_field most (text_of v) ≡ Ok v
 text_back most l MinusOne h = minus_one_back most
 text_back most l (Number n) h = let m : n ≤ most = leb-true n most h in reads_back most n m (omega arith)
 
@@ -89,7 +90,7 @@ text_back most l (Number n) h = let m : n ≤ most = leb-true n most h in reads_
 pub reading_one_to_one : (most n m : ℕ) → n ≤ most → m ≤ most → n < 10 ^ 15 → m < 10 ^ 15
     → number_field most (decimal n) ≡ number_field most (decimal m) → decimal n ≡ decimal m
 reading_one_to_one most n m h k l r e =
-    let p : Present (Number n) ≡ Present (Number m) = sym (reads_back most n h l) ∙ e ∙ reads_back most m k r in
+    let p : Ok (Number n) ≡ Ok (Number m) = sym (reads_back most n h l) ∙ e ∙ reads_back most m k r in
     let q : n ≡ m = cc in
     ap decimal q
 
@@ -111,13 +112,13 @@ pub record Digits (most : ℕ) (s : List ℕ) (n : ℕ) : Type 0 where
   pub worth : value s ≡ n
   pub bound : n ≤ most
 
-missing_not : (v : SequenceNumber) → Missing ≡ Present v → ⊥
+missing_not : (v : SequenceNumber) → ◌≡◌ {A = Result SequenceNumber NumberError} (Err Missing) (Ok v) → ⊥
 missing_not v e = let z : ◌≡◌ {A = ℕ} 0 1 = cc in omega arith
 
-other_not : (v : SequenceNumber) → NotNumber ≡ Present v → ⊥
+other_not : (v : SequenceNumber) → ◌≡◌ {A = Result SequenceNumber NumberError} (Err NotNumber) (Ok v) → ⊥
 other_not v e = let z : ◌≡◌ {A = ℕ} 0 1 = cc in omega arith
 
-minus_not_number : (n : ℕ) → Present MinusOne ≡ Present (Number n) → ⊥
+minus_not_number : (n : ℕ) → ◌≡◌ {A = Result SequenceNumber NumberError} (Ok MinusOne) (Ok (Number n)) → ⊥
 minus_not_number n e = let z : ◌≡◌ {A = ℕ} 0 1 = cc in omega arith
 
 -- whether a field is plain digits, few enough and for no more than the bound
@@ -136,29 +137,29 @@ digits_only most n s l p q =
     }
 
 -- a field that reads as a number is its digits and nothing else
-pub field_digits : (most n : ℕ) (s : List ℕ) → number_field most s ≡ Present (Number n) → Digits most s n
+pub field_digits : (most n : ℕ) (s : List ℕ) → number_field most s ≡ Ok (Number n) → Digits most s n
 unfolding number_field
 field_digits most n s =
-    cond_ind (λ (r : NumberField). r ≡ Present (Number n) → Digits most s n) (leb 1 (length s)) _ Missing
-    (λ l. cond_ind (λ (r : NumberField). r ≡ Present (Number n) → Digits most s n) (same s (bytes "-1")) (Present MinusOne) _
+    cond_ind (λ (r : Result SequenceNumber NumberError). r ≡ Ok (Number n) → Digits most s n) (leb 1 (length s)) _ (Err Missing)
+    (λ l. cond_ind (λ (r : Result SequenceNumber NumberError). r ≡ Ok (Number n) → Digits most s n) (same s (bytes "-1")) (Ok MinusOne) _
     (λ m e. absurd (minus_not_number n e))
-    (λ m. cond_ind (λ (r : NumberField). r ≡ Present (Number n) → Digits most s n) (plain most s) (Present (Number (value s))) NotNumber
+    (λ m. cond_ind (λ (r : Result SequenceNumber NumberError). r ≡ Ok (Number n) → Digits most s n) (plain most s) (Ok (Number (value s))) (Err NotNumber)
     (λ p e. let q : value s ≡ n = cc in digits_only most n s (leb-true 1 (length s) l) p q)
     (λ p e. absurd (other_not (Number n) e))))
     (λ l e. absurd (missing_not (Number n) e))
 
 -- no number over the bound is read
-pub field_number_bound : (most n : ℕ) (s : List ℕ) → number_field most s ≡ Present (Number n) → n ≤ most
+pub field_number_bound : (most n : ℕ) (s : List ℕ) → number_field most s ≡ Ok (Number n) → n ≤ most
 field_number_bound most n s e = (field_digits most n s e).bound
 
 -- no bytes but -1 read as -1
-pub field_minus_one : (most : ℕ) (s : List ℕ) → number_field most s ≡ Present MinusOne → s ≡ text_of MinusOne
+pub field_minus_one : (most : ℕ) (s : List ℕ) → number_field most s ≡ Ok MinusOne → s ≡ text_of MinusOne
 unfolding number_field
 field_minus_one most s =
-    cond_ind (λ (r : NumberField). r ≡ Present MinusOne → s ≡ text_of MinusOne) (leb 1 (length s)) _ Missing
-    (λ l. cond_ind (λ (r : NumberField). r ≡ Present MinusOne → s ≡ text_of MinusOne) (same s (bytes "-1")) (Present MinusOne) _
+    cond_ind (λ (r : Result SequenceNumber NumberError). r ≡ Ok MinusOne → s ≡ text_of MinusOne) (leb 1 (length s)) _ (Err Missing)
+    (λ l. cond_ind (λ (r : Result SequenceNumber NumberError). r ≡ Ok MinusOne → s ≡ text_of MinusOne) (same s (bytes "-1")) (Ok MinusOne) _
     (λ m e. same-is s (bytes "-1") m)
-    (λ m. cond_ind (λ (r : NumberField). r ≡ Present MinusOne → s ≡ text_of MinusOne) (plain most s) (Present (Number (value s))) NotNumber
+    (λ m. cond_ind (λ (r : Result SequenceNumber NumberError). r ≡ Ok MinusOne → s ≡ text_of MinusOne) (plain most s) (Ok (Number (value s))) (Err NotNumber)
     (λ p e. absurd (minus_not_number (value s) (sym e)))
     (λ p e. absurd (other_not MinusOne e))))
     (λ l e. absurd (missing_not MinusOne e))

@@ -1,13 +1,13 @@
 -- Document 01, 'Header fields': which fields are numbers, and how a number is written.
-use Rattle.std.specs.Prelude.{List, [], ◌∷◌, ◌++◌, Bool, cond, ◌&&◌, ℕ, zero, suc, ◌+◌, ◌-◌, ◌*◌, ◌/◌, length, leb, ltb}
+use Rattle.std.specs.Prelude.{List, [], ◌∷◌, ◌++◌, Bool, cond, ◌&&◌, ℕ, zero, suc, ◌+◌, ◌-◌, ◌*◌, ◌/◌, length, leb, ltb, Result, Ok, Err}
 use Prim.Native.Char.{code}
 use Rattle.lists.specs.Bytes.{bytes, all, same}
 use Rattle.lists.specs.Outcome.{need}
 use Rattle.settings.specs.DataBytes.{digit}
 use Rattle.numbers.specs.declared.SequenceNumber.{SequenceNumber}
 use Rattle.numbers.specs.declared.SequenceNumber.TheVariants.{MinusOne, Number}
-use Rattle.numbers.specs.declared.NumberField.{NumberField}
-use Rattle.numbers.specs.declared.NumberField.TheVariants.{Missing, NotNumber, Present}
+use Rattle.numbers.specs.declared.NumberError.{NumberError}
+use Rattle.numbers.specs.declared.NumberError.TheVariants.{Missing, NotNumber}
 
 abbrev pub is_digit : ℕ → Bool
 is_digit x = leb (code "0") x && leb x (code "9")
@@ -21,12 +21,12 @@ abbrev pub value : List ℕ → ℕ
 value s = value_from 0 s
 
 -- what a field is: missing or empty, a number, or not. "A number is -1 or 1 to 15 digits, leading zeros allowed, at most" a bound
-unfoldable pub number_field : ℕ → List ℕ → NumberField
+unfoldable pub number_field : ℕ → List ℕ → Result SequenceNumber NumberError
 number_field most s =
-    need (leb 1 (length s)) Missing
-    (cond (same s (bytes "-1")) (Present MinusOne)
-    (need (leb (length s) 15 && (all is_digit s && leb (value s) most)) NotNumber
-    (Present (Number (value s)))))
+    need (leb 1 (length s)) (Err Missing)
+    (cond (same s (bytes "-1")) (Ok MinusOne)
+    (need (leb (length s) 15 && (all is_digit s && leb (value s) most)) (Err NotNumber)
+    (Ok (Number (value s)))))
 
 -- "at most 999,999,999,999,998"; "999,999,999,999,999 may be expected but never sent, and is a number in MSA-4 only"
 abbrev pub greatest_sent : ℕ

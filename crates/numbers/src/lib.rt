@@ -11,7 +11,7 @@ pub use read::read_number;
 pub use text::text_length;
 
 // A number that a message may carry.
-#[derive(Clone, Copy)]
+#[derive(Clone, Copy, PartialEq, Eq)]
 pub enum SequenceNumber {
     MinusOne,
     Number(u64),
@@ -25,11 +25,10 @@ impl SequenceNumber {
     pub const GREATEST_EXPECTED: u64 = 999999999999999;
 }
 
-// What a field that should hold a number holds.
-#[derive(Clone, Copy)]
-pub enum NumberField {
+// What a field that should hold a number holds in place of one.
+#[derive(Clone, Copy, PartialEq, Eq)]
+pub enum NumberError {
     // It is missing or empty.
     Missing,
     NotNumber,
-    Present(SequenceNumber),
 }

@@ -5,13 +5,14 @@ ghost use Rattle.numbers.specs.Numbers.{decimal, text_of};
 use crate::SequenceNumber;
 
 // How many digits n has.
+#[tactic(auto, using(crate::proofs::Laws::length_one, crate::proofs::Laws::length_more, crate::proofs::Laws::length_least, crate::proofs::Laws::length_most))]
 fn digit_count(n: u64) -> usize
     ensures { result ≡ length (decimal n) }
 {
     let mut count = 1;
     let mut rest = n;
     while 9 < rest {
-        rest = rest / 10;
+        rest /= 10;
         count += 1;
     }
     count

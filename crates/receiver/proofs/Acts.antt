@@ -1,4 +1,5 @@
 -- 02, §1, of the receiver's acts: an act on a state leaves one, the two acts are document 01's one, and no answer is given before its decision is reported stored.
+use Rattle.std.specs.Prelude.{Option, Some, None}
 use mathlib.Core.Path.{◌≡◌, refl, sym, ap, ◌∙◌}
 use mathlib.Core.List.{List}
 use mathlib.Core.Bool.{Bool, true, false, ◌&&◌, true≢false}
@@ -18,14 +19,11 @@ use Rattle.control_id.specs.declared.ControlId.{ControlId}
 use Rattle.numbers.specs.Numbers.{number_field, greatest_sent}
 use Rattle.header.specs.Header.{header_of}
 use Rattle.header.specs.declared.Header.{Header}
-use Rattle.header.specs.declared.Header.TheVariants.{Unreadable, Readable}
 use Rattle.message_theorems.proofs.HandedOut.{handed_out_read}
 use Rattle.receiver.specs.Receiver.{valid_expected, row_of, closed, is_closed, is_row, carried, valid_open, valid_receiver, undecided, opens, header_decided, decide_of, answer_block, answered, refused, replied, reported_of, reply_space, answer_of, is_block_number, nak_of}
 use Rattle.receiver.specs.declared.Application.{Application}
-use Rattle.receiver.specs.declared.Expected.{Expected}
 use Rattle.receiver.specs.declared.Row.{Row}
-use Rattle.receiver.specs.declared.Open.{Open}
-use Rattle.receiver.specs.declared.Open.TheVariants.{NoDecision, Decision}
+use Rattle.receiver.specs.declared.Decision.{Decision}
 use Rattle.receiver.specs.declared.Receiver.{Receiver}
 use Rattle.receiver.specs.declared.Decided.{Decided}
 use Rattle.receiver.specs.declared.Answered.{Answered}
@@ -37,25 +35,25 @@ pub expected_valid : (s : Receiver) → valid_receiver s ≡ true → valid_expe
 unfolding valid_receiver
 expected_valid s v = and_left (valid_expected s.expected) (valid_open s.expected s.decision) v
 
-pub closed_state : (e : Expected) → valid_expected e ≡ true → valid_receiver (closed e) ≡ true
+pub closed_state : (e : Option ℕ) → valid_expected e ≡ true → valid_receiver (closed e) ≡ true
 unfolding valid_receiver
 closed_state e v = rw v
 
-open_state : (e : Expected) (id : ControlId) (r : Row) → valid_expected e ≡ true → carried id ≡ true → is_row e r ≡ true
-    → valid_receiver (record { expected = e; decision = Decision id r }) ≡ true
+open_state : (e : Option ℕ) (id : ControlId) (r : Row) → valid_expected e ≡ true → carried id ≡ true → is_row e r ≡ true
+    → valid_receiver (record { expected = e; decision = Some (record { control_id = id; row = r }) }) ≡ true
 unfolding valid_receiver
 open_state e id r v c i = rw (v, c, i)
 
 module _ (a : Application) (s : Receiver) (t : ℕ) (d : List ℕ) where
   module _ (v : valid_receiver s ≡ true) where
-    header_state : (h : Header) → header_of d ≡ h → valid_receiver (header_decided a s d h).receiver ≡ true
-    header_state Unreadable e = v
-    header_state (Readable id seq) e =
+    header_state : (h : Option Header) → header_of d ≡ h → valid_receiver (header_decided a s d h).receiver ≡ true
+    header_state None e = v
+    header_state (Some h) e =
         let x = expected_valid s v in
-        cond_ind (λ (z : Decided). valid_receiver z.receiver ≡ true) (all_allowed (bytes_of id d)) _ _
-        (λ w. open_state s.expected (in_words (bytes_of id d)) (row_of a s.expected (number_field greatest_sent (bytes_of seq d))) x
-        (id_carried (bytes_of id d) w (handed_out_read d id seq e))
-        (row_is a s.expected (number_field greatest_sent (bytes_of seq d)) x (field_fits_lem (bytes_of seq d))))
+        cond_ind (λ (z : Decided). valid_receiver z.receiver ≡ true) (all_allowed (bytes_of h.control_id d)) _ _
+        (λ w. open_state s.expected (in_words (bytes_of h.control_id d)) (row_of a s.expected (number_field greatest_sent (bytes_of h.sequence d))) x
+        (id_carried (bytes_of h.control_id d) w (handed_out_read d h.control_id h.sequence e))
+        (row_is a s.expected (number_field greatest_sent (bytes_of h.sequence d)) x (field_fits_lem (bytes_of h.sequence d))))
         (λ w. v)
 
     pub decide_state : valid_receiver (decide_of a s t d).receiver ≡ true
@@ -67,10 +65,10 @@ module _ (a : Application) (s : Receiver) (t : ℕ) (d : List ℕ) where
         (λ i. v)
 
   -- what opens no decision leaves the state equal
-  header_same : (h : Header) → (header_decided a s d h).opened ≡ false → (header_decided a s d h).receiver ≡ s
-  header_same Unreadable = λ o. refl
-  header_same (Readable id seq) =
-      cond_ind (λ (z : Decided). z.opened ≡ false → z.receiver ≡ s) (all_allowed (bytes_of id d)) _ _
+  header_same : (h : Option Header) → (header_decided a s d h).opened ≡ false → (header_decided a s d h).receiver ≡ s
+  header_same None = λ o. refl
+  header_same (Some h) =
+      cond_ind (λ (z : Decided). z.opened ≡ false → z.receiver ≡ s) (all_allowed (bytes_of h.control_id d)) _ _
       (λ w o. absurd (true≢false o)) (λ w o. refl)
 
   pub decide_same : (decide_of a s t d).opened ≡ false → (decide_of a s t d).receiver ≡ s
@@ -82,10 +80,10 @@ module _ (a : Application) (s : Receiver) (t : ℕ) (d : List ℕ) where
       (λ i o. refl)
 
   -- and so does what refuses the act, which opens none
-  header_unopened : (h : Header) → eqb (header_decided a s d h).refusal 0 ≡ false → (header_decided a s d h).opened ≡ false
-  header_unopened Unreadable = λ o. refl
-  header_unopened (Readable id seq) =
-      cond_ind (λ (z : Decided). eqb z.refusal 0 ≡ false → z.opened ≡ false) (all_allowed (bytes_of id d)) _ _
+  header_unopened : (h : Option Header) → eqb (header_decided a s d h).refusal 0 ≡ false → (header_decided a s d h).opened ≡ false
+  header_unopened None = λ o. refl
+  header_unopened (Some h) =
+      cond_ind (λ (z : Decided). eqb z.refusal 0 ≡ false → z.opened ≡ false) (all_allowed (bytes_of h.control_id d)) _ _
       (λ w o. absurd (true≢false o)) (λ w o. refl)
 
   pub decide_unopened : eqb (decide_of a s t d).refusal 0 ≡ false → (decide_of a s t d).opened ≡ false
@@ -102,13 +100,13 @@ module _ (a : Application) (s : Receiver) (t : ℕ) (d : List ℕ) where
 
 module _ (g : Settings) (s : Receiver) (start : ℕ) (b : List ℕ) where
   module _ (stored : Bool) where
-    reported_state : valid_receiver s ≡ true → (q : Bool) (o : Open) → s.decision ≡ o
+    reported_state : valid_receiver s ≡ true → (q : Bool) (o : Option Decision) → s.decision ≡ o
         → valid_receiver (reported_of g q s start b o).answer.receiver ≡ true
-    reported_state v q NoDecision e = v
-    reported_state v true (Decision id r) e =
-        let o = opened s id r v e in
-        closed_state r.persisted.expected (open_expected s.expected o.expected r o.in_table)
-    reported_state v false (Decision id r) e = closed_state s.expected (expected_valid s v)
+    reported_state v q None e = v
+    reported_state v true (Some decision) e =
+        let o = opened s decision.control_id decision.row v e in
+        closed_state decision.row.persisted.expected (open_expected s.expected o.expected decision.row o.in_table)
+    reported_state v false (Some o) e = closed_state s.expected (expected_valid s v)
 
     pub answer_state : valid_receiver s ≡ true → valid_receiver (answer_of g stored s start b).answer.receiver ≡ true
     unfolding answer_of
@@ -119,11 +117,11 @@ module _ (g : Settings) (s : Receiver) (start : ℕ) (b : List ℕ) where
         (λ k. reported_state v stored s.decision refl) (λ k. v)) (λ j. v)) (λ i. v)
 
     -- a refused report leaves the state and the buffer equal
-    reported_refused : (q : Bool) (o : Open) → eqb (reported_of g q s start b o).answer.refusal 0 ≡ false
+    reported_refused : (q : Bool) (o : Option Decision) → eqb (reported_of g q s start b o).answer.refusal 0 ≡ false
         → reported_of g q s start b o ≡ refused (reported_of g q s start b o).answer.refusal s b
-    reported_refused q NoDecision h = refl
-    reported_refused true (Decision id r) h = absurd (true≢false h)
-    reported_refused false (Decision id r) h = absurd (true≢false h)
+    reported_refused q None h = refl
+    reported_refused true (Some o) h = absurd (true≢false h)
+    reported_refused false (Some o) h = absurd (true≢false h)
 
     pub answer_refused : eqb (answer_of g stored s start b).answer.refusal 0 ≡ false
         → answer_of g stored s start b ≡ refused (answer_of g stored s start b).answer.refusal s b
@@ -135,11 +133,11 @@ module _ (g : Settings) (s : Receiver) (start : ℕ) (b : List ℕ) where
         (λ k. reported_refused stored s.decision) (λ k h. refl)) (λ j h. refl)) (λ i h. refl)
 
     -- one that is done leaves no decision open
-    reported_closes : (q : Bool) (o : Open) → eqb (reported_of g q s start b o).answer.refusal 0 ≡ true
+    reported_closes : (q : Bool) (o : Option Decision) → eqb (reported_of g q s start b o).answer.refusal 0 ≡ true
         → is_closed (reported_of g q s start b o).answer.receiver.decision ≡ true
-    reported_closes q NoDecision h = absurd (true≢false (sym h))
-    reported_closes true (Decision id r) h = refl
-    reported_closes false (Decision id r) h = refl
+    reported_closes q None h = absurd (true≢false (sym h))
+    reported_closes true (Some o) h = refl
+    reported_closes false (Some o) h = refl
 
     pub report_closes : eqb (answer_of g stored s start b).answer.refusal 0 ≡ true
         → is_closed (answer_of g stored s start b).answer.receiver.decision ≡ true
@@ -152,9 +150,9 @@ module _ (g : Settings) (s : Receiver) (start : ℕ) (b : List ℕ) where
 
     -- a report with none open is 11
     module _ (h : valid_link g ≡ true) (e : leb (start + reply_space g) (length b) ≡ true) where
-      none_open : (o : Open) → is_closed o ≡ true → reported_of g stored s start b o ≡ refused 11 s b
-      none_open NoDecision c = refl
-      none_open (Decision id r) c = absurd (true≢false (sym c))
+      none_open : (o : Option Decision) → is_closed o ≡ true → reported_of g stored s start b o ≡ refused 11 s b
+      none_open None c = refl
+      none_open (Some o) c = absurd (true≢false (sym c))
 
       by_validity : (q : Bool) → valid_receiver s ≡ q → is_closed s.decision ≡ true → answer_of g stored s start b ≡ refused 11 s b
       by_validity true v c = sym (answer_reported g s start b stored h e v) ∙ none_open s.decision c
@@ -202,7 +200,7 @@ report_twice g h first second s start next b c e l m =
     report_none_open h (answer_of g first s start b).answer.receiver next c second l m (report_closes g s start b first e)
 
 -- ---- the two acts are document 01's one
-module _ (a : Application) (e : Expected) (t : ℕ) (d : List ℕ) (id seq : Field) (h : header_of d ≡ Readable id seq) (w : all_allowed (bytes_of id d) ≡ true)
+module _ (a : Application) (e : Option ℕ) (t : ℕ) (d : List ℕ) (id seq : Field) (h : header_of d ≡ Some (record { control_id = id; sequence = seq })) (w : all_allowed (bytes_of id d) ≡ true)
     (v : valid_expected e ≡ true) (n : eqb t (code "N") ≡ false) where
   -- the first opens the row of the table
   pub decide_opens : decide_of a (closed e) t d ≡ opens (closed e) (in_words (bytes_of id d)) (row_of a e (number_field greatest_sent (bytes_of seq d)))
@@ -212,7 +210,7 @@ module _ (a : Application) (e : Expected) (t : ℕ) (d : List ℕ) (id seq : Fie
   module _ (g : Settings) (start : ℕ) (b : List ℕ) (l : valid_link g ≡ true) (m : leb (start + reply_space g) (length b) ≡ true) where
     report_as : (stored : Bool)
         → answer_of g stored (decide_of a (closed e) t d).receiver start b
-        ≡ reported_of g stored (decide_of a (closed e) t d).receiver start b (Decision (in_words (bytes_of id d)) (row_of a e (number_field greatest_sent (bytes_of seq d))))
+        ≡ reported_of g stored (decide_of a (closed e) t d).receiver start b (Some (record { control_id = in_words (bytes_of id d); row = row_of a e (number_field greatest_sent (bytes_of seq d)) }))
     report_as stored =
         let x = (decide_of a (closed e) t d).receiver in
         sym (answer_reported g x start b stored l m (decide_state a (closed e) t d (closed_state e v)))
@@ -238,18 +236,18 @@ pub record FromReport (g : Settings) (stored : Bool) (s : Receiver) (start : ℕ
   pub is_stored : stored ≡ true
   pub control_id : ControlId
   pub decided : Row
-  pub is_open : s.decision ≡ Decision control_id decided
+  pub is_open : s.decision ≡ Some (record { control_id = control_id; row = decided })
   pub is : answer_of g stored s start b ≡ replied (closed decided.persisted.expected) (answer_block g (bytes_in control_id) decided) start b
 
 module _ (g : Settings) (stored : Bool) (s : Receiver) (start : ℕ) (b : List ℕ) where
-  reported_from : (h : valid_link g ≡ true) (e : leb (start + reply_space g) (length b) ≡ true) (v : valid_receiver s ≡ true) (q : Bool) (o : Open)
+  reported_from : (h : valid_link g ≡ true) (e : leb (start + reply_space g) (length b) ≡ true) (v : valid_receiver s ≡ true) (q : Bool) (o : Option Decision)
       → stored ≡ q → s.decision ≡ o → eqb (reported_of g q s start b o).answer.reply_length 0 ≡ false → FromReport g stored s start b
-  reported_from h e v q NoDecision i j k = absurd (true≢false k)
-  reported_from h e v false (Decision id r) i j k = absurd (true≢false k)
-  reported_from h e v true (Decision id r) i j k = record {
+  reported_from h e v q None i j k = absurd (true≢false k)
+  reported_from h e v false (Some o) i j k = absurd (true≢false k)
+  reported_from h e v true (Some o) i j k = record {
     is_stored = i;
-    control_id = id;
-    decided = r;
+    control_id = o.control_id;
+    decided = o.row;
     is_open = j;
     is = sym (answer_reported g s start b stored h e v)
         ∙ ap (λ (z : Bool). reported_of g z s start b s.decision) i ∙ ap (reported_of g true s start b) j;

@@ -1,45 +1,31 @@
--- What the receiver's acts come to, test by test, and what fits.
-use mathlib.Core.Path.{◌≡◌, refl, sym}
+-- What the receiver's acts come to, and what fits.
+use Rattle.std.specs.Prelude.{Some, Result, Ok, Err}
+use mathlib.Core.Path.{◌≡◌, refl}
 use mathlib.Core.List.{List, [], ◌∷◌}
 use mathlib.Core.Bool.{Bool, true, false, ◌&&◌}
-use Prim.Native.Nat.{ℕ, ◌+◌, ◌-◌, ◌≤◌, ◌<◌}
+use Prim.Native.Nat.{ℕ, ◌+◌}
 use Prim.Native.Char.{code}
-use native.Mathlib.Omega.{arith}
 use lib.ListN.{length}
 use lib.Dec.{leb, eqb}
-use borrow.Author.Tests.{le-leb, lt-leb}
-use Rattle.lists.proofs.Tests.{cond_ind, leb_same}
+use borrow.Author.Tests.{le-leb}
+use Rattle.lists.proofs.Tests.{cond_ind}
 use Rattle.settings.specs.Settings.{valid_link}
 use Rattle.settings.specs.declared.Settings.{Settings}
 use Rattle.settings.specs.DataBytes.{all_allowed}
 use Rattle.block.specs.Judge.{is_reason}
-use Rattle.writer.specs.Write.{frame_length}
 use Rattle.fields.specs.Fields.{bytes_of}
 use Rattle.fields.specs.declared.Field.{Field}
 use Rattle.control_id.specs.ControlId.{in_words}
 use Rattle.numbers.specs.Numbers.{number_field, greatest_sent}
 use Rattle.numbers.specs.declared.SequenceNumber.TheVariants.{MinusOne, Number}
-use Rattle.numbers.specs.declared.NumberField.{NumberField}
-use Rattle.numbers.specs.declared.NumberField.TheVariants.{Missing, NotNumber, Present}
+use Rattle.numbers.specs.declared.SequenceNumber.{SequenceNumber}
+use Rattle.numbers.specs.declared.NumberError.{NumberError}
 use Rattle.numbers.proofs.Reading.{field_number_bound}
 use Rattle.header.specs.Header.{header_of}
-use Rattle.header.specs.declared.Header.TheVariants.{Readable}
-use Rattle.receiver.specs.Receiver.{reply_space, row_of, reason_of, is_closed, valid_receiver, undecided, opens, header_decided, decide_of, refused, replied, reported_of, answer_of, is_block_number, nak_reply, nak_of}
+use Rattle.receiver.specs.Receiver.{reply_space, row_of, reason_of, is_closed, valid_receiver, undecided, opens, header_decided, decide_of, refused, reported_of, answer_of, is_block_number, nak_of}
 use Rattle.receiver.specs.Internal.{field_fits}
 use Rattle.receiver.specs.declared.Application.{Application}
 use Rattle.receiver.specs.declared.Receiver.{Receiver}
-
--- the space of a reply, by differences that cannot wrap
-module _ (g : Settings) (have start : ℕ) where
-  pub fits_start : have < start → false ≡ leb (start + reply_space g) have
-  fits_start h = sym (lt-leb (start + reply_space g) have (omega arith))
-
-  pub fits_frame : (n : ℕ) → n ≡ frame_length g.kind → have - start < n → false ≡ leb (start + reply_space g) have
-  fits_frame n e h = sym (lt-leb (start + reply_space g) have (omega arith))
-
-  pub fits_rest : (n : ℕ) → n ≡ frame_length g.kind → start ≤ have → n ≤ have - start
-      → leb g.data_limit (have - start - n) ≡ leb (start + reply_space g) have
-  fits_rest n e h l = leb_same g.data_limit (have - start - n) (start + reply_space g) have (λ i. omega arith) (λ i. omega arith)
 
 -- what holds of B, C, X and G holds of every reason
 reason_any : (P : ℕ → Type 0) → P (code "B") → P (code "C") → P (code "X") → P (code "G") → (n : ℕ) → P (reason_of n)
@@ -56,78 +42,39 @@ reason_allowed n = reason_any (λ (r : ℕ). all_allowed (r ∷ []) ≡ true) re
 pub field_fits_lem : (s : List ℕ) → field_fits (number_field greatest_sent s) ≡ true
 field_fits_lem s = go (number_field greatest_sent s) refl
   where
-    go : (f : NumberField) → number_field greatest_sent s ≡ f → field_fits f ≡ true
-    go Missing e = refl
-    go NotNumber e = refl
-    go (Present MinusOne) e = refl
-    go (Present (Number n)) e = le-leb n greatest_sent (field_number_bound greatest_sent n s e)
+    go : (f : Result SequenceNumber NumberError) → number_field greatest_sent s ≡ f → field_fits f ≡ true
+    go (Err why) e = refl
+    go (Ok MinusOne) e = refl
+    go (Ok (Number n)) e = le-leb n greatest_sent (field_number_bound greatest_sent n s e)
 
 -- the decision's returns
 module _ (a : Application) (s : Receiver) (d : List ℕ) where
-  module _ (id seq : Field) where
-    pub header_forbidden : all_allowed (bytes_of id d) ≡ false → undecided 0 9 s ≡ header_decided a s d (Readable id seq)
-    header_forbidden h = rw h
+  pub header_opens : (id seq : Field) → all_allowed (bytes_of id d) ≡ true
+      → opens s (in_words (bytes_of id d)) (row_of a s.expected (number_field greatest_sent (bytes_of seq d))) ≡ header_decided a s d (Some (record { control_id = id; sequence = seq }))
+  header_opens id seq h = rw h
 
-    pub header_opens : all_allowed (bytes_of id d) ≡ true
-        → opens s (in_words (bytes_of id d)) (row_of a s.expected (number_field greatest_sent (bytes_of seq d))) ≡ header_decided a s d (Readable id seq)
-    header_opens h = rw h
-
-  module _ (t : ℕ) where
-    pub decide_none : valid_receiver s ≡ false → undecided 11 0 s ≡ decide_of a s t d
+  module _ (t : ℕ) (v : valid_receiver s ≡ true) where
+    pub decide_busy : is_closed s.decision ≡ false → undecided 11 0 s ≡ decide_of a s t d
     unfolding decide_of
-    decide_none h = rw h
+    decide_busy h = rw (v, h)
 
-    module _ (v : valid_receiver s ≡ true) where
-      pub decide_busy : is_closed s.decision ≡ false → undecided 11 0 s ≡ decide_of a s t d
-      unfolding decide_of
-      decide_busy h = rw (v, h)
+    pub decide_data_lem : is_closed s.decision ≡ true → eqb t (code "N") ≡ false → header_decided a s d (header_of d) ≡ decide_of a s t d
+    unfolding decide_of
+    decide_data_lem c h = rw (v, c, h)
 
-      module _ (c : is_closed s.decision ≡ true) where
-        pub decide_nak : eqb t (code "N") ≡ true → undecided 0 0 s ≡ decide_of a s t d
-        unfolding decide_of
-        decide_nak h = rw (v, c, h)
-
-        pub decide_data_lem : eqb t (code "N") ≡ false → header_decided a s d (header_of d) ≡ decide_of a s t d
-        unfolding decide_of
-        decide_data_lem h = rw (v, c, h)
-
--- the report's
 module _ (g : Settings) (s : Receiver) (start : ℕ) (b : List ℕ) where
-  module _ (stored : Bool) where
-    pub answer_setting : valid_link g ≡ false → refused 1 s b ≡ answer_of g stored s start b
+  -- the report's
+  module _ (stored : Bool) (h : valid_link g ≡ true) (e : leb (start + reply_space g) (length b) ≡ true) where
+    pub answer_none : valid_receiver s ≡ false → refused 11 s b ≡ answer_of g stored s start b
     unfolding answer_of
-    answer_setting h = rw h
+    answer_none f = rw (h, e, f)
 
-    module _ (h : valid_link g ≡ true) where
-      pub answer_short : leb (start + reply_space g) (length b) ≡ false → refused 2 s b ≡ answer_of g stored s start b
-      unfolding answer_of
-      answer_short e = rw (h, e)
-
-      module _ (e : leb (start + reply_space g) (length b) ≡ true) where
-        pub answer_none : valid_receiver s ≡ false → refused 11 s b ≡ answer_of g stored s start b
-        unfolding answer_of
-        answer_none f = rw (h, e, f)
-
-        pub answer_reported : valid_receiver s ≡ true → reported_of g stored s start b s.decision ≡ answer_of g stored s start b
-        unfolding answer_of
-        answer_reported f = rw (h, e, f)
+    pub answer_reported : valid_receiver s ≡ true → reported_of g stored s start b s.decision ≡ answer_of g stored s start b
+    unfolding answer_of
+    answer_reported f = rw (h, e, f)
 
   -- and the N reply's
-  module _ (n : ℕ) where
-    pub nak_setting : (valid_link g && is_block_number n) ≡ false → refused 1 s b ≡ nak_of g n s start b
-    unfolding nak_of
-    nak_setting h = rw h
-
-    module _ (h : (valid_link g && is_block_number n) ≡ true) where
-      pub nak_short : leb (start + reply_space g) (length b) ≡ false → refused 2 s b ≡ nak_of g n s start b
-      unfolding nak_of
-      nak_short e = rw (h, e)
-
-      module _ (e : leb (start + reply_space g) (length b) ≡ true) where
-        pub nak_none : (valid_receiver s && is_closed s.decision) ≡ false → refused 11 s b ≡ nak_of g n s start b
-        unfolding nak_of
-        nak_none f = rw (h, e, f)
-
-        pub nak_replied : (valid_receiver s && is_closed s.decision) ≡ true → replied s (nak_reply g n) start b ≡ nak_of g n s start b
-        unfolding nak_of
-        nak_replied f = rw (h, e, f)
+  pub nak_none : (n : ℕ) → (valid_link g && is_block_number n) ≡ true → leb (start + reply_space g) (length b) ≡ true → (valid_receiver s && is_closed s.decision) ≡ false
+      → refused 11 s b ≡ nak_of g n s start b
+  unfolding nak_of
+  nak_none n h e f = rw (h, e, f)

@@ -1,4 +1,5 @@
 -- The rows of the table for what is expected are just those that an open decision may have; and the control IDs that an answer can carry.
+use Rattle.std.specs.Prelude.{Option, Some, None, Result, Ok, Err}
 use mathlib.Core.Path.{◌≡◌, refl, sym, ap, ◌∙◌}
 use mathlib.Core.List.{List, [], ◌∷◌}
 use mathlib.Core.Bool.{true, false, ◌&&◌, true≢false}
@@ -16,8 +17,8 @@ use Rattle.control_id.proofs.ControlIds.{bytes_back}
 use Rattle.numbers.specs.Numbers.{greatest_sent, greatest_expected}
 use Rattle.numbers.specs.declared.SequenceNumber.{SequenceNumber}
 use Rattle.numbers.specs.declared.SequenceNumber.TheVariants.{MinusOne, Number}
-use Rattle.numbers.specs.declared.NumberField.{NumberField}
-use Rattle.numbers.specs.declared.NumberField.TheVariants.{Missing, NotNumber, Present}
+use Rattle.numbers.specs.declared.NumberError.{NumberError}
+use Rattle.numbers.specs.declared.NumberError.TheVariants.{Missing}
 use Rattle.header.specs.declared.Code.{Code}
 use Rattle.header.specs.declared.Code.TheVariants.{AA, AE, AR}
 use Rattle.messages.specs.Messages.{valid_control_id, answerable}
@@ -25,28 +26,23 @@ use Rattle.receiver.specs.Receiver.{valid_expected, application_code, expected_n
 use Rattle.receiver.specs.Internal.{field_fits}
 use Rattle.receiver.specs.declared.Application.{Application}
 use Rattle.receiver.specs.declared.Application.TheVariants.{Accepts, Errs}
-use Rattle.receiver.specs.declared.Expected.{Expected}
-use Rattle.receiver.specs.declared.Expected.TheVariants.{Unknown, Next}
-use Rattle.receiver.specs.declared.Transaction.{Transaction}
-use Rattle.receiver.specs.declared.Transaction.TheVariants.{NoTransaction, Numbered}
 use Rattle.receiver.specs.declared.Row.{Row}
-use Rattle.receiver.specs.declared.Open.TheVariants.{Decision}
 use Rattle.receiver.specs.declared.Receiver.{Receiver}
 
 -- the tests of sameness
-same_expected_lem : (e : Expected) → same_expected e e ≡ true
-same_expected_lem Unknown = refl
-same_expected_lem (Next n) = eq-eqb n n refl
+same_expected_lem : (e : Option ℕ) → same_expected e e ≡ true
+same_expected_lem None = refl
+same_expected_lem (Some n) = eq-eqb n n refl
 
 same_number_lem : (n : SequenceNumber) → same_number n n ≡ true
 same_number_lem MinusOne = refl
 same_number_lem (Number n) = eq-eqb n n refl
 
-pub expected_is : (e f : Expected) → same_expected e f ≡ true → e ≡ f
-expected_is Unknown Unknown h = refl
-expected_is Unknown (Next n) h = absurd (true≢false (sym h))
-expected_is (Next m) Unknown h = absurd (true≢false (sym h))
-expected_is (Next m) (Next n) h = ap Next (eqb-true m n h)
+pub expected_is : (e f : Option ℕ) → same_expected e f ≡ true → e ≡ f
+expected_is None None h = refl
+expected_is None (Some n) h = absurd (true≢false (sym h))
+expected_is (Some m) None h = absurd (true≢false (sym h))
+expected_is (Some m) (Some n) h = ap Some (eqb-true m n h)
 
 number_is : (m n : SequenceNumber) → same_number m n ≡ true → m ≡ n
 number_is MinusOne MinusOne h = refl
@@ -55,14 +51,14 @@ number_is (Number m) MinusOne h = absurd (true≢false (sym h))
 number_is (Number m) (Number n) h = ap Number (eqb-true m n h)
 
 -- ---- what is due
-pub due_most : (e : Expected) (n : ℕ) → is_due e n ≡ true → n ≤ greatest_sent
-due_most Unknown n h = leb-true n greatest_sent (and_right (leb 1 n) (leb n greatest_sent) h)
-due_most (Next e) n h = leb-true n greatest_sent (and_right (eqb n e) (leb n greatest_sent) h)
+due_most : (e : Option ℕ) (n : ℕ) → is_due e n ≡ true → n ≤ greatest_sent
+due_most None n h = leb-true n greatest_sent (and_right (leb 1 n) (leb n greatest_sent) h)
+due_most (Some e) n h = leb-true n greatest_sent (and_right (eqb n e) (leb n greatest_sent) h)
 
-due_least : (e : Expected) (n : ℕ) → valid_expected e ≡ true → is_due e n ≡ true → 1 ≤ n
+due_least : (e : Option ℕ) (n : ℕ) → valid_expected e ≡ true → is_due e n ≡ true → 1 ≤ n
 unfolding valid_expected
-due_least Unknown n v h = leb-true 1 n (and_left (leb 1 n) (leb n greatest_sent) h)
-due_least (Next e) n v h =
+due_least None n v h = leb-true 1 n (and_left (leb 1 n) (leb n greatest_sent) h)
+due_least (Some e) n v h =
     let l = leb-true 1 e (and_left (leb 1 e) (leb e greatest_expected) v) in
     let same = eqb-true n e (and_left (eqb n e) (leb n greatest_sent) h) in
     omega arith
@@ -72,128 +68,125 @@ application_stores : (a : Application) → code_of_stored (application_code a) �
 application_stores Accepts = refl
 application_stores Errs = refl
 
-stores-is : (a : Application) (e : Expected) (n : ℕ) → is_due e n ≡ true → is_row e (stores a n) ≡ true
+stores-is : (a : Application) (e : Option ℕ) (n : ℕ) → is_due e n ≡ true → is_row e (stores a n) ≡ true
 unfolding is_row
 stores-is a e n h = rw (application_stores a, h, eq-eqb n n refl, eq-eqb (n + 1) (n + 1) refl)
 
-pub row_is : (a : Application) (e : Expected) (f : NumberField) → valid_expected e ≡ true → field_fits f ≡ true → is_row e (row_of a e f) ≡ true
+pub row_is : (a : Application) (e : Option ℕ) (f : Result SequenceNumber NumberError) → valid_expected e ≡ true → field_fits f ≡ true → is_row e (row_of a e f) ≡ true
 unfolding row_of is_row
-row_is a e Missing v h = rw (same_number_lem (expected_number e), same_expected_lem e)
-row_is a e NotNumber v h = rw (same_number_lem (expected_number e), same_expected_lem e)
-row_is a e (Present MinusOne) v h = refl
-row_is a Unknown (Present (Number n)) v h =
-    cond_ind (λ (r : Row). is_row Unknown r ≡ true) (eqb n 0) _ _ (λ z. refl)
-    (λ z. let some = eqb-false n 0 z in stores-is a Unknown n (rw (le-leb 1 n (omega arith), h)))
-row_is a (Next e) (Present (Number n)) v h =
-    cond_ind (λ (r : Row). is_row (Next e) r ≡ true) (eqb n 0) _ _ (λ z. rw (eq-eqb e e refl))
-    (λ z. cond_ind (λ (r : Row). is_row (Next e) r ≡ true) (eqb n e) _ _
-    (λ y. stores-is a (Next e) n (rw (y, h)))
+row_is a e (Err why) v h = rw (same_number_lem (expected_number e), same_expected_lem e)
+row_is a e (Ok MinusOne) v h = refl
+row_is a None (Ok (Number n)) v h =
+    cond_ind (λ (r : Row). is_row None r ≡ true) (eqb n 0) _ _ (λ z. refl)
+    (λ z. let some = eqb-false n 0 z in stores-is a None n (rw (le-leb 1 n (omega arith), h)))
+row_is a (Some e) (Ok (Number n)) v h =
+    cond_ind (λ (r : Row). is_row (Some e) r ≡ true) (eqb n 0) _ _ (λ z. rw (eq-eqb e e refl))
+    (λ z. cond_ind (λ (r : Row). is_row (Some e) r ≡ true) (eqb n e) _ _
+    (λ y. stores-is a (Some e) n (rw (y, h)))
     (λ y. rw (eq-eqb e e refl)))
 
 -- ---- and there are no others
-pub record InTable (e : Expected) (r : Row) : Type 0 where
+pub record InTable (e : Option ℕ) (r : Row) : Type 0 where
   pub application : Application
-  pub field : NumberField
+  pub field : Result SequenceNumber NumberError
   pub fits : field_fits field ≡ true
   pub is : r ≡ row_of application e field
 
-stores_row : (a : Application) (e : Expected) (n : ℕ) → valid_expected e ≡ true → is_due e n ≡ true → stores a n ≡ row_of a e (Present (Number n))
+stores_row : (a : Application) (e : Option ℕ) (n : ℕ) → valid_expected e ≡ true → is_due e n ≡ true → stores a n ≡ row_of a e (Ok (Number n))
 unfolding row_of
-stores_row a Unknown n v h = let l = due_least Unknown n v h in rw (ne_eqb n 0 (λ (z : n ≡ 0). omega arith))
-stores_row a (Next e) n v h =
-    let l = due_least (Next e) n v h in
+stores_row a None n v h = let l = due_least None n v h in rw (ne_eqb n 0 (λ (z : n ≡ 0). omega arith))
+stores_row a (Some e) n v h =
+    let l = due_least (Some e) n v h in
     rw (ne_eqb n 0 (λ (z : n ≡ 0). omega arith), and_left (eqb n e) (leb n greatest_sent) h)
 
-module _ (e : Expected) (v : valid_expected e ≡ true) where
-  stored_in_lem : (a : Application) (n : ℕ) (m : SequenceNumber) (f : Expected) → is_due e n ≡ true → m ≡ Number n → f ≡ Next (n + 1)
-      → InTable e (row (application_code a) m (Numbered n) f)
+module _ (e : Option ℕ) (v : valid_expected e ≡ true) where
+  stored_in_lem : (a : Application) (n : ℕ) (m : SequenceNumber) (f : Option ℕ) → is_due e n ≡ true → m ≡ Number n → f ≡ Some (n + 1)
+      → InTable e (row (application_code a) m (Some n) f)
   stored_in_lem a n m f h i j = record {
     application = a;
-    field = Present (Number n);
+    field = Ok (Number n);
     fits = le-leb n greatest_sent (due_most e n h);
     is = rw (i, j) (stores_row a e n v h);
   }
 
-  stored_row_lem : (c : Code) (n : ℕ) (m : SequenceNumber) (f : Expected) → code_of_stored c ≡ true → is_due e n ≡ true → m ≡ Number n → f ≡ Next (n + 1)
-      → InTable e (row c m (Numbered n) f)
+  stored_row_lem : (c : Code) (n : ℕ) (m : SequenceNumber) (f : Option ℕ) → code_of_stored c ≡ true → is_due e n ≡ true → m ≡ Number n → f ≡ Some (n + 1)
+      → InTable e (row c m (Some n) f)
   stored_row_lem AA n m f c h i j = stored_in_lem Accepts n m f h i j
   stored_row_lem AE n m f c h i j = stored_in_lem Errs n m f h i j
   stored_row_lem AR n m f c h i j = absurd (true≢false (sym c))
 
-  none_row : (m : SequenceNumber) (f : Expected) → m ≡ expected_number f → f ≡ Unknown → InTable e (row AA m NoTransaction f)
+  none_row : (m : SequenceNumber) (f : Option ℕ) → m ≡ expected_number f → f ≡ None → InTable e (row AA m None f)
   unfolding row_of
-  none_row m f i j = record { application = Accepts; field = Present MinusOne; fits = refl; is = rw (i, j) }
+  none_row m f i j = record { application = Accepts; field = Ok MinusOne; fits = refl; is = rw (i, j) }
 
-  again_row : (g : Expected) → e ≡ g → (m : SequenceNumber) (f : Expected) → m ≡ expected_number f → f ≡ e → InTable e (row AA m NoTransaction f)
+  again_row : (g : Option ℕ) → e ≡ g → (m : SequenceNumber) (f : Option ℕ) → m ≡ expected_number f → f ≡ e → InTable e (row AA m None f)
   unfolding row_of
-  again_row Unknown u m f i j = none_row m f i (j ∙ u)
-  again_row (Next n) u m f i j = record { application = Accepts; field = Present (Number 0); fits = refl; is = rw (i, j, u) }
+  again_row None u m f i j = none_row m f i (j ∙ u)
+  again_row (Some n) u m f i j = record { application = Accepts; field = Ok (Number 0); fits = refl; is = rw (i, j, u) }
 
-  kept_row_lem : (c : Code) (m : SequenceNumber) (f : Expected) → m ≡ expected_number f → code_of_kept c e f ≡ true → InTable e (row c m NoTransaction f)
+  kept_row_lem : (c : Code) (m : SequenceNumber) (f : Option ℕ) → m ≡ expected_number f → code_of_kept c e f ≡ true → InTable e (row c m None f)
   unfolding row_of
   kept_row_lem AA m f i h =
-      or_cases (same_expected f Unknown) (same_expected f e) h (InTable e (row AA m NoTransaction f))
-      (λ j. none_row m f i (expected_is f Unknown j)) (λ j. again_row e refl m f i (expected_is f e j))
+      or_cases (same_expected f None) (same_expected f e) h (InTable e (row AA m None f))
+      (λ j. none_row m f i (expected_is f None j)) (λ j. again_row e refl m f i (expected_is f e j))
   kept_row_lem AE m f i h = absurd (true≢false (sym h))
-  kept_row_lem AR m f i h = record { application = Accepts; field = Missing; fits = refl; is = let j = expected_is f e h in rw (i, j) }
+  kept_row_lem AR m f i h = record { application = Accepts; field = (Err Missing); fits = refl; is = let j = expected_is f e h in rw (i, j) }
 
-  row_in : (c : Code) (m : SequenceNumber) (t : Transaction) (f : Expected) → is_row e (row c m t f) ≡ true → InTable e (row c m t f)
+  row_in : (c : Code) (m : SequenceNumber) (t : Option ℕ) (f : Option ℕ) → is_row e (row c m t f) ≡ true → InTable e (row c m t f)
   unfolding is_row
-  row_in c m NoTransaction f h =
+  row_in c m None f h =
       kept_row_lem c m f (number_is m (expected_number f) (and_left (same_number m (expected_number f)) (code_of_kept c e f) h))
       (and_right (same_number m (expected_number f)) (code_of_kept c e f) h)
-  row_in c m (Numbered n) f h =
-      let first = and_left (code_of_stored c && is_due e n) (same_number m (Number n) && same_expected f (Next (n + 1))) h in
-      let second = and_right (code_of_stored c && is_due e n) (same_number m (Number n) && same_expected f (Next (n + 1))) h in
+  row_in c m (Some n) f h =
+      let first = and_left (code_of_stored c && is_due e n) (same_number m (Number n) && same_expected f (Some (n + 1))) h in
+      let second = and_right (code_of_stored c && is_due e n) (same_number m (Number n) && same_expected f (Some (n + 1))) h in
       stored_row_lem c n m f (and_left (code_of_stored c) (is_due e n) first) (and_right (code_of_stored c) (is_due e n) first)
-      (number_is m (Number n) (and_left (same_number m (Number n)) (same_expected f (Next (n + 1))) second))
-      (expected_is f (Next (n + 1)) (and_right (same_number m (Number n)) (same_expected f (Next (n + 1))) second))
+      (number_is m (Number n) (and_left (same_number m (Number n)) (same_expected f (Some (n + 1))) second))
+      (expected_is f (Some (n + 1)) (and_right (same_number m (Number n)) (same_expected f (Some (n + 1))) second))
 
   pub is-row : (r : Row) → is_row e r ≡ true → InTable e r
   is-row r h = row_in r.code r.number r.persisted.transaction r.persisted.expected h
 
 -- ---- what MSA-4 has in the rows
-pub expected_answerable : (s : Expected) → valid_expected s ≡ true → answerable (expected_number s) ≡ true
+pub expected_answerable : (s : Option ℕ) → valid_expected s ≡ true → answerable (expected_number s) ≡ true
 unfolding valid_expected answerable
-expected_answerable Unknown h = refl
-expected_answerable (Next e) h = h
+expected_answerable None h = refl
+expected_answerable (Some e) h = h
 
-pub sent_answerable : (n : ℕ) → eqb n 0 ≡ false → leb n greatest_sent ≡ true → answerable (Number n) ≡ true
+sent_answerable : (n : ℕ) → eqb n 0 ≡ false → leb n greatest_sent ≡ true → answerable (Number n) ≡ true
 unfolding answerable
 sent_answerable n z h =
     let l = leb-true n greatest_sent h in
     let some = eqb-false n 0 z in
     rw (le-leb 1 n (omega arith), le-leb n greatest_expected (omega (arith, l)))
 
-pub row-answerable : (a : Application) (s : Expected) (f : NumberField) → valid_expected s ≡ true → field_fits f ≡ true
+pub row-answerable : (a : Application) (s : Option ℕ) (f : Result SequenceNumber NumberError) → valid_expected s ≡ true → field_fits f ≡ true
     → answerable (row_of a s f).number ≡ true
 unfolding row_of answerable
-row-answerable a s Missing v h = expected_answerable s v
-row-answerable a s NotNumber v h = expected_answerable s v
-row-answerable a s (Present MinusOne) v h = refl
-row-answerable a Unknown (Present (Number n)) v h =
+row-answerable a s (Err why) v h = expected_answerable s v
+row-answerable a s (Ok MinusOne) v h = refl
+row-answerable a None (Ok (Number n)) v h =
     cond_ind (λ (r : Row). answerable r.number ≡ true) (eqb n 0) _ _ (λ e. refl) (λ e. sent_answerable n e h)
-row-answerable a (Next e) (Present (Number n)) v h =
-    let expected = expected_answerable (Next e) v in
+row-answerable a (Some e) (Ok (Number n)) v h =
+    let expected = expected_answerable (Some e) v in
     cond_ind (λ (r : Row). answerable r.number ≡ true) (eqb n 0) _ _ (λ z. expected)
     (λ z. cond_ind (λ (r : Row). answerable r.number ≡ true) (eqb n e) _ _ (λ y. sent_answerable n z h) (λ y. expected))
 
 -- and what is expected after them
-pub row_expected : (a : Application) (s : Expected) (f : NumberField) → valid_expected s ≡ true → field_fits f ≡ true
+pub row_expected : (a : Application) (s : Option ℕ) (f : Result SequenceNumber NumberError) → valid_expected s ≡ true → field_fits f ≡ true
     → valid_expected (row_of a s f).persisted.expected ≡ true
 unfolding row_of valid_expected
-row_expected a s Missing v h = v
-row_expected a s NotNumber v h = v
-row_expected a s (Present MinusOne) v h = refl
-row_expected a Unknown (Present (Number n)) v h =
+row_expected a s (Err why) v h = v
+row_expected a s (Ok MinusOne) v h = refl
+row_expected a None (Ok (Number n)) v h =
     cond_ind (λ (r : Row). valid_expected r.persisted.expected ≡ true) (eqb n 0) _ _ (λ e. refl)
     (λ e. let l = leb-true n greatest_sent h in rw (le-leb 1 (n + 1) (omega arith), le-leb (n + 1) greatest_expected (omega arith)))
-row_expected a (Next e) (Present (Number n)) v h =
+row_expected a (Some e) (Ok (Number n)) v h =
     cond_ind (λ (r : Row). valid_expected r.persisted.expected ≡ true) (eqb n 0) _ _ (λ z. v)
     (λ z. cond_ind (λ (r : Row). valid_expected r.persisted.expected ≡ true) (eqb n e) _ _
     (λ y. let l = leb-true n greatest_sent h in rw (le-leb 1 (n + 1) (omega arith), le-leb (n + 1) greatest_expected (omega arith))) (λ y. v))
 
-module _ (e : Expected) (v : valid_expected e ≡ true) (r : Row) (h : is_row e r ≡ true) where
+module _ (e : Option ℕ) (v : valid_expected e ≡ true) (r : Row) (h : is_row e r ≡ true) where
   pub open_answerable : answerable r.number ≡ true
   open_answerable = let i = is-row e v r h in rw i.is (row-answerable i.application e i.field v i.fits)
 
@@ -201,11 +194,11 @@ module _ (e : Expected) (v : valid_expected e ≡ true) (r : Row) (h : is_row e 
   open_expected = let i = is-row e v r h in rw i.is (row_expected i.application e i.field v i.fits)
 
   -- a transaction that is stored has a number
-  pub open_transaction : (n : ℕ) → r.persisted.transaction ≡ Numbered n → 1 ≤ n
+  pub open_transaction : (n : ℕ) → r.persisted.transaction ≡ Some n → 1 ≤ n
   unfolding is_row
   open_transaction n q =
-      let is : stored_row n e r ≡ true = sym (ap (λ (t : Transaction). is_row_for t e r) q) ∙ h in
-      let first = and_left (code_of_stored r.code && is_due e n) (same_number r.number (Number n) && same_expected r.persisted.expected (Next (n + 1))) is in
+      let is : stored_row n e r ≡ true = sym (ap (λ (t : Option ℕ). is_row_for t e r) q) ∙ h in
+      let first = and_left (code_of_stored r.code && is_due e n) (same_number r.number (Number n) && same_expected r.persisted.expected (Some (n + 1))) is in
       due_least e n v (and_right (code_of_stored r.code) (is_due e n) first)
 
 -- ---- control IDs
@@ -220,7 +213,7 @@ allowed-bytes [] h = refl
 allowed-bytes (x ∷ xs) h =
     rw (allowed_byte x (and_left (allowed x) (all_allowed xs) h), allowed-bytes xs (and_right (allowed x) (all_allowed xs) h))
 
-pub control_length : (s : List ℕ) → valid_control_id s ≡ true → length s ≤ 20
+control_length : (s : List ℕ) → valid_control_id s ≡ true → length s ≤ 20
 unfolding valid_control_id
 control_length s h =
     leb-true (length s) 20
@@ -235,28 +228,13 @@ module _ (s : List ℕ) (a : all_allowed s ≡ true) (v : valid_control_id s ≡
   unfolding carried in_words
   id_carried = let back = id_back in rw (back, a, v, le-leb (length s) 20 (control_length s v))
 
-module _ (id : ControlId) (h : carried id ≡ true) where
-  pub carried-length : id.length ≤ 20
-  unfolding carried
-  carried-length = leb-true id.length 20 (and_left (leb id.length 20) (all_allowed (bytes_in id) && valid_control_id (bytes_in id)) h)
-
-  carried_both : (all_allowed (bytes_in id) && valid_control_id (bytes_in id)) ≡ true
-  unfolding carried
-  carried_both = and_right (leb id.length 20) (all_allowed (bytes_in id) && valid_control_id (bytes_in id)) h
-
-  pub carried-allowed : all_allowed (bytes_in id) ≡ true
-  carried-allowed = and_left (all_allowed (bytes_in id)) (valid_control_id (bytes_in id)) carried_both
-
-  pub carried_control : valid_control_id (bytes_in id) ≡ true
-  carried_control = and_right (all_allowed (bytes_in id)) (valid_control_id (bytes_in id)) carried_both
-
 -- what a state says of its open decision
 pub record Opened (s : Receiver) (id : ControlId) (r : Row) : Type 0 where
   pub expected : valid_expected s.expected ≡ true
   pub carries : carried id ≡ true
   pub in_table : is_row s.expected r ≡ true
 
-pub opened : (s : Receiver) (id : ControlId) (r : Row) → valid_receiver s ≡ true → s.decision ≡ Decision id r → Opened s id r
+pub opened : (s : Receiver) (id : ControlId) (r : Row) → valid_receiver s ≡ true → s.decision ≡ Some (record { control_id = id; row = r }) → Opened s id r
 unfolding valid_receiver
 opened s id r v e =
     let both : (carried id && is_row s.expected r) ≡ true =

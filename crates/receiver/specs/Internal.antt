@@ -1,5 +1,5 @@
 -- What the contracts of the private functions cite. Nobody needs to believe these: no public function's contract cites them.
-use Rattle.std.specs.Prelude.{◌≡◌, List, Bool, true, ℕ, ◌+◌, ◌≤◌, length, leb}
+use Rattle.std.specs.Prelude.{◌≡◌, List, Bool, true, ℕ, ◌+◌, ◌≤◌, length, leb, Result, Ok, Err}
 use Rattle.lists.specs.Bytes.{put}
 use Rattle.lists.specs.Outcome.{Outcome, outcome}
 use Rattle.settings.specs.Settings.{valid}
@@ -9,8 +9,7 @@ use Rattle.messages.specs.Messages.{valid_control_id, answerable}
 use Rattle.numbers.specs.Numbers.{greatest_sent}
 use Rattle.numbers.specs.declared.SequenceNumber.{SequenceNumber}
 use Rattle.numbers.specs.declared.SequenceNumber.TheVariants.{MinusOne, Number}
-use Rattle.numbers.specs.declared.NumberField.{NumberField}
-use Rattle.numbers.specs.declared.NumberField.TheVariants.{Missing, NotNumber, Present}
+use Rattle.numbers.specs.declared.NumberError.{NumberError}
 use Rattle.receiver.specs.Receiver.{reply_space}
 
 -- a number that MSH-13 can hold, so that there is one after it
@@ -18,10 +17,9 @@ abbrev pub number_fits : SequenceNumber → Bool
 number_fits MinusOne = true
 number_fits (Number n) = leb n greatest_sent
 
-abbrev pub field_fits : NumberField → Bool
-field_fits Missing = true
-field_fits NotNumber = true
-field_fits (Present n) = number_fits n
+abbrev pub field_fits : Result SequenceNumber NumberError → Bool
+field_fits (Err why) = true
+field_fits (Ok n) = number_fits n
 
 -- what the tests 1 and 2 have shown
 pub record Linked (g : Settings) (start have : ℕ) : Type 0 where

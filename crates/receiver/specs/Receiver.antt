@@ -1,6 +1,6 @@
 -- Document 01, 'Receiver of sequence numbers' (001, 002), the reply column of 'Numbers that say no', and 02, §1: what the receiver decides, what is to be stored then, and the
 -- answer that it gives once that is reported stored.
-use Rattle.std.specs.Prelude.{List, [], ◌∷◌, Bool, true, false, cond, ◌&&◌, ◌||◌, ℕ, ◌+◌, length, leb, eqb}
+use Rattle.std.specs.Prelude.{List, [], ◌∷◌, Bool, true, false, cond, ◌&&◌, ◌||◌, ℕ, ◌+◌, length, leb, eqb, is_none, Option, Some, None, Result, Ok, Err}
 use Prim.Native.Char.{code}
 use Rattle.lists.specs.Bytes.{put}
 use Rattle.lists.specs.Outcome.{need, Outcome, outcome}
@@ -14,33 +14,26 @@ use Rattle.fields.specs.Fields.{bytes_of}
 use Rattle.numbers.specs.Numbers.{number_field, greatest_sent, greatest_expected}
 use Rattle.numbers.specs.declared.SequenceNumber.{SequenceNumber}
 use Rattle.numbers.specs.declared.SequenceNumber.TheVariants.{MinusOne, Number}
-use Rattle.numbers.specs.declared.NumberField.{NumberField}
-use Rattle.numbers.specs.declared.NumberField.TheVariants.{Missing, NotNumber, Present}
+use Rattle.numbers.specs.declared.NumberError.{NumberError}
 use Rattle.control_id.specs.ControlId.{in_words, bytes_in}
 use Rattle.control_id.specs.declared.ControlId.{ControlId}
 use Rattle.header.specs.Header.{header_of}
 use Rattle.header.specs.declared.Header.{Header}
-use Rattle.header.specs.declared.Header.TheVariants.{Unreadable, Readable}
 use Rattle.header.specs.declared.Code.{Code}
 use Rattle.header.specs.declared.Code.TheVariants.{AA, AE, AR}
 use Rattle.messages.specs.Messages.{answer_message, valid_control_id}
-use Rattle.receiver.specs.declared.Expected.{Expected}
-use Rattle.receiver.specs.declared.Expected.TheVariants.{Unknown, Next}
 use Rattle.receiver.specs.declared.Application.{Application}
 use Rattle.receiver.specs.declared.Application.TheVariants.{Accepts, Errs}
-use Rattle.receiver.specs.declared.Transaction.{Transaction}
-use Rattle.receiver.specs.declared.Transaction.TheVariants.{NoTransaction, Numbered}
 use Rattle.receiver.specs.declared.Row.{Row}
-use Rattle.receiver.specs.declared.Open.{Open}
-use Rattle.receiver.specs.declared.Open.TheVariants.{NoDecision, Decision}
+use Rattle.receiver.specs.declared.Decision.{Decision}
 use Rattle.receiver.specs.declared.Receiver.{Receiver}
 use Rattle.receiver.specs.declared.Decided.{Decided}
 use Rattle.receiver.specs.declared.Answered.{Answered}
 
 -- "Stored state: NONE, or expected E of 1 or more"; "999,999,999,999,999 may be expected"
-unfoldable pub valid_expected : Expected → Bool
-valid_expected Unknown = true
-valid_expected (Next e) = leb 1 e && leb e greatest_expected
+unfoldable pub valid_expected : Option ℕ → Bool
+valid_expected None = true
+valid_expected (Some e) = leb 1 e && leb e greatest_expected
 
 -- "The application's verdict picks AA or AE; both store."
 abbrev pub application_code : Application → Code
@@ -48,50 +41,48 @@ application_code Accepts = AA
 application_code Errs = AE
 
 -- "E or -1"
-abbrev pub expected_number : Expected → SequenceNumber
-expected_number Unknown = MinusOne
-expected_number (Next e) = Number e
+abbrev pub expected_number : Option ℕ → SequenceNumber
+expected_number None = MinusOne
+expected_number (Some e) = Number e
 
 -- a row of the table: MSA-1, MSA-4, and "Stored then"
-abbrev pub row : Code → SequenceNumber → Transaction → Expected → Row
+abbrev pub row : Code → SequenceNumber → Option ℕ → Option ℕ → Row
 row c n t e = record { code = c; number = n; persisted = record { transaction = t; expected = e } }
 
 -- AA or AE, n | transaction n, and n + 1
 abbrev pub stores : Application → ℕ → Row
-stores a n = row (application_code a) (Number n) (Numbered n) (Next (n + 1))
+stores a n = row (application_code a) (Number n) (Some n) (Some (n + 1))
 
 -- the table: what MSH-13 holds and the state | MSA-1, MSA-4 | stored then
-unfoldable pub row_of : Application → Expected → NumberField → Row
+unfoldable pub row_of : Application → Option ℕ → Result SequenceNumber NumberError → Row
 -- -1 | any | AA, -1 | NONE
-row_of a s (Present MinusOne) = row AA MinusOne NoTransaction Unknown
+row_of a s (Ok MinusOne) = row AA MinusOne None None
 -- 0 | NONE | AA, -1 | NONE
 -- n | NONE | AA or AE, n | transaction n, and n + 1
-row_of a Unknown (Present (Number n)) = cond (eqb n 0) (row AA MinusOne NoTransaction Unknown) (stores a n)
+row_of a None (Ok (Number n)) = cond (eqb n 0) (row AA MinusOne None None) (stores a n)
 -- 0 | E | AA, E | E
 -- n | E = n | AA or AE, n | transaction n, and n + 1
 -- n | E not n | AR, E | E
-row_of a (Next e) (Present (Number n)) =
-    cond (eqb n 0) (row AA (Number e) NoTransaction (Next e))
+row_of a (Some e) (Ok (Number n)) =
+    cond (eqb n 0) (row AA (Number e) None (Some e))
     (cond (eqb n e) (stores a n)
-    (row AR (Number e) NoTransaction (Next e)))
+    (row AR (Number e) None (Some e)))
 -- missing, empty or not a number | any | AR, E or -1 | as before
-row_of a s Missing = row AR (expected_number s) NoTransaction s
-row_of a s NotNumber = row AR (expected_number s) NoTransaction s
+row_of a s (Err why) = row AR (expected_number s) None s
 
 -- ---- the state: what is stored, and what a crash loses, the open decision
 -- no decision is open: so it is with what is stored, after a crash
-abbrev pub closed : Expected → Receiver
-closed e = record { expected = e; decision = NoDecision }
+abbrev pub closed : Option ℕ → Receiver
+closed e = record { expected = e; decision = None }
 
-abbrev pub is_closed : Open → Bool
-is_closed NoDecision = true
-is_closed (Decision id r) = false
+abbrev pub is_closed : Option Decision → Bool
+is_closed o = is_none o
 
-abbrev pub same_expected : Expected → Expected → Bool
-same_expected Unknown Unknown = true
-same_expected Unknown (Next n) = false
-same_expected (Next m) Unknown = false
-same_expected (Next m) (Next n) = eqb m n
+abbrev pub same_expected : Option ℕ → Option ℕ → Bool
+same_expected None None = true
+same_expected None (Some n) = false
+same_expected (Some m) None = false
+same_expected (Some m) (Some n) = eqb m n
 
 abbrev pub same_number : SequenceNumber → SequenceNumber → Bool
 same_number MinusOne MinusOne = true
@@ -105,38 +96,38 @@ code_of_stored AA = true
 code_of_stored AE = true
 code_of_stored AR = false
 
-abbrev pub is_due : Expected → ℕ → Bool
-is_due Unknown n = leb 1 n && leb n greatest_sent
-is_due (Next e) n = eqb n e && leb n greatest_sent
+abbrev pub is_due : Option ℕ → ℕ → Bool
+is_due None n = leb 1 n && leb n greatest_sent
+is_due (Some e) n = eqb n e && leb n greatest_sent
 
 -- and those that store none: AA, -1 and NONE, or AA or AR, E or -1 and as before
-abbrev pub code_of_kept : Code → Expected → Expected → Bool
-code_of_kept AA e f = same_expected f Unknown || same_expected f e
+abbrev pub code_of_kept : Code → Option ℕ → Option ℕ → Bool
+code_of_kept AA e f = same_expected f None || same_expected f e
 code_of_kept AE e f = false
 code_of_kept AR e f = same_expected f e
 
-abbrev pub kept_row : Expected → Row → Bool
+abbrev pub kept_row : Option ℕ → Row → Bool
 kept_row e r = same_number r.number (expected_number r.persisted.expected) && code_of_kept r.code e r.persisted.expected
 
-abbrev pub stored_row : ℕ → Expected → Row → Bool
+abbrev pub stored_row : ℕ → Option ℕ → Row → Bool
 stored_row n e r =
-    (code_of_stored r.code && is_due e n) && (same_number r.number (Number n) && same_expected r.persisted.expected (Next (n + 1)))
+    (code_of_stored r.code && is_due e n) && (same_number r.number (Number n) && same_expected r.persisted.expected (Some (n + 1)))
 
 -- a row of the table for what is expected: an open decision is one
-abbrev pub is_row_for : Transaction → Expected → Row → Bool
-is_row_for NoTransaction e r = kept_row e r
-is_row_for (Numbered n) e r = stored_row n e r
+abbrev pub is_row_for : Option ℕ → Option ℕ → Row → Bool
+is_row_for None e r = kept_row e r
+is_row_for (Some n) e r = stored_row n e r
 
-unfoldable pub is_row : Expected → Row → Bool
+unfoldable pub is_row : Option ℕ → Row → Bool
 is_row e r = is_row_for r.persisted.transaction e r
 
 -- a control ID that an answer can carry
 unfoldable pub carried : ControlId → Bool
 carried id = leb id.length 20 && (all_allowed (bytes_in id) && valid_control_id (bytes_in id))
 
-abbrev pub valid_open : Expected → Open → Bool
-valid_open e NoDecision = true
-valid_open e (Decision id r) = carried id && is_row e r
+abbrev pub valid_open : Option ℕ → Option Decision → Bool
+valid_open e None = true
+valid_open e (Some o) = carried o.control_id && is_row e o.row
 
 -- every value is an input; these are the states
 unfoldable pub valid_receiver : Receiver → Bool
@@ -152,14 +143,14 @@ abbrev pub undecided : ℕ → ℕ → Receiver → Decided
 undecided k n s = decided k n false s
 
 abbrev pub opens : Receiver → ControlId → Row → Decided
-opens s id r = decided 0 0 true (record { expected = s.expected; decision = Decision id r })
+opens s id r = decided 0 0 true (record { expected = s.expected; decision = Some (record { control_id = id; row = r }) })
 
 -- a data block: 9, or the row for its MSH-13. A control ID that no block could hold is no readable one
-abbrev pub header_decided : Application → Receiver → List ℕ → Header → Decided
-header_decided a s d Unreadable = undecided 0 HEAD s
-header_decided a s d (Readable id seq) =
-    need (all_allowed (bytes_of id d)) (undecided 0 HEAD s)
-    (opens s (in_words (bytes_of id d)) (row_of a s.expected (number_field greatest_sent (bytes_of seq d))))
+abbrev pub header_decided : Application → Receiver → List ℕ → Option Header → Decided
+header_decided a s d None = undecided 0 HEAD s
+header_decided a s d (Some h) =
+    need (all_allowed (bytes_of h.control_id d)) (undecided 0 HEAD s)
+    (opens s (in_words (bytes_of h.control_id d)) (row_of a s.expected (number_field greatest_sent (bytes_of h.sequence d))))
 
 -- the decision on an accepted block, its type and data: 11 for no state, and "for .. a decision .. while one is [open]", whatever the block; "a receiver drops an accepted N block"
 unfoldable pub decide_of : Application → Receiver → ℕ → List ℕ → Decided
@@ -187,10 +178,10 @@ abbrev pub replied : Receiver → List ℕ → ℕ → List ℕ → Outcome Answ
 replied s block start b = outcome (answered 0 s (length block)) (put b start block)
 
 -- "a host that reports failure gets nothing to send and finds the old state"; 11 "for a report with no decision open"
-abbrev pub reported_of : Settings → Bool → Receiver → ℕ → List ℕ → Open → Outcome Answered
-reported_of g stored s start b NoDecision = refused STATE s b
-reported_of g true s start b (Decision id r) = replied (closed r.persisted.expected) (answer_block g (bytes_in id) r) start b
-reported_of g false s start b (Decision id r) = outcome (answered 0 (closed s.expected) 0) b
+abbrev pub reported_of : Settings → Bool → Receiver → ℕ → List ℕ → Option Decision → Outcome Answered
+reported_of g stored s start b None = refused STATE s b
+reported_of g true s start b (Some o) = replied (closed o.row.persisted.expected) (answer_block g (bytes_in o.control_id) o.row) start b
+reported_of g false s start b (Some o) = outcome (answered 0 (closed s.expected) 0) b
 
 -- "Room needed .. for a receiver's reply D + 15 (minimal D + 3)"
 abbrev pub reply_space : Settings → ℕ

@@ -1,46 +1,28 @@
 // The second act: the answer of the open decision, once it is reported stored. And the N reply.
 ghost use Rattle.std.specs.Prelude.{◌≡◌, true, ◌+◌, ◌≤◌, leb, length};
 ghost use Rattle.lists.specs.Outcome.{outcome};
-ghost use Rattle.writer.specs.Write.{frame_length};
 ghost use Rattle.control_id.specs.ControlId.{bytes_in};
 ghost use Rattle.messages.specs.Messages.{answerable};
 ghost use Rattle.receiver.specs.Receiver.{answered, carried, closed, valid_receiver, is_block_number, reason_of, nak_block, nak_reply, answer_block, reply_space, reported_of, answer_of, nak_of};
 ghost use Rattle.receiver.specs.Internal.{Linked, framed, Answerable};
 
-use crate::states::{is_closed, is_receiver};
-use crate::{Answered, Expected, Open, Receiver, Row};
+use crate::states::is_receiver;
+use crate::{Answered, Decision, Receiver, Row};
 use control_id::ControlId;
 use settings::{Kind, Settings};
-
-fn frame_length(kind: Kind) -> usize
-    ensures { result ≡ frame_length kind }
-{
-    match kind {
-        Kind::Hybrid => 15,
-        Kind::Minimal => 3,
-    }
-}
 
 // Whether a reply of D data bytes would fit from the offset on.
 pub fn fits_reply(settings: Settings, have: usize, start: usize) -> bool
     ensures { result ≡ leb (start + reply_space settings) have }
 {
-    if have < start {
-        return false;
-    }
-    let kind = settings.kind;
-    let frame = frame_length(kind);
-    if have - start < frame {
-        return false;
-    }
-    settings.data_limit <= have - start - frame
+    writer::is_long_enough(have, start, settings.kind, settings.data_limit)
 }
 
 // Whether a refused block has this number: 3 to 8 are the reader's, 9 is a decision's.
 pub fn is_block_number(number: u64) -> bool
     ensures { result ≡ is_block_number number }
 {
-    (refusal::BYTE <= number) & (number <= refusal::HEAD)
+    (refusal::BYTE..=refusal::HEAD).contains(&number)
 }
 
 fn answer_as(refusal: u64, receiver: Receiver, reply_length: usize) -> Answered
@@ -53,12 +35,12 @@ fn answer_as(refusal: u64, receiver: Receiver, reply_length: usize) -> Answered
     }
 }
 
-fn close(expected: Expected) -> Receiver
+fn close(expected: Option<u64>) -> Receiver
     ensures { result ≡ closed expected }
 {
     Receiver {
         expected,
-        decision: Open::NoDecision,
+        decision: None,
     }
 }
 
@@ -66,39 +48,37 @@ fn close(expected: Expected) -> Receiver
 fn reason_of(number: u64) -> u8
     ensures { result ≡ reason_of number }
 {
-    if number == refusal::LONG {
-        return b'B';
+    match number {
+        refusal::LONG => b'B',
+        refusal::COUNT => b'C',
+        refusal::CHECK => b'X',
+        _ => b'G',
     }
-    if number == refusal::COUNT {
-        return b'C';
-    }
-    if number == refusal::CHECK {
-        return b'X';
-    }
-    b'G'
 }
 
+#[tactic(auto, using(crate::proofs::Replying::nak_framed))]
 fn write_nak(settings: Settings, number: u64, buffer: &mut [u8], start: usize) -> usize
     requires { Linked settings start (length buffer.old) }
     ensures { outcome result buffer.new ≡ framed (nak_block settings number) start buffer.old }
 {
     let content = [reason_of(number)];
-    writer::write(settings, b'N', &content, buffer, start).length()
+    refusal::written_length(writer::write(settings, b'N', &content, buffer, start))
 }
 
 // A minimal link has no N block.
+#[tactic(auto, using(lists::proofs::Put::put_none))]
 fn write_nak_reply(settings: Settings, number: u64, buffer: &mut [u8], start: usize) -> usize
     requires { Linked settings start (length buffer.old) }
     ensures { outcome result buffer.new ≡ framed (nak_reply settings number) start buffer.old }
 {
-    let kind = settings.kind;
-    match kind {
+    match settings.kind {
         Kind::Hybrid => write_nak(settings, number, buffer, start),
         Kind::Minimal => 0,
     }
 }
 
 // Makes the answer in the first bytes of `message`, and frames it as a block.
+#[tactic(auto, using(message_theorems::proofs::Answer::answer_length, message_theorems::proofs::InBlock::answer_in_block, lists::proofs::Put::first_part), unfolding(messages::specs::Write::write_answer_of))]
 fn frame_answer(
     settings: Settings,
     control_id: &[u8],
@@ -112,10 +92,9 @@ fn frame_answer(
     requires in_bounds { 93 ≤ length message.old }
     ensures { outcome result buffer.new ≡ framed (answer_block settings control_id.now row) start buffer.old }
 {
-    let code = row.code;
-    let number = row.number;
-    let size = messages::write_answer(control_id, code, number, message, 0).length();
-    writer::write(settings, b'D', &message[..size], buffer, start).length()
+    let written = messages::write_answer(control_id, row.code, row.number, message, 0);
+    let size = refusal::written_length(written);
+    refusal::written_length(writer::write(settings, b'D', &message[..size], buffer, start))
 }
 
 // An answer has at most 93 bytes.
@@ -135,6 +114,7 @@ fn write_answer(
 }
 
 // The answer to the control ID that the state carries.
+#[tactic(auto, using(crate::proofs::Replying::unpacked_part), unfolding(crate::specs::Receiver::carried))]
 fn write_carried(
     settings: Settings,
     control_id: ControlId,
@@ -154,6 +134,7 @@ fn write_carried(
 }
 
 // The report on what is open: stored or failed.
+#[tactic(auto, using(crate::proofs::Rows::open_answerable), unfolding(crate::specs::Receiver::valid_receiver))]
 fn report_on(
     settings: Settings,
     stored: bool,
@@ -165,22 +146,20 @@ fn report_on(
     requires receiver_value { valid_receiver receiver ≡ true }
     ensures { outcome result buffer.new ≡ reported_of settings stored receiver start buffer.old receiver.decision }
 {
-    let decision = receiver.decision;
-    let Open::Decision(control_id, row) = decision else {
+    let Some(decision) = receiver.decision else {
         return answer_as(refusal::STATE, receiver, 0);
     };
     if !stored {
-        let expected = receiver.expected;
-        return answer_as(0, close(expected), 0);
+        return answer_as(0, close(receiver.expected), 0);
     }
-    let persisted = row.persisted;
-    let next = persisted.expected;
-    let size = write_carried(settings, control_id, row, buffer, start);
-    answer_as(0, close(next), size)
+    let row = decision.row;
+    let size = write_carried(settings, decision.control_id, row, buffer, start);
+    answer_as(0, close(row.persisted.expected), size)
 }
 
 // The report on the open decision. Reported stored, its answer is written into the buffer from an offset on; reported failed,
 // nothing is, and the state is that of before the decision.
+#[tactic(auto, unfolding(crate::specs::Receiver::answer_of, settings::specs::Settings::valid_link))]
 pub fn answer(
     settings: Settings,
     stored: bool,
@@ -196,13 +175,14 @@ pub fn answer(
     if !fits_reply(settings, buffer.len(), start) {
         return answer_as(refusal::TOO_SHORT, receiver, 0);
     }
-    if !is_receiver(receiver) {
+    if !is_receiver(&receiver) {
         return answer_as(refusal::STATE, receiver, 0);
     }
     report_on(settings, stored, receiver, buffer, start)
 }
 
 // The N reply to a block that was refused, by its number: 3 to 8, or the 9 of a decision.
+#[tactic(auto, unfolding(crate::specs::Receiver::nak_of, settings::specs::Settings::valid_link))]
 pub fn nak(
     settings: Settings,
     number: u64,
@@ -218,8 +198,7 @@ pub fn nak(
     if !fits_reply(settings, buffer.len(), start) {
         return answer_as(refusal::TOO_SHORT, receiver, 0);
     }
-    let decision = receiver.decision;
-    if !(is_receiver(receiver) & is_closed(decision)) {
+    if !(is_receiver(&receiver) & receiver.decision.is_none()) {
         return answer_as(refusal::STATE, receiver, 0);
     }
     let size = write_nak_reply(settings, number, buffer, start);

@@ -3,12 +3,11 @@ ghost use Rattle.std.specs.Prelude.{◌≡◌};
 ghost use Rattle.header.specs.Header.{header_of};
 ghost use Rattle.receiver.specs.Receiver.{undecided, opens, header_decided, decide_of};
 
-use crate::states::{is_closed, is_receiver};
+use crate::states::is_receiver;
 use crate::table::table_row;
-use crate::{Application, Decided, Open, Receiver, Row};
+use crate::{Application, Decided, Decision, Receiver, Row};
 use control_id::ControlId;
 use fields::field_content;
-use header::Header;
 use numbers::{SequenceNumber, read_number};
 
 const NAK_BLOCK: u64 = 78;
@@ -27,41 +26,41 @@ fn leave_undecided(refusal: u64, block: u64, receiver: Receiver) -> Decided
 fn open_decision(receiver: Receiver, control_id: ControlId, row: Row) -> Decided
     ensures { result ≡ opens receiver control_id row }
 {
-    let expected = receiver.expected;
     Decided {
         refusal: 0,
         block: 0,
         opened: true,
         receiver: Receiver {
-            expected,
-            decision: Open::Decision(control_id, row),
+            expected: receiver.expected,
+            decision: Some(Decision { control_id, row }),
         },
     }
 }
 
+#[tactic(auto, using(crate::proofs::Laws::field_fits_lem))]
 fn decide_data(application: Application, receiver: Receiver, content: &[u8]) -> Decided
     ensures { result ≡ header_decided application receiver content.now (header_of content.now) }
 {
-    let Header::Readable(id, sequence) = header::read_header(content) else {
+    let Some(header) = header::read_header(content) else {
         return leave_undecided(0, refusal::HEAD, receiver);
     };
-    let id_content = field_content(content, id);
+    let id_content = field_content(content, header.control_id);
     if !settings::are_allowed(id_content) {
         return leave_undecided(0, refusal::HEAD, receiver);
     }
     let number = read_number(
-        field_content(content, sequence),
+        field_content(content, header.sequence),
         SequenceNumber::GREATEST_SENT,
     );
-    let expected = receiver.expected;
     open_decision(
         receiver,
         control_id::pack(id_content),
-        table_row(application, expected, number),
+        table_row(application, receiver.expected, number),
     )
 }
 
 // The decision on an accepted block, by its type and data. It is opened, and stays open until it is reported stored or failed.
+#[tactic(auto, unfolding(crate::specs::Receiver::decide_of))]
 pub fn decide(
     application: Application,
     receiver: Receiver,
@@ -70,11 +69,10 @@ pub fn decide(
 ) -> Decided
     ensures { result ≡ decide_of application receiver block_type content.now }
 {
-    if !is_receiver(receiver) {
+    if !is_receiver(&receiver) {
         return leave_undecided(refusal::STATE, 0, receiver);
     }
-    let decision = receiver.decision;
-    if !is_closed(decision) {
+    if receiver.decision.is_some() {
         return leave_undecided(refusal::STATE, 0, receiver);
     }
     if block_type == NAK_BLOCK {

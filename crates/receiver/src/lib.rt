@@ -15,13 +15,6 @@ use header::Code;
 use numbers::SequenceNumber;
 pub use states::is_same_expected;
 
-// The stored state: none (document 01: NONE), or the expected sequence number.
-#[derive(Clone, Copy)]
-pub enum Expected {
-    Unknown,
-    Next(u64),
-}
-
 // The application's verdict on a transaction that is due: AA or AE.
 #[derive(Clone, Copy)]
 pub enum Application {
@@ -29,18 +22,11 @@ pub enum Application {
     Errs,
 }
 
-// A transaction that is to be persisted.
-#[derive(Clone, Copy)]
-pub enum Transaction {
-    NoTransaction,
-    Numbered(u64),
-}
-
 // What must be persisted, as one act, before the decision is reported stored.
 #[derive(Clone, Copy)]
 pub struct Persisted {
-    pub transaction: Transaction,
-    pub expected: Expected,
+    pub transaction: Option<u64>,
+    pub expected: Option<u64>,
 }
 
 // A row of the table: MSA-1, MSA-4, and what is stored then.
@@ -53,16 +39,16 @@ pub struct Row {
 
 // A decision that is not yet reported stored or failed: whom its answer is to, and its row.
 #[derive(Clone, Copy)]
-pub enum Open {
-    NoDecision,
-    Decision(ControlId, Row),
+pub struct Decision {
+    pub control_id: ControlId,
+    pub row: Row,
 }
 
 // What is stored, and what a crash loses.
 #[derive(Clone, Copy)]
 pub struct Receiver {
-    pub expected: Expected,
-    pub decision: Open,
+    pub expected: Option<u64>,
+    pub decision: Option<Decision>,
 }
 
 // What a decision answers.

@@ -4,9 +4,9 @@ ghost use Rattle.numbers.specs.Numbers.{greatest_sent};
 ghost use Rattle.receiver.specs.Receiver.{application_code, expected_number, row, stores, row_of};
 ghost use Rattle.receiver.specs.Internal.{number_fits, field_fits};
 
-use crate::{Application, Expected, Persisted, Row, Transaction};
+use crate::{Application, Persisted, Row};
 use header::Code;
-use numbers::{NumberField, SequenceNumber};
+use numbers::{NumberError, SequenceNumber};
 
 fn application_code(application: Application) -> Code
     ensures { result ≡ application_code application }
@@ -17,24 +17,24 @@ fn application_code(application: Application) -> Code
     }
 }
 
-pub(crate) fn expected_number(expected: Expected) -> SequenceNumber
+pub(crate) fn expected_number(expected: Option<u64>) -> SequenceNumber
     ensures { result ≡ expected_number expected }
 {
     match expected {
-        Expected::Unknown => SequenceNumber::MinusOne,
-        Expected::Next(number) => SequenceNumber::Number(number),
+        None => SequenceNumber::MinusOne,
+        Some(number) => SequenceNumber::Number(number),
     }
 }
 
 // A row that stores no transaction.
-fn row_without(code: Code, number: SequenceNumber, expected: Expected) -> Row
-    ensures { result ≡ row code number Transaction.NoTransaction expected }
+fn row_without(code: Code, number: SequenceNumber, expected: Option<u64>) -> Row
+    ensures { result ≡ row code number None expected }
 {
     Row {
         code,
         number,
         persisted: Persisted {
-            transaction: Transaction::NoTransaction,
+            transaction: None,
             expected,
         },
     }
@@ -49,58 +49,63 @@ fn row_storing(application: Application, n: u64) -> Row
         code: application_code(application),
         number: SequenceNumber::Number(n),
         persisted: Persisted {
-            transaction: Transaction::Numbered(n),
-            expected: Expected::Next(n + 1),
+            transaction: Some(n),
+            expected: Some(n + 1),
         },
     }
 }
 
+#[tactic(auto, unfolding(crate::specs::Receiver::row_of))]
 fn unknown_row(application: Application, n: u64) -> Row
     requires { n ≤ greatest_sent }
-    ensures { result ≡ row_of application Expected.Unknown (NumberField.Present (SequenceNumber.Number n)) }
+    ensures { result ≡ row_of application None (Ok (SequenceNumber.Number n)) }
 {
     if n == 0 {
-        return row_without(Code::AA, SequenceNumber::MinusOne, Expected::Unknown);
+        return row_without(Code::AA, SequenceNumber::MinusOne, None);
     }
     row_storing(application, n)
 }
 
+#[tactic(auto, unfolding(crate::specs::Receiver::row_of))]
 fn next_row(application: Application, e: u64, n: u64) -> Row
     requires { n ≤ greatest_sent }
-    ensures { result ≡ row_of application (Expected.Next e) (NumberField.Present (SequenceNumber.Number n)) }
+    ensures { result ≡ row_of application (Some e) (Ok (SequenceNumber.Number n)) }
 {
     if n == 0 {
-        return row_without(Code::AA, SequenceNumber::Number(e), Expected::Next(e));
+        return row_without(Code::AA, SequenceNumber::Number(e), Some(e));
     }
     if n == e {
         return row_storing(application, n);
     }
-    row_without(Code::AR, SequenceNumber::Number(e), Expected::Next(e))
+    row_without(Code::AR, SequenceNumber::Number(e), Some(e))
 }
 
-fn number_row(application: Application, expected: Expected, number: SequenceNumber) -> Row
+#[tactic(auto, unfolding(crate::specs::Receiver::row_of))]
+fn number_row(application: Application, expected: Option<u64>, number: SequenceNumber) -> Row
     requires { number_fits number ≡ true }
-    ensures { result ≡ row_of application expected (NumberField.Present number) }
+    ensures { result ≡ row_of application expected (Ok number) }
 {
     match number {
-        SequenceNumber::MinusOne => {
-            row_without(Code::AA, SequenceNumber::MinusOne, Expected::Unknown)
-        }
+        SequenceNumber::MinusOne => { row_without(Code::AA, SequenceNumber::MinusOne, None) }
         SequenceNumber::Number(n) => match expected {
-            Expected::Unknown => unknown_row(application, n),
-            Expected::Next(e) => next_row(application, e, n),
+            None => unknown_row(application, n),
+            Some(e) => next_row(application, e, n),
         },
     }
 }
 
 // The row for what MSH-13 holds.
-pub(crate) fn table_row(application: Application, expected: Expected, field: NumberField) -> Row
+#[tactic(auto, unfolding(crate::specs::Receiver::row_of))]
+pub(crate) fn table_row(
+    application: Application,
+    expected: Option<u64>,
+    field: Result<SequenceNumber, NumberError>,
+) -> Row
     requires { field_fits field ≡ true }
     ensures { result ≡ row_of application expected field }
 {
     match field {
-        NumberField::Missing => row_without(Code::AR, expected_number(expected), expected),
-        NumberField::NotNumber => row_without(Code::AR, expected_number(expected), expected),
-        NumberField::Present(number) => number_row(application, expected, number),
+        Err(_) => row_without(Code::AR, expected_number(expected), expected),
+        Ok(number) => number_row(application, expected, number),
     }
 }

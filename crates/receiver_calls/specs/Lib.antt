@@ -1,2 +1,1 @@
 pub mod ReceiverCalls
-pub mod Internal

@@ -1,60 +1,46 @@
 // A decision as the words of its report.
-ghost use Rattle.std.specs.Prelude.{◌≡◌, cond, ◌≤◌, length};
+ghost use Rattle.std.specs.Prelude.{◌≡◌, ◌≤◌, length};
 ghost use Rattle.lists.specs.Bytes.{over};
-ghost use Rattle.receiver.specs.declared.Open.{Open};
 ghost use Rattle.receiver_calls.specs.ReceiverCalls.{decision_words};
-ghost use Rattle.receiver_calls.specs.Internal.{change_record};
 
-use crate::Change;
-use crate::inputs::{expected_word, flag_word, transaction_word};
-use receiver::{Decided, Open};
+use crate::inputs::optional_word;
+use receiver::Decided;
 
-// What is to be stored: as the decision says, or nothing new.
-fn find_change(decided: Decided, decision: Open) -> Change
-    ensures { result ≡ change_record decided decision }
+// How many words a decision has.
+pub(crate) const DECISION_WORDS: usize = 5;
+
+// The decision's words, and what is to be stored: as the open decision says, or nothing new.
+fn decision_words(decided: &Decided) -> [u64; DECISION_WORDS]
+    ensures { result ≡ decision_words decided.now }
 {
-    let receiver = decided.receiver;
-    let expected = receiver.expected;
-    match decision {
-        Open::NoDecision => Change {
-            transaction: 0,
-            expected: expected_word(expected),
-            changes: 0,
-        },
-        Open::Decision(_control_id, row) => {
-            let persisted = row.persisted;
-            let transaction = persisted.transaction;
-            let next = persisted.expected;
-            Change {
-                transaction: transaction_word(transaction),
-                expected: expected_word(next),
-                changes: flag_word(!receiver::is_same_expected(next, expected)),
-            }
+    let expected = decided.receiver.expected;
+    match decided.receiver.decision {
+        Some(decision) if decided.opened => {
+            let persisted = decision.row.persisted;
+            let changes = !receiver::is_same_expected(persisted.expected, expected);
+            [
+                decided.block,
+                1,
+                optional_word(persisted.transaction),
+                optional_word(persisted.expected),
+                u64::from(changes),
+            ]
         }
+        _ => [
+            decided.block,
+            u64::from(decided.opened),
+            0,
+            optional_word(expected),
+            0,
+        ],
     }
-}
-
-// The decision that the act opened, if it opened one.
-fn find_opened(decided: Decided) -> Open
-    ensures { result ≡ cond decided.opened decided.receiver.decision Open.NoDecision }
-{
-    let receiver = decided.receiver;
-    let decision = receiver.decision;
-    if decided.opened {
-        return decision;
-    }
-    Open::NoDecision
 }
 
 // Writes over the first five words.
-pub(crate) fn write_decision(words: &mut [u64], decided: Decided)
+#[tactic(auto, unfolding(lists::specs::Bytes::over))]
+pub(crate) fn write_decision(words: &mut [u64], decided: &Decided)
     requires { 5 ≤ length words.old }
-    ensures { words.new ≡ over words.old (decision_words decided) }
+    ensures { words.new ≡ over words.old (decision_words decided.now) }
 {
-    let change = find_change(decided, find_opened(decided));
-    words[0] = decided.block;
-    words[1] = flag_word(decided.opened);
-    words[2] = change.transaction;
-    words[3] = change.expected;
-    words[4] = change.changes;
+    words[..DECISION_WORDS].copy_from_slice(&decision_words(decided));
 }

@@ -1,10 +1,9 @@
 -- What the contracts of the private functions cite. Nobody needs to believe these: no public function's contract cites them.
-use Rattle.std.specs.Prelude.{ℕ, ◌≤◌}
+use Rattle.std.specs.Prelude.{ℕ, ◌≤◌, None}
 use Rattle.numbers.specs.Numbers.{greatest_sent}
 use Rattle.sender.specs.Sender.{closed}
 use Rattle.sender.specs.declared.Persisted.{Persisted}
 use Rattle.sender.specs.declared.Sender.{Sender}
-use Rattle.sender.specs.declared.NumberedMessage.TheVariants.{Nothing}
 use Rattle.sender.specs.declared.Event.{Event}
 use Rattle.sender.specs.declared.Acted.{Acted}
 
@@ -17,4 +16,4 @@ pub record Bounded (s : Sender) : Type 0 where
 
 -- the circuit ends, after so many sends of what waited
 abbrev pub ends_with : Persisted → ℕ → Event → Acted
-ends_with p n e = record { refusal = 0; sender = closed p; send = Nothing; sends = n; event = e; block = 0; offset = 0 }
+ends_with p n e = record { refusal = 0; sender = closed p; send = None; sends = n; event = e; block = 0; offset = 0 }

@@ -1,39 +1,28 @@
 -- Document 01, 'Sender': what it has stored, what a crash loses, and its acts.
-use Rattle.std.specs.Prelude.{List, Bool, true, false, cond, not, ◌&&◌, ◌||◌, ℕ, ◌+◌, ◌-◌, length, leb, ltb, eqb}
+use Rattle.std.specs.Prelude.{List, Bool, true, false, cond, not, ◌&&◌, ◌||◌, ℕ, ◌+◌, ◌-◌, length, leb, ltb, eqb, Option, Some, None, Result, Ok, Err}
 use Prim.Native.Char.{code}
 use Rattle.lists.specs.Bytes.{same}
 use Rattle.lists.specs.Outcome.{need}
 use Rattle.settings.specs.Settings.{valid_link_limit}
 use Rattle.settings.specs.DataBytes.{all_allowed, first_forbidden}
 use Rattle.refusal.specs.Refusal.{SETTING, BYTE, LONG, HEAD, NUMBER, STATE}
-use Rattle.refusal.specs.declared.Verdict.{Verdict}
-use Rattle.refusal.specs.declared.Verdict.TheVariants.{Accepted, Refused as RefusedBlock}
+use Rattle.refusal.specs.declared.Accepted.{Accepted}
+use Rattle.refusal.specs.declared.Refusal.{Refusal}
 use Rattle.fields.specs.Fields.{bytes_of}
 use Rattle.numbers.specs.Numbers.{number_field, greatest_sent, greatest_expected, text_of}
 use Rattle.numbers.specs.declared.SequenceNumber.{SequenceNumber}
 use Rattle.numbers.specs.declared.SequenceNumber.TheVariants.{MinusOne, Number}
-use Rattle.numbers.specs.declared.NumberField.{NumberField}
-use Rattle.numbers.specs.declared.NumberField.TheVariants.{Missing, NotNumber, Present}
+use Rattle.numbers.specs.declared.NumberError.{NumberError}
 use Rattle.header.specs.Header.{header_of, acknowledgment_of, code_field}
 use Rattle.header.specs.declared.Header.{Header}
-use Rattle.header.specs.declared.Header.TheVariants.{Unreadable, Readable}
 use Rattle.header.specs.declared.Acknowledgment.{Acknowledgment}
-use Rattle.header.specs.declared.Acknowledgment.TheVariants.{Unreadable as NoAnswer, Readable as AnAnswer}
 use Rattle.header.specs.declared.Code.{Code}
 use Rattle.header.specs.declared.Code.TheVariants.{AA, AE, AR}
-use Rattle.header.specs.declared.CodeField.{CodeField}
-use Rattle.header.specs.declared.CodeField.TheVariants.{Other, Known}
 use Rattle.sender.specs.declared.SenderSettings.{SenderSettings}
-use Rattle.sender.specs.declared.SettingsMade.{SettingsMade}
-use Rattle.sender.specs.declared.SettingsMade.TheVariants.{Refused as BadSetting, Valid}
 use Rattle.sender.specs.declared.Persisted.{Persisted}
 use Rattle.sender.specs.declared.Waiting.{Waiting}
 use Rattle.sender.specs.declared.Waiting.TheVariants.{Closed, Idle, Resynchronizing, Querying, Sending}
 use Rattle.sender.specs.declared.Sender.{Sender}
-use Rattle.sender.specs.declared.SenderMade.{SenderMade}
-use Rattle.sender.specs.declared.SenderMade.TheVariants.{Refused, Made}
-use Rattle.sender.specs.declared.NumberedMessage.{NumberedMessage}
-use Rattle.sender.specs.declared.NumberedMessage.TheVariants.{Nothing, Numbered}
 use Rattle.sender.specs.declared.Event.{Event}
 use Rattle.sender.specs.declared.Event.TheVariants.{NoEvent, Delivered, DeliveredUnknown, Abandoned, Froze, Dropped}
 use Rattle.sender.specs.declared.Acted.{Acted}
@@ -52,8 +41,8 @@ abbrev pub valid_settings : SenderSettings → Bool
 valid_settings g = valid_first g.first && valid_resends g.resends
 
 -- settings of plain numbers
-abbrev pub settings_of : ℕ → ℕ → SettingsMade
-settings_of f r = need (valid_first f && valid_resends r) BadSetting (Valid (record { first = f; resends = r }))
+abbrev pub settings_of : ℕ → ℕ → Option SenderSettings
+settings_of f r = need (valid_first f && valid_resends r) None (Some (record { first = f; resends = r }))
 
 -- "Stored: f, the mark and the last submitted number (both f - 1 at first), whether resynchronised, and whether frozen.":
 -- the mark is f - 1 until "AA, -1 resynchronises, and that fact is stored"
@@ -86,27 +75,27 @@ closed p = record { persisted = p; waiting = Closed; sends = 0 }
 abbrev pub fresh_sender : ℕ → Sender
 fresh_sender f = closed (record { first = f; delivered = f - 1; last = f - 1; resynchronized = false; frozen = false })
 
-unfoldable pub sender_of : SenderSettings → SenderMade
-sender_of g = need (valid_settings g) Refused (Made (fresh_sender g.first))
+unfoldable pub sender_of : SenderSettings → Option Sender
+sender_of g = need (valid_settings g) None (Some (fresh_sender g.first))
 
 -- ---- what an act answers
 -- "An act's answer names the message to send now, if any"; "The sends made of the waiting message are a number in each answer":
 -- "the message waiting after the act"
-abbrev pub acted : Sender → NumberedMessage → Event → Acted
+abbrev pub acted : Sender → Option SequenceNumber → Event → Acted
 acted s m e = record { refusal = 0; sender = s; send = m; sends = s.sends; event = e; block = 0; offset = 0 }
 
 -- "or the one just given up"
 abbrev pub abandons : Sender → Acted
 abandons s =
-    record { refusal = 0; sender = closed s.persisted; send = Nothing; sends = s.sends; event = Abandoned; block = 0; offset = 0 }
+    record { refusal = 0; sender = closed s.persisted; send = None; sends = s.sends; event = Abandoned; block = 0; offset = 0 }
 
 -- "A refused act leaves the state equal": the number, and the offset of a byte
 abbrev pub refused : ℕ → ℕ → Sender → Acted
-refused n i s = record { refusal = n; sender = s; send = Nothing; sends = s.sends; event = NoEvent; block = 0; offset = i }
+refused n i s = record { refusal = n; sender = s; send = None; sends = s.sends; event = NoEvent; block = 0; offset = i }
 
 -- 11 for what is no state, and where no circuit is open: nothing waits
 abbrev pub no_state : Sender → Acted
-no_state s = record { refusal = STATE; sender = s; send = Nothing; sends = 0; event = NoEvent; block = 0; offset = 0 }
+no_state s = record { refusal = STATE; sender = s; send = None; sends = 0; event = NoEvent; block = 0; offset = 0 }
 
 -- ---- what waits
 -- "the transaction at mark + 1"
@@ -114,20 +103,20 @@ abbrev pub waiting_number : Persisted → ℕ
 waiting_number p = p.delivered + 1
 
 -- the message that waits for its answer, by its number ("-1, 0 or a number"), which is also its control ID
-abbrev pub waiting_message : Persisted → Waiting → NumberedMessage
-waiting_message p Closed = Nothing
-waiting_message p Idle = Nothing
-waiting_message p Resynchronizing = Numbered MinusOne
-waiting_message p Querying = Numbered (Number 0)
-waiting_message p Sending = Numbered (Number (waiting_number p))
+abbrev pub waiting_message : Persisted → Waiting → Option SequenceNumber
+waiting_message p Closed = None
+waiting_message p Idle = None
+waiting_message p Resynchronizing = Some MinusOne
+waiting_message p Querying = Some (Number 0)
+waiting_message p Sending = Some (Number (waiting_number p))
 
-abbrev pub waits_of : Sender → NumberedMessage
+abbrev pub waits_of : Sender → Option SequenceNumber
 waits_of s = waiting_message s.persisted s.waiting
 
 -- "A message is sent once as it begins to wait."
-abbrev pub first_sends : NumberedMessage → ℕ
-first_sends Nothing = 0
-first_sends (Numbered v) = 1
+abbrev pub first_sends : Option SequenceNumber → ℕ
+first_sends None = 0
+first_sends (Some v) = 1
 
 abbrev pub begins_to_wait : Persisted → Waiting → Event → Acted
 begins_to_wait p w e = acted (record { persisted = p; waiting = w; sends = first_sends (waiting_message p w) }) (waiting_message p w) e
@@ -143,18 +132,17 @@ abbrev pub on_circuit : Sender → Bool
 on_circuit s = valid_sender s && is_open s.waiting
 
 -- ---- submitting
-abbrev pub is_number : ℕ → NumberField → Bool
-is_number n (Present (Number k)) = eqb k n
-is_number n (Present MinusOne) = false
-is_number n Missing = false
-is_number n NotNumber = false
+abbrev pub is_number : ℕ → Result SequenceNumber NumberError → Bool
+is_number n (Ok (Number k)) = eqb k n
+is_number n (Ok MinusOne) = false
+is_number n (Err why) = false
 
 abbrev pub submitted : Persisted → Persisted
 submitted p = record { first = p.first; delivered = p.delivered; last = p.last + 1; resynchronized = p.resynchronized; frozen = p.frozen }
 
 -- what waits goes on waiting
 abbrev pub keeps_waiting : Sender → Acted
-keeps_waiting s = acted (record { persisted = submitted s.persisted; waiting = s.waiting; sends = s.sends }) Nothing NoEvent
+keeps_waiting s = acted (record { persisted = submitted s.persisted; waiting = s.waiting; sends = s.sends }) None NoEvent
 
 -- "it applies with or without a circuit unless frozen"; a circuit with nothing waiting sends it at once
 abbrev pub taken_in : Sender → Waiting → Acted
@@ -165,10 +153,10 @@ taken_in s Querying = keeps_waiting s
 taken_in s Sending = keeps_waiting s
 
 -- "Submitting takes the next number only (MSH-13), with MSH-10 its plain decimal"
-abbrev pub submitted_header : Sender → List ℕ → Header → Acted
-submitted_header s d Unreadable = refused HEAD 0 s
-submitted_header s d (Readable id seq) =
-    need (is_number (s.persisted.last + 1) (number_field greatest_sent (bytes_of seq d)) && same (bytes_of id d) (text_of (Number (s.persisted.last + 1))))
+abbrev pub submitted_header : Sender → List ℕ → Option Header → Acted
+submitted_header s d None = refused HEAD 0 s
+submitted_header s d (Some h) =
+    need (is_number (s.persisted.last + 1) (number_field greatest_sent (bytes_of h.sequence d)) && same (bytes_of h.control_id d) (text_of (Number (s.persisted.last + 1))))
     (refused NUMBER 0 s)
     (taken_in s s.waiting)
 
@@ -191,7 +179,7 @@ open_of s =
 
 -- "a circuit ends when the driver says so"
 unfoldable pub ended_of : Sender → Acted
-ended_of s = need (on_circuit s) (no_state s) (acted (closed s.persisted) Nothing NoEvent)
+ended_of s = need (on_circuit s) (no_state s) (acted (closed s.persisted) None NoEvent)
 
 abbrev pub with_frozen : Bool → Persisted → Persisted
 with_frozen b p = record { first = p.first; delivered = p.delivered; last = p.last; resynchronized = p.resynchronized; frozen = b }
@@ -201,7 +189,7 @@ unfoldable pub reset_of : Sender → Acted
 reset_of s =
     need (valid_sender s) (no_state s)
     (need s.persisted.frozen (refused STATE 0 s)
-    (acted (closed (with_frozen false s.persisted)) Nothing NoEvent))
+    (acted (closed (with_frozen false s.persisted)) None NoEvent))
 
 -- ---- answers
 -- "After that the transaction at mark + 1 waits for its answer, if it has been submitted."
@@ -210,7 +198,7 @@ proceeds p e = begins_to_wait p (cond (ltb p.delivered p.last) Sending Idle) e
 
 -- "all else freezes the sender"
 abbrev pub freezes : Persisted → Acted
-freezes p = acted (closed (with_frozen true p)) Nothing Froze
+freezes p = acted (closed (with_frozen true p)) None Froze
 
 abbrev pub resynchronized_of : Persisted → Persisted
 resynchronized_of p = record { first = p.first; delivered = p.delivered; last = p.last; resynchronized = true; frozen = p.frozen }
@@ -245,30 +233,29 @@ answer_transaction p c MinusOne = freezes p
 
 -- "with nothing waiting does nothing"
 abbrev pub answered : Sender → Waiting → Code → SequenceNumber → Acted
-answered s Closed c v = acted s Nothing NoEvent
-answered s Idle c v = acted s Nothing NoEvent
+answered s Closed c v = acted s None NoEvent
+answered s Idle c v = acted s None NoEvent
 answered s Resynchronizing c v = answer_resynchronizing s.persisted c v
 answered s Querying c v = answer_query s.persisted c v
 answered s Sending c v = answer_transaction s.persisted c v
 
 -- a code or a number that is none
-abbrev pub answer_of : Sender → CodeField → NumberField → Acted
-answer_of s (Known c) (Present v) = answered s s.waiting c v
-answer_of s (Known c) Missing = freezes s.persisted
-answer_of s (Known c) NotNumber = freezes s.persisted
-answer_of s Other n = freezes s.persisted
+abbrev pub answer_of : Sender → Option Code → Result SequenceNumber NumberError → Acted
+answer_of s (Some c) (Ok v) = answered s s.waiting c v
+answer_of s (Some c) (Err why) = freezes s.persisted
+answer_of s None n = freezes s.persisted
 
 -- "An answer whose MSA-2 isn't the waiting control ID is dropped and counts for nothing."
-abbrev pub answered_by : Sender → List ℕ → CodeField → NumberField → NumberedMessage → Acted
-answered_by s id c n Nothing = acted s Nothing NoEvent
-answered_by s id c n (Numbered v) = cond (same id (text_of v)) (answer_of s c n) (acted s Nothing Dropped)
+abbrev pub answered_by : Sender → List ℕ → Option Code → Result SequenceNumber NumberError → Option SequenceNumber → Acted
+answered_by s id c n None = acted s None NoEvent
+answered_by s id c n (Some v) = cond (same id (text_of v)) (answer_of s c n) (acted s None Dropped)
 
 -- ---- the timer, and blocks
 -- "resends the waiting message while fewer than r + 1 sends were made of it, and otherwise gives up"; "with nothing waiting does nothing"
-abbrev pub resend_of : ℕ → Sender → NumberedMessage → Acted
-resend_of r s Nothing = acted s Nothing NoEvent
-resend_of r s (Numbered v) =
-    cond (ltb s.sends (r + 1)) (acted (record { persisted = s.persisted; waiting = s.waiting; sends = s.sends + 1 }) (Numbered v) NoEvent)
+abbrev pub resend_of : ℕ → Sender → Option SequenceNumber → Acted
+resend_of r s None = acted s None NoEvent
+resend_of r s (Some v) =
+    cond (ltb s.sends (r + 1)) (acted (record { persisted = s.persisted; waiting = s.waiting; sends = s.sends + 1 }) (Some v) NoEvent)
     (abandons s)
 
 -- an act on an open circuit
@@ -283,22 +270,22 @@ abbrev pub with_block : ℕ → Acted → Acted
 with_block n a =
     record { refusal = a.refusal; sender = a.sender; send = a.send; sends = a.sends; event = a.event; block = n; offset = a.offset }
 
-abbrev pub data_block : ℕ → Sender → List ℕ → Acknowledgment → Acted
-data_block r s d NoAnswer = with_block HEAD (resend_of r s (waits_of s))
-data_block r s d (AnAnswer c i e) =
-    answered_by s (bytes_of i d) (code_field (bytes_of c d)) (number_field greatest_expected (bytes_of e d)) (waits_of s)
+abbrev pub data_block : ℕ → Sender → List ℕ → Option Acknowledgment → Acted
+data_block r s d None = with_block HEAD (resend_of r s (waits_of s))
+data_block r s d (Some a) =
+    answered_by s (bytes_of a.control_id d) (code_field (bytes_of a.code d)) (number_field greatest_expected (bytes_of a.expected d)) (waits_of s)
 
 -- "A timer event, an N block or a refused block resends"
-abbrev pub block_in : ℕ → Sender → Verdict → List ℕ → Acted
-block_in r s (Accepted t n) d = cond (eqb t (code "N")) (resend_of r s (waits_of s)) (data_block r s d (acknowledgment_of d))
-block_in r s (RefusedBlock k i) d = with_block k (resend_of r s (waits_of s))
+abbrev pub block_in : ℕ → Sender → Result Accepted Refusal → List ℕ → Acted
+block_in r s (Ok v) d = cond (eqb v.block_type (code "N")) (resend_of r s (waits_of s)) (data_block r s d (acknowledgment_of d))
+block_in r s (Err v) d = with_block v.number (resend_of r s (waits_of s))
 
-unfoldable pub block_read_of : ℕ → Sender → Verdict → List ℕ → Acted
+unfoldable pub block_read_of : ℕ → Sender → Result Accepted Refusal → List ℕ → Acted
 block_read_of r s v d = when_open r s (block_in r s v d)
 
 -- ---- the two acts that may send again, with their settings: f counts only where a sender is made, r in each act
 unfoldable pub timer_act_of : SenderSettings → Sender → Acted
 timer_act_of g s = need (valid_settings g) (refused SETTING 0 s) (timer_of g.resends s)
 
-unfoldable pub block_act_of : SenderSettings → Sender → Verdict → List ℕ → Acted
+unfoldable pub block_act_of : SenderSettings → Sender → Result Accepted Refusal → List ℕ → Acted
 block_act_of g s v d = need (valid_settings g) (refused SETTING 0 s) (block_read_of g.resends s v d)

@@ -1,13 +1,12 @@
 // What an answer to the waiting message brings.
 ghost use Rattle.std.specs.Prelude.{◌≡◌, ◌≤◌};
-ghost use Rattle.numbers.specs.Numbers.{greatest_sent, greatest_expected};
+ghost use Rattle.numbers.specs.Numbers.{greatest_expected};
 ghost use Rattle.sender.specs.Sender.{proceeds, freezes, delivered_of, answer_resynchronizing, answer_query, answer_transaction, answer_of};
-ghost use Rattle.sender.specs.Internal.{Bounded};
 
-use crate::state::{act, begin, end_circuit};
-use crate::{Acted, Event, NumberedMessage, Persisted, Sender, Waiting};
-use header::{Code, CodeField};
-use numbers::{NumberField, SequenceNumber};
+use crate::state::{ValidSender, act, begin, end_circuit};
+use crate::{Acted, Event, Persisted, Waiting};
+use header::Code;
+use numbers::{NumberError, SequenceNumber};
 
 // The next transaction waits, if it has been submitted.
 fn proceed(p: Persisted, event: Event) -> Acted
@@ -15,113 +14,94 @@ fn proceed(p: Persisted, event: Event) -> Acted
     ensures { result ≡ proceeds p event }
 {
     if p.delivered < p.last {
-        return begin(p, Waiting::Sending, 1, event);
+        begin(p, Waiting::Sending, 1, event)
+    } else {
+        begin(p, Waiting::Idle, 0, event)
     }
-    begin(p, Waiting::Idle, 0, event)
 }
 
 // One more transaction is delivered.
-fn deliver(p: Persisted, event: Event) -> Acted
-    requires { p.delivered ≤ greatest_sent }
-    ensures { result ≡ proceeds (delivered_of p) event }
+fn deliver(valid: ValidSender, event: Event) -> Acted
+    ensures { result ≡ proceeds (delivered_of valid.sender.persisted) event }
 {
-    let mut next = p;
-    next.delivered += 1;
+    let p = valid.sender.persisted;
+    let next = Persisted {
+        delivered: p.delivered + 1,
+        ..p
+    };
     proceed(next, event)
 }
 
 fn freeze(p: Persisted) -> Acted
     ensures { result ≡ freezes p }
 {
-    let mut frozen = p;
-    frozen.frozen = true;
+    let frozen = Persisted { frozen: true, ..p };
     end_circuit(frozen, 0, Event::Froze)
 }
 
-fn answer_resynchronizing(p: Persisted, code: Code, number: SequenceNumber) -> Acted
-    requires { p.delivered ≤ greatest_sent }
-    ensures { result ≡ answer_resynchronizing p code number }
+fn answer_resynchronizing(valid: ValidSender, code: Code, number: SequenceNumber) -> Acted
+    ensures { result ≡ answer_resynchronizing valid.sender.persisted code number }
 {
-    let Code::AA = code else {
+    let p = valid.sender.persisted;
+    let (Code::AA, SequenceNumber::MinusOne) = (code, number) else {
         return freeze(p);
     };
-    let SequenceNumber::MinusOne = number else {
-        return freeze(p);
+    let synchronized = Persisted {
+        resynchronized: true,
+        ..p
     };
-    let mut synchronized = p;
-    synchronized.resynchronized = true;
     proceed(synchronized, Event::NoEvent)
 }
 
-fn answer_query(p: Persisted, code: Code, number: SequenceNumber) -> Acted
-    requires le_first { 1 ≤ p.first }
-    requires delivered_le_greatest_sent { p.delivered ≤ greatest_sent }
-    ensures { result ≡ answer_query p code number }
+fn answer_query(valid: ValidSender, code: Code, number: SequenceNumber) -> Acted
+    ensures { result ≡ answer_query valid.sender.persisted code number }
 {
-    let Code::AA = code else {
-        return freeze(p);
-    };
-    let SequenceNumber::Number(e) = number else {
-        if p.delivered == p.first - 1 {
-            return proceed(p, Event::NoEvent);
-        }
-        return freeze(p);
-    };
+    let p = valid.sender.persisted;
     let waiting = p.delivered + 1;
-    if e == waiting {
-        return proceed(p, Event::NoEvent);
+    match (code, number) {
+        (Code::AA, SequenceNumber::MinusOne) if p.delivered == p.first - 1 => {
+            proceed(p, Event::NoEvent)
+        }
+        (Code::AA, SequenceNumber::Number(e)) if e == waiting => proceed(p, Event::NoEvent),
+        (Code::AA, SequenceNumber::Number(e)) if e == waiting + 1 && p.delivered < p.last => {
+            deliver(valid, Event::DeliveredUnknown(waiting))
+        }
+        _ => freeze(p),
     }
-    if (e == waiting + 1) & (p.delivered < p.last) {
-        return deliver(p, Event::DeliveredUnknown(waiting));
-    }
-    freeze(p)
 }
 
-fn answer_transaction(p: Persisted, code: Code, number: SequenceNumber) -> Acted
-    requires { p.delivered ≤ greatest_sent }
-    ensures { result ≡ answer_transaction p code number }
+fn answer_transaction(valid: ValidSender, code: Code, number: SequenceNumber) -> Acted
+    ensures { result ≡ answer_transaction valid.sender.persisted code number }
 {
-    let SequenceNumber::Number(e) = number else {
-        return freeze(p);
-    };
+    let p = valid.sender.persisted;
     let waiting = p.delivered + 1;
-    let Code::AR = code else {
-        if e == waiting {
-            return deliver(p, Event::Delivered(waiting, code));
+    match (code, number) {
+        (Code::AA | Code::AE, SequenceNumber::Number(e)) if e == waiting => {
+            deliver(valid, Event::Delivered(waiting, code))
         }
-        return freeze(p);
-    };
-    if e == waiting + 1 {
-        return deliver(p, Event::DeliveredUnknown(waiting));
+        (Code::AR, SequenceNumber::Number(e)) if e == waiting + 1 => {
+            deliver(valid, Event::DeliveredUnknown(waiting))
+        }
+        _ => freeze(p),
     }
-    freeze(p)
 }
 
 // An answer to what waits: MSA-1 and MSA-4.
-pub(crate) fn answer(sender: Sender, code: CodeField, number: NumberField) -> Acted
-    requires { Bounded sender }
-    ensures { result ≡ answer_of sender code number }
+pub(crate) fn answer(
+    valid: ValidSender,
+    code: Option<Code>,
+    number: Result<SequenceNumber, NumberError>,
+) -> Acted
+    ensures { result ≡ answer_of valid.sender code number }
 {
-    let p = sender.persisted;
-    let CodeField::Known(known) = code else {
-        return freeze(p);
+    let sender = valid.sender;
+    let (Some(known), Ok(present)) = (code, number) else {
+        return freeze(sender.persisted);
     };
-    let NumberField::Present(present) = number else {
-        return freeze(p);
-    };
-    let waiting = sender.waiting;
-    match waiting {
-        Waiting::Closed | Waiting::Idle => {
-            return act(sender, NumberedMessage::Nothing, Event::NoEvent);
-        }
-        Waiting::Resynchronizing => {
-            return answer_resynchronizing(p, known, present);
-        }
-        Waiting::Querying => {
-            return answer_query(p, known, present);
-        }
-        Waiting::Sending => {
-            return answer_transaction(p, known, present);
-        }
+    match sender.waiting {
+        Waiting::Closed | Waiting::Idle => act(sender, None, Event::NoEvent),
+        Waiting::Resynchronizing => answer_resynchronizing(valid, known, present),
+        Waiting::Querying => answer_query(valid, known, present),
+        Waiting::Sending => answer_transaction(valid, known, present),
     }
 }

@@ -2,53 +2,51 @@
 ghost use Rattle.std.specs.Prelude.{◌≡◌};
 ghost use Rattle.header.specs.Header.{acknowledgment_of};
 ghost use Rattle.sender.specs.Sender.{waits_of, resend_of, with_block, data_block, block_act_of};
-ghost use Rattle.sender.specs.Internal.{Bounded};
 
 use crate::answers::answer;
 use crate::circuit::resend;
-use crate::state::{act, is_on_circuit, refuse, refuse_state, waiting_message};
-use crate::{Acted, Event, NumberedMessage, Sender, SenderSettings};
+use crate::state::{ValidSender, act, is_on_circuit, refuse, refuse_state, waiting_message};
+use crate::{Acted, Event, Sender, SenderSettings};
 use fields::field_content;
-use header::Acknowledgment;
 use numbers::{SequenceNumber, read_number};
-use refusal::Verdict;
+use refusal::{Accepted, Refusal, Verdict};
 
 // A refused block: its number is reported.
-fn resend_for(number: u64, resends: u64, sender: Sender) -> Acted
-    requires { Bounded sender }
-    ensures { result ≡ with_block number (resend_of resends sender (waits_of sender)) }
+fn resend_for(number: u64, resends: u64, valid: ValidSender) -> Acted
+    ensures { result ≡ with_block number (resend_of resends valid.sender (waits_of valid.sender)) }
 {
-    let mut acted = resend(resends, sender);
-    acted.block = number;
-    acted
+    Acted {
+        block: number,
+        ..resend(resends, valid)
+    }
 }
 
 // The data of an accepted data block. An answer to anything but what waits is dropped.
-fn read_data(resends: u64, sender: Sender, content: &[u8]) -> Acted
-    requires { Bounded sender }
-    ensures { result ≡ data_block resends sender content.now (acknowledgment_of content.now) }
+fn read_data(resends: u64, valid: ValidSender, content: &[u8]) -> Acted
+    ensures { result ≡ data_block resends valid.sender content.now (acknowledgment_of content.now) }
 {
-    let Acknowledgment::Readable(code, control_id, expected) = header::read_acknowledgment(content)
-    else {
-        return resend_for(refusal::HEAD, resends, sender);
+    let sender = valid.sender;
+    let Some(answered) = header::read_acknowledgment(content) else {
+        return resend_for(refusal::HEAD, resends, valid);
     };
-    let NumberedMessage::Numbered(number) = waiting_message(sender) else {
-        return act(sender, NumberedMessage::Nothing, Event::NoEvent);
+    let Some(number) = waiting_message(sender) else {
+        return act(sender, None, Event::NoEvent);
     };
-    if !numbers::is_text(field_content(content, control_id), number) {
-        return act(sender, NumberedMessage::Nothing, Event::Dropped);
+    if !numbers::is_text(field_content(content, answered.control_id), number) {
+        return act(sender, None, Event::Dropped);
     }
     answer(
-        sender,
-        header::read_code(field_content(content, code)),
+        valid,
+        header::read_code(field_content(content, answered.code)),
         read_number(
-            field_content(content, expected),
+            field_content(content, answered.expected),
             SequenceNumber::GREATEST_EXPECTED,
         ),
     )
 }
 
 // A block was read: an answer, an N block or a refused block.
+#[tactic(auto, unfolding(crate::specs::Sender::block_act_of, crate::specs::Sender::block_read_of))]
 pub fn block_read(
     settings: SenderSettings,
     sender: Sender,
@@ -63,16 +61,10 @@ pub fn block_read(
     if !is_on_circuit(sender) {
         return refuse_state(sender);
     }
-    let resends = settings.resends;
+    let valid = ValidSender { sender };
     match verdict {
-        Verdict::Accepted(t, _) => {
-            if t == b'N' {
-                return resend(resends, sender);
-            }
-            return read_data(resends, sender, content);
-        }
-        Verdict::Refused(number, _) => {
-            return resend_for(number, resends, sender);
-        }
+        Ok(accepted) if accepted.block_type == b'N' => resend(settings.resends, valid),
+        Ok(_) => read_data(settings.resends, valid, content),
+        Err(refusal) => resend_for(refusal.number, settings.resends, valid),
     }
 }

@@ -29,15 +29,16 @@ pub struct Persisted {
     pub frozen: bool,
 }
 
-// What waits for its answer on the circuit. A crash loses it: then no circuit is open.
+// What waits for its answer on the circuit. A crash loses it: then no circuit is open. Numbered as in the driver's words
+// (GMV_WAITING_..).
 #[derive(Clone, Copy)]
 pub enum Waiting {
-    Closed,
-    Idle,
-    Resynchronizing,
-    Querying,
+    Closed = 0,
+    Idle = 1,
+    Resynchronizing = 2,
+    Querying = 3,
     // The transaction after the last delivered one.
-    Sending,
+    Sending = 4,
 }
 
 #[derive(Clone, Copy)]
@@ -56,13 +57,6 @@ pub struct SenderSettings {
     pub resends: u64,
 }
 
-// What making settings of plain numbers gives.
-#[derive(Clone, Copy)]
-pub enum SettingsMade {
-    Refused,
-    Valid(SenderSettings),
-}
-
 impl SenderSettings {
     pub const SMALLEST_FIRST: u64 = 1;
     // How often a message is sent again, where the host says nothing else.
@@ -70,40 +64,21 @@ impl SenderSettings {
 
     pub const LARGEST_RESENDS: u64 = 99;
 
-    // The settings of a sender, or a refusal (1).
-    pub fn new(first: u64, resends: u64) -> SettingsMade
+    // The settings of a sender; none where one is out of its range, which callers refuse by 1.
+    pub fn new(first: u64, resends: u64) -> Option<SenderSettings>
         ensures { result ≡ settings_of first resends }
     {
         let settings = SenderSettings { first, resends };
-        if settings.is_valid() {
-            SettingsMade::Valid(settings)
-        } else {
-            SettingsMade::Refused
-        }
+        settings.is_valid().then_some(settings)
     }
 
     // Whether every setting is within its range.
     pub fn is_valid(self) -> bool
         ensures { result ≡ valid_settings self }
     {
-        let least = Self::SMALLEST_FIRST <= self.first;
-        let most = self.first <= SequenceNumber::GREATEST_SENT;
-        (least & most) & (self.resends <= Self::LARGEST_RESENDS)
+        let first_ok = (Self::SMALLEST_FIRST..=SequenceNumber::GREATEST_SENT).contains(&self.first);
+        first_ok & (self.resends <= Self::LARGEST_RESENDS)
     }
-}
-
-// What is made of settings.
-#[derive(Clone, Copy)]
-pub enum SenderMade {
-    Refused,
-    Made(Sender),
-}
-
-// A message by its number, which is also its control ID.
-#[derive(Clone, Copy)]
-pub enum NumberedMessage {
-    Nothing,
-    Numbered(SequenceNumber),
 }
 
 // What happened.
@@ -125,7 +100,7 @@ pub struct Acted {
     pub refusal: u64,
     pub sender: Sender,
     // The message to send now.
-    pub send: NumberedMessage,
+    pub send: Option<SequenceNumber>,
     // The sends made of the message waiting after the act, or of the one just given up.
     pub sends: u64,
     pub event: Event,

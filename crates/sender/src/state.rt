@@ -1,31 +1,36 @@
 // Which states there are, and what an act makes of them.
-ghost use Rattle.std.specs.Prelude.{◌≡◌, ◌≤◌};
+ghost use Rattle.std.specs.Prelude.{◌≡◌, ◌≤◌, true};
 ghost use Rattle.numbers.specs.Numbers.{greatest_expected};
 ghost use Rattle.sender.specs.Sender.{valid_persisted, valid_waiting, valid_sender, sender_of, acted, refused, no_state, waits_of, waiting_message, first_sends, begins_to_wait, is_open, on_circuit};
-ghost use Rattle.sender.specs.Internal.{ends_with};
+ghost use Rattle.sender.specs.Internal.{Bounded, ends_with};
 
-use crate::{
-    Acted, Event, NumberedMessage, Persisted, Sender, SenderMade, SenderSettings, Waiting,
-};
+use crate::{Acted, Event, Persisted, Sender, SenderSettings, Waiting};
 use numbers::SequenceNumber;
+
+// A sender that was found to be in a state: nothing in it can overflow.
+#[derive(Clone, Copy)]
+pub(crate) struct ValidSender {
+    pub(crate) sender: Sender,
+    ghost bounded: { Bounded sender },
+}
 
 fn is_persisted(p: Persisted) -> bool
     ensures { result ≡ valid_persisted p }
 {
-    if p.first < 1 {
+    if !(1..=SequenceNumber::GREATEST_SENT).contains(&p.first) {
         return false;
     }
     let before = p.first - 1;
-    let first_ok = p.first <= SequenceNumber::GREATEST_SENT;
-    let last_ok = (p.delivered <= p.last) & (p.last <= SequenceNumber::GREATEST_SENT);
-    first_ok & (before <= p.delivered) & last_ok & (p.resynchronized | (p.delivered == before))
+    let delivered_ok = (before..=p.last).contains(&p.delivered);
+    let last_ok = p.last <= SequenceNumber::GREATEST_SENT;
+    delivered_ok & last_ok & (p.resynchronized | (p.delivered == before))
 }
 
 fn is_waiting(p: Persisted, waiting: Waiting, n: u64) -> bool
     ensures { result ≡ valid_waiting p waiting n }
 {
     let synchronized = !p.frozen & p.resynchronized;
-    let sent = (1 <= n) & (n <= SenderSettings::LARGEST_RESENDS + 1);
+    let sent = (1..=SenderSettings::LARGEST_RESENDS + 1).contains(&n);
     match waiting {
         Waiting::Closed => n == 0,
         Waiting::Idle => synchronized & ((p.delivered == p.last) & (n == 0)),
@@ -36,23 +41,25 @@ fn is_waiting(p: Persisted, waiting: Waiting, n: u64) -> bool
 }
 
 // Every state that a run of acts can reach is one.
+#[tactic(auto, unfolding(crate::specs::Sender::valid_sender))]
 pub(crate) fn is_state(sender: Sender) -> bool
-    ensures { result ≡ valid_sender sender }
+    ensures is { result ≡ valid_sender sender }
+    ensures bounded { result ≡ true → Bounded sender }
 {
     let persisted = sender.persisted;
-    let waiting = sender.waiting;
-    is_persisted(persisted) & is_waiting(persisted, waiting, sender.sends)
+    is_persisted(persisted) & is_waiting(persisted, sender.waiting, sender.sends)
 }
 
-// A sender with nothing submitted, or a refusal (1).
-pub fn new_sender(settings: SenderSettings) -> SenderMade
+// A sender with nothing submitted; none where the settings are not valid, which callers refuse by 1.
+#[tactic(auto, unfolding(crate::specs::Sender::sender_of))]
+pub fn new_sender(settings: SenderSettings) -> Option<Sender>
     ensures { result ≡ sender_of settings }
 {
     if !settings.is_valid() {
-        return SenderMade::Refused;
+        return None;
     }
     let first = settings.first;
-    SenderMade::Made(Sender {
+    Some(Sender {
         persisted: Persisted {
             first,
             delivered: first - 1,
@@ -66,37 +73,33 @@ pub fn new_sender(settings: SenderSettings) -> SenderMade
 }
 
 // The message that waits for its answer.
-pub(crate) fn waiting_message(sender: Sender) -> NumberedMessage
+pub(crate) fn waiting_message(sender: Sender) -> Option<SequenceNumber>
     requires { sender.persisted.delivered ≤ greatest_expected }
     ensures { result ≡ waits_of sender }
 {
     let p = sender.persisted;
-    let waiting = sender.waiting;
-    match waiting {
-        Waiting::Closed | Waiting::Idle => NumberedMessage::Nothing,
-        Waiting::Resynchronizing => NumberedMessage::Numbered(SequenceNumber::MinusOne),
-        Waiting::Querying => NumberedMessage::Numbered(SequenceNumber::Number(0)),
-        Waiting::Sending => NumberedMessage::Numbered(SequenceNumber::Number(p.delivered + 1)),
+    match sender.waiting {
+        Waiting::Closed | Waiting::Idle => None,
+        Waiting::Resynchronizing => Some(SequenceNumber::MinusOne),
+        Waiting::Querying => Some(SequenceNumber::Number(0)),
+        Waiting::Sending => Some(SequenceNumber::Number(p.delivered + 1)),
     }
 }
 
 pub(crate) fn is_open(waiting: Waiting) -> bool
     ensures { result ≡ is_open waiting }
 {
-    let Waiting::Closed = waiting else {
-        return true;
-    };
-    false
+    !matches!(waiting, Waiting::Closed)
 }
 
 pub(crate) fn is_on_circuit(sender: Sender) -> bool
-    ensures { result ≡ on_circuit sender }
+    ensures is { result ≡ on_circuit sender }
+    ensures bounded { result ≡ true → Bounded sender }
 {
-    let waiting = sender.waiting;
-    is_state(sender) & is_open(waiting)
+    is_state(sender) & is_open(sender.waiting)
 }
 
-pub(crate) fn act(sender: Sender, send: NumberedMessage, event: Event) -> Acted
+pub(crate) fn act(sender: Sender, send: Option<SequenceNumber>, event: Event) -> Acted
     ensures { result ≡ acted sender send event }
 {
     Acted {
@@ -121,26 +124,21 @@ pub(crate) fn begin(p: Persisted, waiting: Waiting, sends: u64, event: Event) ->
         waiting,
         sends,
     };
-    let message = waiting_message(next);
-    act(next, message, event)
+    act(next, waiting_message(next), event)
 }
 
 // The circuit ends. The sends are those of a message that is given up.
 pub(crate) fn end_circuit(p: Persisted, sends: u64, event: Event) -> Acted
     ensures { result ≡ ends_with p sends event }
 {
+    let closed = Sender {
+        persisted: p,
+        waiting: Waiting::Closed,
+        sends: 0,
+    };
     Acted {
-        refusal: 0,
-        sender: Sender {
-            persisted: p,
-            waiting: Waiting::Closed,
-            sends: 0,
-        },
-        send: NumberedMessage::Nothing,
         sends,
-        event,
-        block: 0,
-        offset: 0,
+        ..act(closed, None, event)
     }
 }
 
@@ -149,12 +147,8 @@ pub(crate) fn refuse(number: u64, offset: usize, sender: Sender) -> Acted
 {
     Acted {
         refusal: number,
-        sender,
-        send: NumberedMessage::Nothing,
-        sends: sender.sends,
-        event: Event::NoEvent,
-        block: 0,
         offset,
+        ..act(sender, None, Event::NoEvent)
     }
 }
 
@@ -163,12 +157,7 @@ pub(crate) fn refuse_state(sender: Sender) -> Acted
     ensures { result ≡ no_state sender }
 {
     Acted {
-        refusal: refusal::STATE,
-        sender,
-        send: NumberedMessage::Nothing,
         sends: 0,
-        event: Event::NoEvent,
-        block: 0,
-        offset: 0,
+        ..refuse(refusal::STATE, 0, sender)
     }
 }

@@ -1,68 +1,48 @@
 // Submitting a transaction.
 ghost use Rattle.std.specs.Prelude.{◌≡◌};
 ghost use Rattle.header.specs.Header.{header_of};
-ghost use Rattle.sender.specs.Sender.{is_number, taken_in, submitted_header, submit_of};
-ghost use Rattle.sender.specs.Internal.{Bounded};
+ghost use Rattle.sender.specs.Sender.{taken_in, submitted_header, submit_of};
 
-use crate::state::{act, begin, is_state, refuse, refuse_state};
-use crate::{Acted, Event, NumberedMessage, Sender, Waiting};
+use crate::state::{ValidSender, act, begin, is_state, refuse, refuse_state};
+use crate::{Acted, Event, Sender, Waiting};
 use fields::field_content;
-use header::Header;
-use numbers::{NumberField, SequenceNumber, read_number};
+use numbers::{SequenceNumber, read_number};
 use settings::Settings;
 
-fn is_number(n: u64, field: NumberField) -> bool
-    ensures { result ≡ is_number n field }
-{
-    let NumberField::Present(number) = field else {
-        return false;
-    };
-    let SequenceNumber::Number(k) = number else {
-        return false;
-    };
-    k == n
-}
-
 // What waits goes on waiting; a circuit with nothing waiting sends the transaction at once.
-fn take(sender: Sender) -> Acted
-    requires { Bounded sender }
-    ensures { result ≡ taken_in sender sender.waiting }
+fn take(valid: ValidSender) -> Acted
+    ensures { result ≡ taken_in valid.sender valid.sender.waiting }
 {
-    let mut persisted = sender.persisted;
-    persisted.last += 1;
-    let waiting = sender.waiting;
-    let Waiting::Idle = waiting else {
-        let mut next = sender;
-        next.persisted = persisted;
-        return act(next, NumberedMessage::Nothing, Event::NoEvent);
+    let mut next = valid.sender;
+    next.persisted.last += 1;
+    let Waiting::Idle = next.waiting else {
+        return act(next, None, Event::NoEvent);
     };
-    begin(persisted, Waiting::Sending, 1, Event::NoEvent)
+    begin(next.persisted, Waiting::Sending, 1, Event::NoEvent)
 }
 
-fn submit_header(sender: Sender, message: &[u8]) -> Acted
-    requires { Bounded sender }
-    ensures { result ≡ submitted_header sender message.now (header_of message.now) }
+fn submit_header(valid: ValidSender, message: &[u8]) -> Acted
+    ensures { result ≡ submitted_header valid.sender message.now (header_of message.now) }
 {
-    let Header::Readable(control_id, sequence) = header::read_header(message) else {
+    let sender = valid.sender;
+    let Some(header) = header::read_header(message) else {
         return refuse(refusal::HEAD, 0, sender);
     };
-    let next = sender.persisted.last + 1;
+    let next = SequenceNumber::Number(sender.persisted.last + 1);
     let number = read_number(
-        field_content(message, sequence),
+        field_content(message, header.sequence),
         SequenceNumber::GREATEST_SENT,
     );
-    let decimal = numbers::is_text(
-        field_content(message, control_id),
-        SequenceNumber::Number(next),
-    );
-    let is_next = is_number(next, number) & decimal;
+    let decimal = numbers::is_text(field_content(message, header.control_id), next);
+    let is_next = (number == Ok(next)) & decimal;
     if !is_next {
         return refuse(refusal::NUMBER, 0, sender);
     }
-    take(sender)
+    take(valid)
 }
 
 // A transaction is submitted: the message with the next number.
+#[tactic(auto, unfolding(crate::specs::Sender::submit_of))]
 pub fn submit_transaction(data_limit: usize, sender: Sender, message: &[u8]) -> Acted
     ensures { result ≡ submit_of data_limit sender message.now }
 {
@@ -81,5 +61,5 @@ pub fn submit_transaction(data_limit: usize, sender: Sender, message: &[u8]) -> 
     if !settings::are_allowed(message) {
         return refuse(refusal::BYTE, settings::first_forbidden(message), sender);
     }
-    submit_header(sender, message)
+    submit_header(ValidSender { sender }, message)
 }

@@ -1,4 +1,5 @@
 -- The words stand for the sender: what is written is read back, and the persisted words are what a crash keeps.
+use Rattle.std.specs.Prelude.{Option, Some, None}
 use mathlib.Core.Path.{◌≡◌, refl, sym, ap, ◌∙◌}
 use mathlib.Core.List.{List, [], ◌∷◌, ◌++◌}
 use mathlib.Core.Bool.{Bool, true, false}
@@ -18,8 +19,6 @@ use Rattle.sender.specs.declared.Waiting.TheVariants.{Closed, Idle, Resynchroniz
 use Rattle.sender.specs.declared.Sender.{Sender}
 use Rattle.sender.specs.declared.Acted.{Acted}
 use Rattle.sender_calls.specs.SenderCalls.{flag_word, waiting_word, waiting_of, persisted_words, sender_words, sender_in, act_written, enough_words, act_on, sender_call}
-use Rattle.sender_calls.specs.declared.Decoded.{Decoded}
-use Rattle.sender_calls.specs.declared.Decoded.TheVariants.{Unknown, Known}
 
 flag_back : (b : Bool) → eqb (flag_word b) 1 ≡ b
 flag_back true = refl
@@ -44,7 +43,7 @@ good_waiting Querying = refl
 good_waiting Sending = refl
 
 -- whatever stands behind the seven words
-pub words_read : (s : Sender) (rest : List ℕ) → sender_in (sender_words s ++ rest) ≡ Known s
+pub words_read : (s : Sender) (rest : List ℕ) → sender_in (sender_words s ++ rest) ≡ Some s
 unfolding sender_in
 words_read s rest =
     let p = s.persisted in
@@ -52,11 +51,11 @@ words_read s rest =
     rw (good_flag p.resynchronized, good_flag p.frozen, good_waiting w, flag_back p.resynchronized, flag_back p.frozen, waiting_back w)
 
 module _ (st : List ℕ) (h : 7 ≤ length st) where
-  pub words_back : (s : Sender) → sender_in (over st (sender_words s)) ≡ Known s
+  pub words_back : (s : Sender) → sender_in (over st (sender_words s)) ≡ Some s
   words_back s = ap sender_in (over-is st (sender_words s) h) ∙ words_read s (drop 7 st)
 
   -- after a crash the driver restores the persisted words, and sets the others to 0
-  pub crash_back : (p : Persisted) → sender_in (over st (persisted_words p ++ (0 ∷ 0 ∷ []))) ≡ Known (closed p)
+  pub crash_back : (p : Persisted) → sender_in (over st (persisted_words p ++ (0 ∷ 0 ∷ []))) ≡ Some (closed p)
   crash_back p = words_back (closed p)
 
 -- a call makes of the words what the act makes of the sender
@@ -64,20 +63,20 @@ module _ (f : Sender → Acted) (same : (s : Sender) → leb 1 (f s).refusal ≡
   some_number : (n : ℕ) → eqb n 0 ≡ false → leb 1 n ≡ true
   some_number n e = le-leb 1 n (let z : n ≡ 0 → ⊥ = eqb-false n 0 e in omega arith)
 
-  read_as : (d : Decoded) → sender_in st ≡ d → act_on d f st p ≡ sender_call f st p
+  read_as : (d : Option Sender) → sender_in st ≡ d → act_on d f st p ≡ sender_call f st p
   read_as d e =
-      ap (λ (z : Decoded). act_on z f st p) (sym e)
+      ap (λ (z : Option Sender). act_on z f st p) (sym e)
       ∙ met (enough_words (length st) (length p)) (called 2 st [] p) (act_on (sender_in st) f st p) (rw (le-leb 7 (length st) h, le-leb 8 (length p) l))
 
-  written : (s : Sender) → sender_in st ≡ Known s → sender_in (act_written st p (f s)).state ≡ Known (f s).sender
+  written : (s : Sender) → sender_in st ≡ Some s → sender_in (act_written st p (f s)).state ≡ Some (f s).sender
   written s e =
-      cond_ind (λ (c : Called). sender_in c.state ≡ Known (f s).sender) (eqb (f s).refusal 0) _ _
+      cond_ind (λ (c : Called). sender_in c.state ≡ Some (f s).sender) (eqb (f s).refusal 0) _ _
       (λ z. words_back st h (f s).sender)
-      (λ z. e ∙ ap Known (sym (same s (some_number (f s).refusal z))))
+      (λ z. e ∙ ap Some (sym (same s (some_number (f s).refusal z))))
 
-  pub call_acts : (s : Sender) → sender_in st ≡ Known s → sender_in (sender_call f st p).state ≡ Known (f s).sender
-  call_acts s e = ap (λ (c : Called). sender_in c.state) (sym (read_as (Known s) e)) ∙ written s e
+  pub call_acts : (s : Sender) → sender_in st ≡ Some s → sender_in (sender_call f st p).state ≡ Some (f s).sender
+  call_acts s e = ap (λ (c : Called). sender_in c.state) (sym (read_as (Some s) e)) ∙ written s e
 
   -- and words that encode no sender stay as they are
-  pub call_keeps : sender_in st ≡ Unknown → (sender_call f st p).state ≡ st
-  call_keeps e = ap (λ (c : Called). c.state) (sym (read_as Unknown e))
+  pub call_keeps : sender_in st ≡ None → (sender_call f st p).state ≡ st
+  call_keeps e = ap (λ (c : Called). c.state) (sym (read_as None e))

@@ -1,2 +1,1 @@
 pub mod SenderCalls
-pub mod Internal

@@ -1,5 +1,5 @@
 -- What the C functions of the sender return and leave in what was passed, for every input (include/giamuvich.h).
-use Rattle.std.specs.Prelude.{List, [], ◌∷◌, ◌++◌, Bool, true, false, cond, ◌&&◌, ℕ, length, get_or, leb, eqb}
+use Rattle.std.specs.Prelude.{List, [], ◌∷◌, ◌++◌, Bool, true, false, cond, ◌&&◌, ℕ, length, get_or, leb, eqb, Option, Result, Some, None}
 use Rattle.lists.specs.Bytes.{over}
 use Rattle.lists.specs.Outcome.{need, Called, called}
 use Rattle.settings.specs.Settings.{valid_link_limit}
@@ -8,24 +8,18 @@ use Rattle.numbers.specs.declared.SequenceNumber.TheVariants.{MinusOne, Number}
 use Rattle.header.specs.declared.Code.{Code}
 use Rattle.header.specs.declared.Code.TheVariants.{AA, AE, AR}
 use Rattle.sender.specs.Sender.{settings_of, sender_of, open_of, ended_of, reset_of, timer_act_of, block_act_of, submit_of}
-use Rattle.sender.specs.declared.SettingsMade.{SettingsMade}
-use Rattle.sender.specs.declared.SettingsMade.TheVariants.{Refused as BadSetting, Valid}
+use Rattle.sender.specs.declared.SenderSettings.{SenderSettings}
 use Rattle.sender.specs.declared.Persisted.{Persisted}
 use Rattle.sender.specs.declared.Waiting.{Waiting}
 use Rattle.sender.specs.declared.Waiting.TheVariants.{Closed, Idle, Resynchronizing, Querying, Sending}
 use Rattle.sender.specs.declared.Sender.{Sender}
-use Rattle.sender.specs.declared.SenderMade.{SenderMade}
-use Rattle.sender.specs.declared.SenderMade.TheVariants.{Refused, Made}
-use Rattle.sender.specs.declared.NumberedMessage.{NumberedMessage}
-use Rattle.sender.specs.declared.NumberedMessage.TheVariants.{Nothing, Numbered}
+use Rattle.numbers.specs.declared.SequenceNumber.{SequenceNumber}
 use Rattle.sender.specs.declared.Event.{Event}
 use Rattle.sender.specs.declared.Event.TheVariants.{NoEvent, Delivered, DeliveredUnknown, Abandoned, Froze, Dropped}
 use Rattle.sender.specs.declared.Acted.{Acted}
 use Rattle.words.specs.Words.{verdict_from}
-use Rattle.words.specs.declared.VerdictMade.{VerdictMade}
-use Rattle.words.specs.declared.VerdictMade.TheVariants.{Unknown as NoVerdict, Known as AVerdict}
-use Rattle.sender_calls.specs.declared.Decoded.{Decoded}
-use Rattle.sender_calls.specs.declared.Decoded.TheVariants.{Unknown, Known}
+use Rattle.refusal.specs.declared.Accepted.{Accepted}
+use Rattle.refusal.specs.declared.Refusal.{Refusal}
 
 abbrev pub flag_word : Bool → ℕ
 flag_word true = 1
@@ -51,20 +45,20 @@ abbrev pub sender_words : Sender → List ℕ
 sender_words s = persisted_words s.persisted ++ waiting_word s.waiting ∷ s.sends ∷ []
 
 -- every content of the words is an input: flags over 1 or a waiting over 4 encode no sender
-unfoldable pub sender_in : List ℕ → Decoded
+unfoldable pub sender_in : List ℕ → Option Sender
 sender_in ws =
-    need (leb (get_or ws 3 0) 1 && (leb (get_or ws 4 0) 1 && leb (get_or ws 5 0) 4)) Unknown
-    (Known (record {
+    need (leb (get_or ws 3 0) 1 && (leb (get_or ws 4 0) 1 && leb (get_or ws 5 0) 4)) None
+    (Some (record {
       persisted = record { first = get_or ws 0 0; delivered = get_or ws 1 0; last = get_or ws 2 0; resynchronized = eqb (get_or ws 3 0) 1; frozen = eqb (get_or ws 4 0) 1 };
       waiting = waiting_of (get_or ws 5 0);
       sends = get_or ws 6 0;
     }))
 
 -- GMV_ACT_SEND, GMV_ACT_SEND_NUMBER
-abbrev pub send_words : NumberedMessage → List ℕ
-send_words Nothing = 0 ∷ 0 ∷ []
-send_words (Numbered MinusOne) = 1 ∷ 0 ∷ []
-send_words (Numbered (Number n)) = cond (eqb n 0) 2 3 ∷ n ∷ []
+abbrev pub send_words : Option SequenceNumber → List ℕ
+send_words None = 0 ∷ 0 ∷ []
+send_words (Some MinusOne) = 1 ∷ 0 ∷ []
+send_words (Some (Number n)) = cond (eqb n 0) 2 3 ∷ n ∷ []
 
 -- GMV_CODE_AA, _AE, _AR
 abbrev pub code_number : Code → ℕ
@@ -96,9 +90,9 @@ abbrev pub enough_words : ℕ → ℕ → Bool
 enough_words states reports = leb 7 states && leb 8 reports
 
 -- an act on the sender that the words encode: 2, then 11 for words that encode none, with a report of zeros, then the act
-abbrev pub act_on : Decoded → (Sender → Acted) → List ℕ → List ℕ → Called
-act_on Unknown f st p = called STATE st [] (over p (0 ∷ 0 ∷ 0 ∷ 0 ∷ 0 ∷ 0 ∷ 0 ∷ 0 ∷ []))
-act_on (Known s) f st p = act_written st p (f s)
+abbrev pub act_on : Option Sender → (Sender → Acted) → List ℕ → List ℕ → Called
+act_on None f st p = called STATE st [] (over p (0 ∷ 0 ∷ 0 ∷ 0 ∷ 0 ∷ 0 ∷ 0 ∷ 0 ∷ []))
+act_on (Some s) f st p = act_written st p (f s)
 
 abbrev pub sender_call : (Sender → Acted) → List ℕ → List ℕ → Called
 sender_call f st p = need (enough_words (length st) (length p)) (called TOO_SHORT st [] p) (act_on (sender_in st) f st p)
@@ -114,22 +108,22 @@ unfoldable pub reset_call : List ℕ → List ℕ → Called
 reset_call st p = sender_call reset_of st p
 
 -- the settings of an act: it goes by the first number that the state has, so any will do here
-abbrev pub resends_only : ℕ → SettingsMade
+abbrev pub resends_only : ℕ → Option SenderSettings
 resends_only r = settings_of 1 r
 
 -- gmv_sender_timer: 1 comes first
-abbrev pub timer_with : SettingsMade → List ℕ → List ℕ → Called
-timer_with BadSetting st p = called SETTING st [] p
-timer_with (Valid g) st p = sender_call (timer_act_of g) st p
+abbrev pub timer_with : Option SenderSettings → List ℕ → List ℕ → Called
+timer_with None st p = called SETTING st [] p
+timer_with (Some g) st p = sender_call (timer_act_of g) st p
 
 unfoldable pub timer_call : ℕ → List ℕ → List ℕ → Called
 timer_call r st p = timer_with (resends_only r) st p
 
 -- gmv_sender_block
-abbrev pub block_with : SettingsMade → VerdictMade → List ℕ → List ℕ → List ℕ → Called
-block_with BadSetting v d st p = called SETTING st [] p
-block_with (Valid g) NoVerdict d st p = called SETTING st [] p
-block_with (Valid g) (AVerdict v) d st p = sender_call (λ (s : Sender). block_act_of g s v d) st p
+abbrev pub block_with : Option SenderSettings → Option (Result Accepted Refusal) → List ℕ → List ℕ → List ℕ → Called
+block_with None v d st p = called SETTING st [] p
+block_with (Some g) None d st p = called SETTING st [] p
+block_with (Some g) (Some v) d st p = sender_call (λ (s : Sender). block_act_of g s v d) st p
 
 unfoldable pub block_call : ℕ → ℕ → ℕ → List ℕ → List ℕ → List ℕ → Called
 block_call r n t d st p = block_with (resends_only r) (verdict_from n t) d st p
@@ -140,13 +134,13 @@ submit_call limit d st p =
     need (valid_link_limit limit) (called SETTING st [] p) (sender_call (λ (s : Sender). submit_of limit s d) st p)
 
 -- gmv_sender_fresh: how often a message is sent again is said in each act
-abbrev pub fresh_made : SenderMade → List ℕ → Called
-fresh_made Refused st = called SETTING st [] []
-fresh_made (Made s) st = need (leb 7 (length st)) (called TOO_SHORT st [] []) (called 0 (over st (sender_words s)) [] [])
+abbrev pub fresh_made : Option Sender → List ℕ → Called
+fresh_made None st = called SETTING st [] []
+fresh_made (Some s) st = need (leb 7 (length st)) (called TOO_SHORT st [] []) (called 0 (over st (sender_words s)) [] [])
 
-abbrev pub fresh_with : SettingsMade → List ℕ → Called
-fresh_with BadSetting st = called SETTING st [] []
-fresh_with (Valid g) st = fresh_made (sender_of g) st
+abbrev pub fresh_with : Option SenderSettings → List ℕ → Called
+fresh_with None st = called SETTING st [] []
+fresh_with (Some g) st = fresh_made (sender_of g) st
 
 unfoldable pub fresh_call : ℕ → List ℕ → Called
 fresh_call f st = fresh_with (settings_of f 3) st

@@ -1,118 +1,97 @@
 // The sender's acts on words. Each looks at its settings (1), then at the words (2, 11), and then acts.
-ghost use Rattle.std.specs.Prelude.{◌≡◌, [], ◌≤◌, length};
-ghost use Rattle.lists.specs.Outcome.{outcome, called};
-ghost use Rattle.sender_calls.specs.Internal.{found_in};
-ghost use Rattle.sender_calls.specs.SenderCalls.{resends_only, act_written, open_call, ended_call, reset_call, timer_call, block_call, submit_call, fresh_call};
+ghost use Rattle.std.specs.Prelude.{◌≡◌, []};
+ghost use Rattle.lists.specs.Outcome.{called};
+ghost use Rattle.refusal.specs.Refusal.{number_of, answer_by};
+ghost use Rattle.sender.specs.declared.Acted.{Acted};
+ghost use Rattle.sender.specs.declared.Sender.{Sender};
+ghost use Rattle.sender_calls.specs.SenderCalls.{resends_only, sender_call, open_call, ended_call, reset_call, timer_call, block_call, submit_call, fresh_call};
 
-use crate::reports::{clear_report, write_report};
-use crate::states::{read_sender, write_sender};
-use crate::{Decoded, Found};
-use sender::{Acted, SenderMade, SenderSettings, SettingsMade};
+use crate::reports::{REPORT_WORDS, write_report};
+use crate::states::{SENDER_WORDS, read_sender, write_sender};
+use refusal::Refusal;
+use sender::{Acted, Sender, SenderSettings};
 use settings::Settings;
-use words::VerdictMade;
 
-// How many words a state and a report have.
-const SENDER_WORDS: usize = 7;
-
-const REPORT_WORDS: usize = 8;
-
-// The sender that the state's words encode, or a refusal: 2, or 11 with a report of zeros.
-fn find_sender(state: &[u64], report: &mut [u64]) -> Found
-    ensures { outcome result report.new ≡ found_in state.now report.old }
+// An act on the sender that the state's words encode. The report is written where it was refused too, and has the place then; the
+// state is written only where it was done. Words that encode no sender are refused with a report of zeros.
+#[tactic(auto, unfolding(lists::specs::Bytes::over))]
+fn act_on_words<F: FnOnce(Sender) -> Acted>(
+    act: F,
+    state: &mut [u64],
+    report: &mut [u64],
+) -> Result<(), Refusal>
+    requires { F.IsAlwaysCallable act }
+    ensures words { (f : Sender → Acted) → ((s : Sender) (r : Acted) → F.post act s r → r ≡ f s) → called (number_of result) state.new [] report.new ≡ sender_call f state.old report.old }
+    ensures answer { result ≡ answer_by (number_of result) }
 {
-    let enough = (SENDER_WORDS <= state.len()) & (REPORT_WORDS <= report.len());
-    if !enough {
-        return Found::Refused(refusal::TOO_SHORT);
+    if state.len() < SENDER_WORDS || report.len() < REPORT_WORDS {
+        return Err(Refusal::TOO_SHORT);
     }
-    let Decoded::Known(sender) = read_sender(state) else {
-        clear_report(report);
-        return Found::Refused(refusal::STATE);
+    let Some(sender) = read_sender(state) else {
+        report[..REPORT_WORDS].fill(0);
+        return Err(Refusal::STATE);
     };
-    Found::Known(sender)
-}
-
-// Writes what the act answered; the state only where the act was done.
-fn finish(acted: Acted, state: &mut [u64], report: &mut [u64]) -> u64
-    requires in_bounds { 7 ≤ length state.old }
-    requires in_bounds_2 { 8 ≤ length report.old }
-    ensures { called result state.new [] report.new ≡ act_written state.old report.old acted }
-{
-    let number = acted.refusal;
-    let sender = acted.sender;
+    let acted = act(sender);
     write_report(report, acted);
-    if number != 0 {
-        return number;
-    }
-    write_sender(state, sender);
-    0
+    refusal::answered(acted.refusal)?;
+    write_sender(state, acted.sender);
+    Ok(())
 }
 
 // The settings of an act, which goes by the first number that the state has.
-fn resends_only(resends: u64) -> SettingsMade
+fn resends_only(resends: u64) -> Option<SenderSettings>
     ensures { result ≡ resends_only resends }
 {
     SenderSettings::new(SenderSettings::SMALLEST_FIRST, resends)
 }
 
-pub fn fresh_sender_words(first: u64, state: &mut [u64]) -> u64
-    ensures { called result state.new [] [] ≡ fresh_call first state.old }
+#[tactic(auto, unfolding(crate::specs::SenderCalls::fresh_call))]
+pub fn fresh_sender_words(first: u64, state: &mut [u64]) -> Result<(), Refusal>
+    ensures { (called (number_of result) state.new [] [] ≡ fresh_call first state.old) × (result ≡ answer_by (number_of result)) }
 {
-    let SettingsMade::Valid(settings) = SenderSettings::new(first, SenderSettings::RESENDS) else {
-        return refusal::SETTING;
-    };
-    let SenderMade::Made(made) = sender::new_sender(settings) else {
-        return refusal::SETTING;
-    };
+    let settings = SenderSettings::new(first, SenderSettings::RESENDS).ok_or(Refusal::SETTING)?;
+    let fresh = sender::new_sender(settings).ok_or(Refusal::SETTING)?;
     if state.len() < SENDER_WORDS {
-        return refusal::TOO_SHORT;
+        return Err(Refusal::TOO_SHORT);
     }
-    write_sender(state, made);
-    0
+    write_sender(state, fresh);
+    Ok(())
 }
 
-pub fn opened_words(state: &mut [u64], report: &mut [u64]) -> u64
-    ensures { called result state.new [] report.new ≡ open_call state.old report.old }
+#[tactic(auto, unfolding(crate::specs::SenderCalls::open_call))]
+pub fn opened_words(state: &mut [u64], report: &mut [u64]) -> Result<(), Refusal>
+    ensures { (called (number_of result) state.new [] report.new ≡ open_call state.old report.old) × (result ≡ answer_by (number_of result)) }
 {
-    let found = find_sender(state, report);
-    match found {
-        Found::Refused(refused) => refused,
-        Found::Known(sender) => finish(sender::circuit_opened(sender), state, report),
-    }
+    act_on_words(|sender| sender::circuit_opened(sender), state, report)
 }
 
-pub fn ended_words(state: &mut [u64], report: &mut [u64]) -> u64
-    ensures { called result state.new [] report.new ≡ ended_call state.old report.old }
+#[tactic(auto, unfolding(crate::specs::SenderCalls::ended_call))]
+pub fn ended_words(state: &mut [u64], report: &mut [u64]) -> Result<(), Refusal>
+    ensures { (called (number_of result) state.new [] report.new ≡ ended_call state.old report.old) × (result ≡ answer_by (number_of result)) }
 {
-    let found = find_sender(state, report);
-    match found {
-        Found::Refused(refused) => refused,
-        Found::Known(sender) => finish(sender::circuit_ended(sender), state, report),
-    }
+    act_on_words(|sender| sender::circuit_ended(sender), state, report)
 }
 
-pub fn reset_words(state: &mut [u64], report: &mut [u64]) -> u64
-    ensures { called result state.new [] report.new ≡ reset_call state.old report.old }
+#[tactic(auto, unfolding(crate::specs::SenderCalls::reset_call))]
+pub fn reset_words(state: &mut [u64], report: &mut [u64]) -> Result<(), Refusal>
+    ensures { (called (number_of result) state.new [] report.new ≡ reset_call state.old report.old) × (result ≡ answer_by (number_of result)) }
 {
-    let found = find_sender(state, report);
-    match found {
-        Found::Refused(refused) => refused,
-        Found::Known(sender) => finish(sender::operator_reset(sender), state, report),
-    }
+    act_on_words(|sender| sender::operator_reset(sender), state, report)
 }
 
-pub fn timer_words(resends: u64, state: &mut [u64], report: &mut [u64]) -> u64
-    ensures { called result state.new [] report.new ≡ timer_call resends state.old report.old }
+#[tactic(auto, unfolding(crate::specs::SenderCalls::timer_call))]
+pub fn timer_words(resends: u64, state: &mut [u64], report: &mut [u64]) -> Result<(), Refusal>
+    ensures { (called (number_of result) state.new [] report.new ≡ timer_call resends state.old report.old) × (result ≡ answer_by (number_of result)) }
 {
-    let SettingsMade::Valid(settings) = resends_only(resends) else {
-        return refusal::SETTING;
-    };
-    let found = find_sender(state, report);
-    match found {
-        Found::Refused(refused) => refused,
-        Found::Known(sender) => finish(sender::timer_ran_out(settings, sender), state, report),
-    }
+    let settings = resends_only(resends).ok_or(Refusal::SETTING)?;
+    act_on_words(
+        |sender| sender::timer_ran_out(settings, sender),
+        state,
+        report,
+    )
 }
 
+#[tactic(auto, unfolding(crate::specs::SenderCalls::block_call))]
 pub fn block_words(
     resends: u64,
     number: u64,
@@ -120,44 +99,34 @@ pub fn block_words(
     content: &[u8],
     state: &mut [u64],
     report: &mut [u64],
-) -> u64
-    ensures { called result state.new [] report.new ≡ block_call resends number t content.now state.old report.old }
+) -> Result<(), Refusal>
+    ensures { (called (number_of result) state.new [] report.new ≡ block_call resends number t content.now state.old report.old) × (result ≡ answer_by (number_of result)) }
 {
-    let SettingsMade::Valid(settings) = resends_only(resends) else {
-        return refusal::SETTING;
-    };
-    let VerdictMade::Known(verdict) = words::verdict_from(number, t) else {
-        return refusal::SETTING;
-    };
-    let found = find_sender(state, report);
-    match found {
-        Found::Refused(refused) => refused,
-        Found::Known(sender) => finish(
-            sender::block_read(settings, sender, verdict, content),
-            state,
-            report,
-        ),
-    }
+    let settings = resends_only(resends).ok_or(Refusal::SETTING)?;
+    let verdict = words::verdict_from(number, t).ok_or(Refusal::SETTING)?;
+    act_on_words(
+        |sender| sender::block_read(settings, sender, verdict, content),
+        state,
+        report,
+    )
 }
 
+#[tactic(auto, unfolding(crate::specs::SenderCalls::submit_call))]
 pub fn submitted_words(
     data_limit: u64,
     message: &[u8],
     state: &mut [u64],
     report: &mut [u64],
-) -> u64
-    ensures { called result state.new [] report.new ≡ submit_call data_limit message.now state.old report.old }
+) -> Result<(), Refusal>
+    ensures { (called (number_of result) state.new [] report.new ≡ submit_call data_limit message.now state.old report.old) × (result ≡ answer_by (number_of result)) }
 {
-    if !Settings::is_link_limit(data_limit as usize) {
-        return refusal::SETTING;
+    let data_limit = data_limit as usize;
+    if !Settings::is_link_limit(data_limit) {
+        return Err(Refusal::SETTING);
     }
-    let found = find_sender(state, report);
-    match found {
-        Found::Refused(refused) => refused,
-        Found::Known(sender) => finish(
-            sender::submit_transaction(data_limit as usize, sender, message),
-            state,
-            report,
-        ),
-    }
+    act_on_words(
+        |sender| sender::submit_transaction(data_limit, sender, message),
+        state,
+        report,
+    )
 }

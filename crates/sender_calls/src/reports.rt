@@ -1,108 +1,56 @@
 // An act's answer as words.
-ghost use Rattle.std.specs.Prelude.{◌≡◌, [], ◌∷◌, ◌≤◌, length};
+ghost use Rattle.std.specs.Prelude.{◌≡◌, ◌≤◌, length};
 ghost use Rattle.lists.specs.Bytes.{over};
-ghost use Rattle.sender_calls.specs.Internal.{send_record, event_record};
-ghost use Rattle.sender_calls.specs.SenderCalls.{code_number, act_words};
+ghost use Rattle.sender_calls.specs.SenderCalls.{send_words, event_words, act_words};
 
-use crate::{EventWords, SendWords};
-use header::Code;
 use numbers::SequenceNumber;
-use sender::{Acted, Event, NumberedMessage};
+use sender::{Acted, Event};
 
-fn words_of_send(send: NumberedMessage) -> SendWords
-    ensures { result ≡ send_record send }
-{
-    let NumberedMessage::Numbered(number) = send else {
-        return SendWords { kind: 0, number: 0 };
-    };
-    let SequenceNumber::Number(n) = number else {
-        return SendWords { kind: 1, number: 0 };
-    };
-    if n == 0 {
-        return SendWords { kind: 2, number: 0 };
-    }
-    SendWords { kind: 3, number: n }
-}
+// How many words a report has.
+pub(crate) const REPORT_WORDS: usize = 8;
 
-fn code_number(code: Code) -> u64
-    ensures { result ≡ code_number code }
+fn send_words(send: Option<SequenceNumber>) -> [u64; 2]
+    ensures { result ≡ send_words send }
 {
-    match code {
-        Code::AA => 1,
-        Code::AE => 2,
-        Code::AR => 3,
+    match send {
+        None => [0, 0],
+        Some(SequenceNumber::MinusOne) => [1, 0],
+        Some(SequenceNumber::Number(0)) => [2, 0],
+        Some(SequenceNumber::Number(n)) => [3, n],
     }
 }
 
-fn words_of_event(event: Event) -> EventWords
-    ensures { result ≡ event_record event }
+fn event_words(event: Event) -> [u64; 3]
+    ensures { result ≡ event_words event }
 {
     match event {
-        Event::NoEvent => EventWords {
-            kind: 0,
-            delivered: 0,
-            code: 0,
-        },
-        Event::Delivered(delivered, code) => {
-            EventWords {
-                kind: 1,
-                delivered,
-                code: code_number(code),
-            }
-        }
-        Event::DeliveredUnknown(delivered) => EventWords {
-            kind: 1,
-            delivered,
-            code: 0,
-        },
-        Event::Abandoned => EventWords {
-            kind: 2,
-            delivered: 0,
-            code: 0,
-        },
-        Event::Froze => EventWords {
-            kind: 3,
-            delivered: 0,
-            code: 0,
-        },
-        Event::Dropped => EventWords {
-            kind: 4,
-            delivered: 0,
-            code: 0,
-        },
+        Event::NoEvent => [0, 0, 0],
+        // In the driver's words the codes count from 1.
+        Event::Delivered(delivered, code) => [1, delivered, code as u64 + 1],
+        Event::DeliveredUnknown(delivered) => [1, delivered, 0],
+        Event::Abandoned => [2, 0, 0],
+        Event::Froze => [3, 0, 0],
+        Event::Dropped => [4, 0, 0],
     }
 }
 
 // Writes over the first eight words.
+#[tactic(auto, unfolding(lists::specs::Bytes::over))]
 pub(crate) fn write_report(words: &mut [u64], acted: Acted)
     requires { 8 ≤ length words.old }
     ensures { words.new ≡ over words.old (act_words acted) }
 {
-    let send = acted.send;
-    let event = acted.event;
-    let sent = words_of_send(send);
-    let happened = words_of_event(event);
-    words[0] = sent.kind;
-    words[1] = sent.number;
-    words[2] = acted.sends;
-    words[3] = happened.kind;
-    words[4] = happened.delivered;
-    words[5] = happened.code;
-    words[6] = acted.block;
-    words[7] = acted.offset as u64;
-}
-
-// Writes zeros over the first eight words: nothing was done.
-pub(crate) fn clear_report(words: &mut [u64])
-    requires { 8 ≤ length words.old }
-    ensures { words.new ≡ over words.old (0 ∷ 0 ∷ 0 ∷ 0 ∷ 0 ∷ 0 ∷ 0 ∷ 0 ∷ []) }
-{
-    words[0] = 0;
-    words[1] = 0;
-    words[2] = 0;
-    words[3] = 0;
-    words[4] = 0;
-    words[5] = 0;
-    words[6] = 0;
-    words[7] = 0;
+    let [send, number] = send_words(acted.send);
+    let [event, delivered, code] = event_words(acted.event);
+    let report = [
+        send,
+        number,
+        acted.sends,
+        event,
+        delivered,
+        code,
+        acted.block,
+        acted.offset as u64,
+    ];
+    words[..REPORT_WORDS].copy_from_slice(&report);
 }

@@ -1,21 +1,30 @@
--- Laws by which the loops over bytes go: what one byte more does to each definition.
-use mathlib.Core.Path.{◌≡◌}
-use mathlib.Core.List.{List}
-use mathlib.Core.Bool.{true, false}
-use Prim.Native.Nat.{ℕ, suc, ◌+◌, ◌≤◌, ◌<◌}
+-- What the adaptors of the library do, in the words of the definitions.
+use mathlib.Core.Path.{◌≡◌, refl, sym, ◌∙◌}
+use mathlib.Core.List.{List, [], ◌∷◌}
+use mathlib.Core.Bool.{Bool, true, false, not, cond}
+use Prim.Native.Nat.{ℕ, suc, ◌+◌}
 use native.Mathlib.Omega.{arith}
-use lib.ListN.{length, drop, get_or}
-use Rattle.lists.proofs.Parts.{drop_more, drop_none}
+use lib.ListN.{length}
+use Rattle.std.specs.Prelude.{fold, position, unwrap_or}
+use Rattle.std.specs.Int.Bits.{bit_xor}
+use Rattle.std.proofs.lemmas.List.Recursion.{is_position_or_len}
+use Rattle.lists.proofs.Search.{position-is}
 use Rattle.settings.specs.Settings.{allowed}
-use Rattle.settings.specs.DataBytes.{first_forbidden}
+use Rattle.settings.specs.DataBytes.{first_forbidden, xor_from}
 
-pub forbidden_here : (s : List ℕ) (i : ℕ) → i < length s → allowed (get_or s i 0) ≡ false → i + first_forbidden (drop i s) ≡ i
-forbidden_here s i h e = let z : first_forbidden (drop i s) ≡ 0 = rw (drop_more s i h, e) in omega (arith, z)
+pub forbidden_position : (s : List ℕ) → unwrap_or (position (λ x. not (allowed x)) s) (length s) ≡ first_forbidden s
+forbidden_position s = position-is hit s ∙ sym (is_position_or_len first_forbidden hit refl step s)
+  where
+    hit : ℕ → Bool
+    hit x = not (allowed x)
 
-pub forbidden_later : (s : List ℕ) (i : ℕ) → i < length s → allowed (get_or s i 0) ≡ true → i + 1 + first_forbidden (drop (i + 1) s) ≡ i + first_forbidden (drop i s)
-forbidden_later s i h e =
-    let z : first_forbidden (drop i s) ≡ suc (first_forbidden (drop (i + 1) s)) = rw (drop_more s i h, e) in
-    omega (arith, z)
+    step : (x : ℕ) (xs : List ℕ) → first_forbidden (x ∷ xs) ≡ cond (hit x) 0 (1 + first_forbidden xs)
+    step x xs = go (allowed x)
+      where
+        go : (b : Bool) → cond b (suc (first_forbidden xs)) 0 ≡ cond (not b) 0 (1 + first_forbidden xs)
+        go true = omega arith
+        go false = refl
 
-pub forbidden_none : (s : List ℕ) (i : ℕ) → length s ≤ i → i + first_forbidden (drop i s) ≡ i
-forbidden_none s i h = let z : first_forbidden (drop i s) ≡ 0 = rw (drop_none s i h) in omega (arith, z)
+pub fold_is : (s : List ℕ) (a : ℕ) → fold bit_xor a s ≡ xor_from a s
+fold_is [] a = refl
+fold_is (x ∷ xs) a = fold_is xs (bit_xor a x)

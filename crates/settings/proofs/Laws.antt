@@ -1,21 +1,14 @@
--- What is made of settings, and what valid ones say.
+-- What valid settings say.
 use mathlib.Core.Path.{◌≡◌}
-use mathlib.Core.Bool.{true, false, not, ◌&&◌}
+use mathlib.Core.Bool.{true, not, ◌&&◌}
 use Prim.Native.Nat.{◌≤◌}
 use lib.Dec.{eqb, leb}
 use borrow.Author.Tests.{leb-true}
 use Rattle.lists.proofs.Tests.{and_right}
-use Rattle.settings.specs.Settings.{allowed, by_kind, valid, hybrid_valid, minimal_valid, made_of}
+use Rattle.settings.specs.Settings.{allowed, by_kind, valid, hybrid_valid, minimal_valid}
 use Rattle.settings.specs.declared.Kind.{Kind}
 use Rattle.settings.specs.declared.Kind.TheVariants.{Hybrid, Minimal}
 use Rattle.settings.specs.declared.Settings.{Settings}
-use Rattle.settings.specs.declared.Made.TheVariants.{Valid, Refused}
-
-pub made_valid : (g : Settings) → valid g ≡ true → Valid g ≡ made_of g
-made_valid g h = rw h
-
-pub made_refused : (g : Settings) → valid g ≡ false → Refused ≡ made_of g
-made_refused g h = rw h
 
 -- valid settings have a data limit within its range
 pub valid_limit : (g : Settings) → valid g ≡ true → g.data_limit ≤ 99994

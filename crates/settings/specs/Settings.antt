@@ -1,10 +1,8 @@
 -- Document 01, 'Hybrid block': the settings, their ranges, and what follows from them.
-use Rattle.std.specs.Prelude.{Bool, cond, ◌&&◌, ◌||◌, not, ℕ, ◌+◌, leb, ltb, eqb}
+use Rattle.std.specs.Prelude.{Bool, cond, ◌&&◌, ◌||◌, not, ℕ, ◌+◌, leb, ltb, eqb, Option, Some, None}
 use Rattle.settings.specs.declared.Kind.{Kind}
 use Rattle.settings.specs.declared.Kind.TheVariants.{Hybrid, Minimal}
 use Rattle.settings.specs.declared.Settings.{Settings}
-use Rattle.settings.specs.declared.Made.{Made}
-use Rattle.settings.specs.declared.Made.TheVariants.{Valid, Refused}
 
 -- "Data bytes are 20 to 7E and CR."
 abbrev pub allowed : ℕ → Bool
@@ -50,25 +48,25 @@ capacity_of s = by_kind s.kind (s.data_limit + 12) s.data_limit
 abbrev pub data_offset_of : Settings → ℕ
 data_offset_of s = by_kind s.kind 4 0
 
-abbrev pub made_of : Settings → Made
-made_of s = cond (valid s) (Valid s) Refused
+abbrev pub made_of : Settings → Option Settings
+made_of s = cond (valid s) (Some s) None
 
 -- settings of plain numbers; a byte is at most 255
-abbrev pub hybrid_of : ℕ → ℕ → ℕ → Made
+abbrev pub hybrid_of : ℕ → ℕ → ℕ → Option Settings
 hybrid_of sb eb d =
-    cond (ltb 255 sb) Refused
-    (cond (ltb 255 eb) Refused
+    cond (ltb 255 sb) None
+    (cond (ltb 255 eb) None
     (made_of (record { kind = Hybrid; start_block = sb; end_block = eb; data_limit = d })))
 
-abbrev pub minimal_of : ℕ → Made
+abbrev pub minimal_of : ℕ → Option Settings
 minimal_of d = made_of (record { kind = Minimal; start_block = 0x0B; end_block = 0x1C; data_limit = d })
 
-abbrev pub link_of : Made → Made
-link_of Refused = Refused
-link_of (Valid s) = cond (enough_for_link s.data_limit) (Valid s) Refused
+abbrev pub link_of : Option Settings → Option Settings
+link_of None = None
+link_of (Some s) = cond (enough_for_link s.data_limit) (Some s) None
 
-abbrev pub hybrid_link : ℕ → ℕ → ℕ → Made
+abbrev pub hybrid_link : ℕ → ℕ → ℕ → Option Settings
 hybrid_link sb eb d = link_of (hybrid_of sb eb d)
 
-abbrev pub minimal_link : ℕ → Made
+abbrev pub minimal_link : ℕ → Option Settings
 minimal_link d = link_of (minimal_of d)

@@ -1,5 +1,6 @@
 // Bytes that data may have, and the checksum.
-ghost use Rattle.std.specs.Prelude.{◌≡◌};
+ghost use Rattle.std.specs.Prelude.{◌≡◌, not, position};
+ghost use Rattle.settings.specs.Settings.{allowed};
 ghost use Rattle.settings.specs.DataBytes.{first_forbidden, all_allowed, xor_from};
 
 use crate::is_allowed;
@@ -9,39 +10,30 @@ pub fn are_allowed(s: &[u8]) -> bool
     ensures { result ≡ all_allowed s.now }
 {
     let mut good = true;
-    let mut i = 0;
-    while i < s.len() {
-        let x = s[i];
-        good = good & (((0x20 <= x) & (x <= 0x7e)) | (x == b'\r'));
-        i += 1;
+    for &x in s {
+        good &= is_allowed(x);
     }
     good
 }
 
+fn forbidden_place(s: &[u8]) -> Option<usize>
+    ensures { result ≡ position (λ x. not (allowed x)) s.now }
+{
+    s.iter().position(|x| !is_allowed(*x))
+}
+
 // The offset of the first byte that is not allowed, or the length where there is none.
+#[tactic(auto, using(crate::proofs::DataLaws::forbidden_position))]
 pub fn first_forbidden(s: &[u8]) -> usize
     ensures { result ≡ first_forbidden s.now }
 {
-    let mut i = 0;
-    while i < s.len() {
-        let x = s[i];
-        if !is_allowed(x) {
-            return i;
-        }
-        i += 1;
-    }
-    i
+    forbidden_place(s).unwrap_or(s.len())
 }
 
 // The exclusive-or of seed and every byte of s.
+#[tactic(auto, using(crate::proofs::DataLaws::fold_is))]
 pub fn checksum(seed: u8, s: &[u8]) -> u8
     ensures { result ≡ xor_from seed s.now }
 {
-    let mut sum = seed;
-    let mut i = 0;
-    while i < s.len() {
-        sum = sum ^ s[i];
-        i += 1;
-    }
-    sum
+    s.iter().fold(seed, |sum, x| sum ^ x)
 }

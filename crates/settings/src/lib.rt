@@ -6,32 +6,37 @@ mod bytes;
 mod digits;
 
 ghost use Rattle.std.specs.Prelude.{◌≡◌, ◌&&◌};
-ghost use Rattle.settings.specs.Settings.{allowed, valid_link_limit, valid, valid_link, data_offset_of, hybrid_of, minimal_of};
+ghost use Rattle.settings.specs.Settings.{by_kind, allowed, valid_link_limit, valid, valid_link, data_offset_of, hybrid_of, minimal_of, made_of};
 
 pub use bytes::{are_allowed, checksum, first_forbidden};
 pub use digits::digit_of;
 
 // The two lower layer protocols (000, C.2 and C.4).
-#[derive(Clone, Copy)]
+#[derive(Clone, Copy, PartialEq, Eq)]
 pub enum Kind {
     Hybrid,
     Minimal,
 }
 
+impl Kind {
+    // How many bytes a block has besides its data, from SB to the CR after EB.
+    pub fn frame_length(self) -> usize
+        ensures { result ≡ by_kind self 15 3 }
+    {
+        match self {
+            Kind::Hybrid => 15,
+            Kind::Minimal => 3,
+        }
+    }
+}
+
 // The block settings of a link.
-#[derive(Clone, Copy)]
+#[derive(Clone, Copy, PartialEq, Eq)]
 pub struct Settings {
     pub kind: Kind,
     pub start_block: u8,
     pub end_block: u8,
     pub data_limit: usize,
-}
-
-// What making settings of plain numbers gives.
-#[derive(Clone, Copy)]
-pub enum Made {
-    Valid(Settings),
-    Refused,
 }
 
 // Data bytes are 20 to 7E and CR.
@@ -50,31 +55,24 @@ impl Settings {
     // For a sender or receiver.
     pub const SMALLEST_LINK_LIMIT: usize = 128;
 
-    // The settings of a hybrid link, or a refusal (1).
-    pub fn hybrid(start_block: u64, end_block: u64, data_limit: u64) -> Made
+    // The settings of a hybrid link; none where one is out of its range, which callers refuse by 1.
+    pub fn hybrid(start_block: u64, end_block: u64, data_limit: u64) -> Option<Settings>
         ensures { result ≡ hybrid_of start_block end_block data_limit }
     {
-        if 255 < start_block {
-            return Made::Refused;
-        }
-        if 255 < end_block {
-            return Made::Refused;
-        }
-        let settings = Settings {
+        let start_block = u8::try_from(start_block).ok()?;
+        let end_block = u8::try_from(end_block).ok()?;
+        let data_limit = data_limit as usize;
+        Settings {
             kind: Kind::Hybrid,
-            start_block: start_block as u8,
-            end_block: end_block as u8,
-            data_limit: data_limit as usize,
-        };
-        if settings.is_valid() {
-            Made::Valid(settings)
-        } else {
-            Made::Refused
+            start_block,
+            end_block,
+            data_limit,
         }
+        .checked()
     }
 
-    // The settings of a minimal link, or a refusal (1).
-    pub fn minimal(data_limit: u64) -> Made
+    // The settings of a minimal link; none where the limit is out of its range.
+    pub fn minimal(data_limit: u64) -> Option<Settings>
         ensures { result ≡ minimal_of data_limit }
     {
         let settings = Settings {
@@ -83,35 +81,38 @@ impl Settings {
             end_block: Self::END_BLOCK,
             data_limit: data_limit as usize,
         };
-        if settings.is_valid() {
-            Made::Valid(settings)
-        } else {
-            Made::Refused
-        }
+        settings.checked()
+    }
+
+    fn checked(self) -> Option<Settings>
+        ensures { result ≡ made_of self }
+    {
+        self.is_valid().then_some(self)
     }
 
     // Whether every setting is within its range.
+    #[tactic(auto, unfolding(crate::specs::Settings::valid))]
     pub fn is_valid(self) -> bool
         ensures { result ≡ valid self }
     {
-        let kind = self.kind;
-        let limit_ok = (1 <= self.data_limit) & (self.data_limit <= Self::LARGEST_DATA_LIMIT);
-        match kind {
+        let limit_ok = (1..=Self::LARGEST_DATA_LIMIT).contains(&self.data_limit);
+        match self.kind {
             Kind::Hybrid => {
-                let start_taken = is_allowed(self.start_block);
-                let end_taken = is_allowed(self.end_block);
-                let same = self.start_block == self.end_block;
-                !start_taken & !end_taken & !same & limit_ok
+                !is_allowed(self.start_block)
+                    & !is_allowed(self.end_block)
+                    & (self.start_block != self.end_block)
+                    & limit_ok
             }
             Kind::Minimal => {
-                let start_ok = self.start_block == Self::START_BLOCK;
-                let end_ok = self.end_block == Self::END_BLOCK;
-                start_ok & end_ok & limit_ok
+                (self.start_block == Self::START_BLOCK)
+                    & (self.end_block == Self::END_BLOCK)
+                    & limit_ok
             }
         }
     }
 
     // Whether these are settings of a sender or receiver.
+    #[tactic(auto, unfolding(crate::specs::Settings::valid_link))]
     pub fn is_link(self) -> bool
         ensures { result ≡ valid_link self }
     {
@@ -122,15 +123,14 @@ impl Settings {
     pub fn is_link_limit(limit: usize) -> bool
         ensures { result ≡ valid_link_limit limit }
     {
-        (1 <= limit) & (limit <= Self::LARGEST_DATA_LIMIT) & (Self::SMALLEST_LINK_LIMIT <= limit)
+        (Self::SMALLEST_LINK_LIMIT..=Self::LARGEST_DATA_LIMIT).contains(&limit)
     }
 
     // Where an accepted block's data begins among the bytes after SB.
     pub fn data_offset(self) -> usize
         ensures { result ≡ data_offset_of self }
     {
-        let kind = self.kind;
-        match kind {
+        match self.kind {
             Kind::Hybrid => 4,
             Kind::Minimal => 0,
         }

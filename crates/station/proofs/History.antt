@@ -1,4 +1,5 @@
 -- The station is what its history says: document 01's part by Plain, and the last reply and RINT here.
+use Rattle.std.specs.Prelude.{None}
 use mathlib.Core.Path.{◌≡◌, refl, ap, ◌∙◌, subst}
 use mathlib.Core.List.{List, [], ◌∷◌}
 use mathlib.Core.Bool.{Bool, true, false, cond, not, ◌&&◌, true≢false}
@@ -24,7 +25,6 @@ use Rattle.station.specs.declared.ReplyKind.{ReplyKind}
 use Rattle.station.specs.declared.Interrupt.{Interrupt}
 use Rattle.station.specs.declared.Interrupt.TheVariants.{Unasked, Pending, Given}
 use Rattle.station.specs.declared.Turn.{Turn}
-use Rattle.station.specs.declared.Message.TheVariants.{Incomplete}
 use Rattle.station.specs.History.{Unit, good, bad, enquiry, eot, bare_enq, asks, Block, expected_after, text_held, messages_of, Past, past, past_of, station_of, is_unasked, holds_at_most, sound_state, plain_reply, open_reply, asked, turn_by, turn_of, reply_of, Opening, state_of, unit_outcome, opening_after, station_run}
 use Rattle.station.proofs.Texts.{goes_round}
 use Rattle.station.proofs.Turns.{is_asks, turn-fits}
@@ -34,7 +34,7 @@ use Rattle.station.proofs.Plain.{Stands, run, plain_outcome, run_after, either_a
 -- an act by which the station stays as it is and no message is complete
 record Keeps (s : Station) (a : StationAnswer) : Type 0 where
   station : a.acted.station ≡ s
-  incomplete : a.acted.message ≡ Incomplete
+  incomplete : a.acted.message ≡ None
 
 enq_keeps : (s : Station) (v : Turn) → Keeps s (bare_enq_of (station_state s v))
 unfolding bare_enq_of
@@ -80,7 +80,7 @@ appended_ind P e Etb n f g = f
 appended_ind P e Etx n f g = g
 
 module _ (P : Acted → Type 0) (e h n : ℕ) (x : Ending) (t b : List ℕ) (valid : leb e 7 ≡ true) where
-  good_ind : P (dropped (Open e h) Nak) → P (dropped (Open e h) (Ack n)) → P (station_acted Closed Eot Incomplete)
+  good_ind : P (dropped (Open e h) Nak) → P (dropped (Open e h) (Ack n)) → P (station_acted Closed Eot None)
       → P (appended e Etb (h + length t)) → P (appended e Etx (h + length t)) → P (good_block_of (Open e h) n x t b).answer
   unfolding good_block_of
   good_ind nak ack eots etb etx =

@@ -1,4 +1,5 @@
 -- Document 01's part of a unit: RINT and the answer to a bare ENQ aside, station, buffer and messages are what the history says.
+use Rattle.std.specs.Prelude.{None}
 use mathlib.Core.Path.{◌≡◌, refl, sym, ap, ◌∙◌, subst}
 use mathlib.Core.List.{List, ◌∷◌}
 use mathlib.Core.Bool.{Bool, true, false, cond}
@@ -18,7 +19,6 @@ use Rattle.station.specs.declared.Ending.TheVariants.{Etb, Etx}
 use Rattle.station.specs.declared.Acted.{Acted}
 use Rattle.station.specs.declared.Reply.{Reply}
 use Rattle.station.specs.declared.Reply.TheVariants.{NoReply, Ack, Nak, Eot}
-use Rattle.station.specs.declared.Message.TheVariants.{Incomplete}
 use Rattle.station.specs.History.{Unit, good, bad, enquiry, eot, bare_enq, asks, Block, block, expected_after, text_held, messages_of}
 use Rattle.station.specs.History.{Past, past, fits, unit_after, station_of, plain_reply, Run, handed_over}
 use Rattle.station.proofs.Texts.{goes_round, appended_text}
@@ -62,7 +62,7 @@ module _ (bs : List Block) (b : List ℕ) (held : take (length (text_held bs)) b
   stays : (w : Reply) → Answers (length b) (messages_of bs) (outcome (dropped now_open w) b) w (past bs false)
   stays w = record { reply = refl; stands = record { station = refl; messages = refl; size = refl; held = held; most = most } }
 
-  closes : (w : Reply) → Answers (length b) (messages_of bs) (outcome (station_acted Closed w Incomplete) b) w (past bs true)
+  closes : (w : Reply) → Answers (length b) (messages_of bs) (outcome (station_acted Closed w None) b) w (past bs true)
   closes w = record { reply = refl; stands = record { station = refl; messages = refl; size = refl; held = held; most = most } }
 
   module _ (n : ℕ) (t : List ℕ) where

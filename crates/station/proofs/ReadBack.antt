@@ -1,4 +1,5 @@
 -- The words stand for the station and its answer: what is written is read back.
+use Rattle.std.specs.Prelude.{Option, Some, None}
 use mathlib.Core.Path.{◌≡◌, refl, sym, ap, ◌∙◌}
 use mathlib.Core.List.{List, [], ◌++◌}
 use mathlib.Core.Bool.{true, cond}
@@ -17,11 +18,8 @@ use Rattle.station.specs.declared.Interrupt.TheVariants.{Unasked, Pending, Given
 use Rattle.station.specs.declared.Turn.{Turn}
 use Rattle.station.specs.declared.Reply.{Reply}
 use Rattle.station.specs.declared.Reply.TheVariants.{NoReply, Ack, Nak, Eot, Rint}
-use Rattle.station.specs.declared.Message.{Message}
-use Rattle.station.specs.declared.Message.TheVariants.{Incomplete, Complete}
 use Rattle.station.specs.declared.Acted.{Acted}
 use Rattle.station.specs.StationCalls.{kind_word, is_kind, kind_in, interrupt_word, interrupt_in, station_words, station_in, reply_words, message_words, station_report}
-use Rattle.station.specs.declared.Decoded.TheVariants.{Known}
 use Rattle.lists.proofs.Calls.{over-is}
 use Rattle.station.proofs.Turns.{fresh-only}
 
@@ -49,13 +47,13 @@ interrupt_known Pending = refl
 interrupt_known Given = refl
 
 -- ---- the state
-words_read : (s : Station) (v : Turn) (rest : List ℕ) → turn_fits s v ≡ true → station_in (station_words s v ++ rest) ≡ Known (station_state s v)
+words_read : (s : Station) (v : Turn) (rest : List ℕ) → turn_fits s v ≡ true → station_in (station_words s v ++ rest) ≡ Some (station_state s v)
 unfolding station_in
-words_read Closed v rest f = ap (λ (z : Turn). Known (station_state Closed z)) (fresh-only v.last v.interrupt f)
+words_read Closed v rest f = ap (λ (z : Turn). Some (station_state Closed z)) (fresh-only v.last v.interrupt f)
 words_read (Open e h) v rest f = rw (kind_known v.last, interrupt_known v.interrupt, kind_read v.last, interrupt_read v.interrupt, f)
 
 -- What is written of a state is read back.
-pub words_back : (st : List ℕ) (s : Station) (v : Turn) → 5 ≤ length st → turn_fits s v ≡ true → station_in (over st (station_words s v)) ≡ Known (station_state s v)
+pub words_back : (st : List ℕ) (s : Station) (v : Turn) → 5 ≤ length st → turn_fits s v ≡ true → station_in (over st (station_words s v)) ≡ Some (station_state s v)
 words_back st Closed v h f = ap station_in (over-is st (station_words Closed v) h) ∙ words_read Closed v (drop 5 st) f
 words_back st (Open e k) v h f = ap station_in (over-is st (station_words (Open e k) v) h) ∙ words_read (Open e k) v (drop 5 st) f
 
@@ -67,8 +65,8 @@ states_differ s t v w f g e = cc (words_read s v [] f, words_read t w [] g, ap (
 abbrev reply_in : List ℕ → Reply
 reply_in ws = cond (eqb (get_or ws 0 0) 1) (Ack (get_or ws 1 0)) (cond (eqb (get_or ws 0 0) 2) Nak (cond (eqb (get_or ws 0 0) 3) Eot (cond (eqb (get_or ws 0 0) 5) Rint NoReply)))
 
-abbrev message_in : List ℕ → Message
-message_in ws = cond (eqb (get_or ws 0 0) 1) (Complete (get_or ws 1 0)) Incomplete
+abbrev message_in : List ℕ → Option ℕ
+message_in ws = cond (eqb (get_or ws 0 0) 1) (Some (get_or ws 1 0)) None
 
 reply_read : (r : Reply) (ws : List ℕ) → reply_in (reply_words r ++ ws) ≡ r
 reply_read NoReply ws = refl
@@ -84,9 +82,9 @@ behind_reply Nak ws = refl
 behind_reply Eot ws = refl
 behind_reply Rint ws = refl
 
-message_read : (m : Message) → message_in (message_words m) ≡ m
-message_read Incomplete = refl
-message_read (Complete n) = refl
+message_read : (m : Option ℕ) → message_in (message_words m) ≡ m
+message_read None = refl
+message_read (Some n) = refl
 
 pub replies_differ : (a c : Acted) → station_report a ≡ station_report c → a.reply ≡ c.reply
 replies_differ a c e = sym (reply_read a.reply (message_words a.message)) ∙ ap reply_in e ∙ reply_read c.reply (message_words c.message)

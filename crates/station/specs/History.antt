@@ -1,5 +1,5 @@
 -- Document 01, 'X3.28 receiving station', and 02, §14: the station, its replies and its messages as functions of what the driver reported and asked since opening.
-use Rattle.std.specs.Prelude.{List, [], ◌∷◌, ◌++◌, Bool, true, false, cond, ◌&&◌, ℕ, ◌+◌, length, take, leb, eqb}
+use Rattle.std.specs.Prelude.{List, [], ◌∷◌, ◌++◌, Bool, true, false, cond, ◌&&◌, ℕ, ◌+◌, length, take, leb, eqb, Option, Some, None}
 use Rattle.lists.specs.Outcome.{need, Outcome, outcome}
 use Rattle.station.specs.Station.{opened_station, next_number, is_duplicate, valid_station}
 use Rattle.station.specs.Interrupt.{turn, fresh_turn, station_state, turn_after, open_given, last_reply, good_block_answer, bad_block_answer, eot_answer, bare_enq_of, interrupt_of, agrees}
@@ -16,8 +16,6 @@ use Rattle.station.specs.declared.Interrupt.TheVariants.{Unasked, Pending, Given
 use Rattle.station.specs.declared.Turn.{Turn}
 use Rattle.station.specs.declared.StationState.{StationState}
 use Rattle.station.specs.declared.StationAnswer.{StationAnswer}
-use Rattle.station.specs.declared.Message.{Message}
-use Rattle.station.specs.declared.Message.TheVariants.{Incomplete, Complete}
 
 -- what the driver reports: a good block with number, ending and text, a bad block, one ended by ENQ, EOT, a bare ENQ; and that it asks for a RINT, which is
 -- no unit of a line
@@ -167,9 +165,9 @@ unit_outcome o bare_enq = outcome (bare_enq_of (state_of o)) o.run.buffer
 unit_outcome o asks = outcome (interrupt_of (state_of o)) o.run.buffer
 
 -- where a message is complete, it is taken from the buffer's start
-abbrev pub handed_over : Message → List ℕ → List (List ℕ) → List (List ℕ)
-handed_over Incomplete b ms = ms
-handed_over (Complete n) b ms = take n b ∷ ms
+abbrev pub handed_over : Option ℕ → List ℕ → List (List ℕ) → List (List ℕ)
+handed_over None b ms = ms
+handed_over (Some n) b ms = take n b ∷ ms
 
 abbrev pub opening_after : Outcome StationAnswer → List (List ℕ) → Opening
 opening_after o ms =

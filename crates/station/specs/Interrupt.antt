@@ -1,5 +1,5 @@
 -- 02, §14, at the slave (000, C.3.4.4): the reverse interrupt, and the answer to a bare ENQ. Document 01's answers, and what of them changes.
-use Rattle.std.specs.Prelude.{List, Bool, true, false, cond, not, ◌&&◌, ℕ, ◌-◌, eqb}
+use Rattle.std.specs.Prelude.{List, Bool, true, false, cond, not, ◌&&◌, ℕ, ◌-◌, eqb, None}
 use Rattle.lists.specs.Outcome.{need, Outcome, outcome}
 use Rattle.station.specs.Station.{opened_station, valid_station, station_acted, dropped, refused_station, good_block_of, bad_block_of, eot_of}
 use Rattle.station.specs.declared.Station.{Station}
@@ -11,7 +11,6 @@ use Rattle.station.specs.declared.ReplyKind.{ReplyKind}
 use Rattle.station.specs.declared.ReplyKind.TheVariants.{NoneYet, Ack as AckKind, Nak as NakKind, Rint as RintKind}
 use Rattle.station.specs.declared.Interrupt.{Interrupt}
 use Rattle.station.specs.declared.Interrupt.TheVariants.{Unasked, Pending, Given}
-use Rattle.station.specs.declared.Message.TheVariants.{Incomplete}
 use Rattle.station.specs.declared.Turn.{Turn}
 use Rattle.station.specs.declared.StationState.{StationState}
 use Rattle.station.specs.declared.Acted.{Acted}
@@ -77,7 +76,7 @@ answered_of s a =
 
 -- ---- the acts
 abbrev pub opened_station_answer : StationAnswer
-opened_station_answer = station_answer (station_acted opened_station NoReply Incomplete) fresh_turn
+opened_station_answer = station_answer (station_acted opened_station NoReply None) fresh_turn
 
 abbrev pub good_block_answer : StationState → ℕ → Ending → List ℕ → List ℕ → Outcome StationAnswer
 good_block_answer s n x text b =
@@ -110,7 +109,7 @@ bare_enq_of s = bare_enq_at s.station s.turn
 
 -- the driver asks: "11 for asking RINT with one pending or no ACK since the last"; closed: the act doesn't apply
 abbrev pub asked_when : Station → ReplyKind → Interrupt → StationAnswer
-asked_when s k Unasked = station_answer (station_acted s NoReply Incomplete) (turn k Pending)
+asked_when s k Unasked = station_answer (station_acted s NoReply None) (turn k Pending)
 asked_when s k Pending = station_answer (refused_station s) (turn k Pending)
 asked_when s k Given = station_answer (refused_station s) (turn k Given)
 

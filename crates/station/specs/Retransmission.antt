@@ -1,11 +1,10 @@
 -- 02, §2, over a history: blocks that come in order, each transmitted once or several times.
-use Rattle.std.specs.Prelude.{◌≡◌, List, [], ◌∷◌, ◌++◌, Bool, true, ◌&&◌, ℕ, ◌≤◌, replicate}
+use Rattle.std.specs.Prelude.{◌≡◌, List, [], ◌∷◌, ◌++◌, Bool, true, ◌&&◌, ℕ, ◌≤◌, replicate, None}
 use Rattle.station.specs.Station.{is_duplicate}
 use Rattle.station.specs.declared.Ending.{Ending}
 use Rattle.station.specs.declared.Ending.TheVariants.{Etx}
 use Rattle.station.specs.declared.Reply.{Reply}
 use Rattle.station.specs.declared.Reply.TheVariants.{Ack}
-use Rattle.station.specs.declared.Message.TheVariants.{Incomplete}
 use Rattle.station.specs.History.{Unit, good, Block, block, expected_after, messages_of, fits, unit_outcome, station_run}
 
 -- for this expected number exactly one number is a duplicate, and it is 0 to 7
@@ -18,7 +17,7 @@ pub record OneDuplicate (expected : ℕ) : Type 0 where
 -- after these units the unit u is dropped with the reply w, and station, buffer and messages stay equal
 pub record Dropped (b : List ℕ) (us : List Unit) (u : Unit) (w : Reply) : Type 0 where
   pub reply : (unit_outcome (station_run b us) u).answer.acted.reply ≡ w
-  pub incomplete : (unit_outcome (station_run b us) u).answer.acted.message ≡ Incomplete
+  pub incomplete : (unit_outcome (station_run b us) u).answer.acted.message ≡ None
   pub same : (station_run b (u ∷ us)).run ≡ (station_run b us).run
 
 -- ---- lists have the newest first

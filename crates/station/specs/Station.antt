@@ -1,5 +1,5 @@
 -- Document 01, 'X3.28 receiving station' (000, C.3.1.5 and C.3.3.2), as changed by 02, §2: what it replies, appends and hands over.
-use Rattle.std.specs.Prelude.{List, Bool, true, cond, ℕ, ◌+◌, length, leb, eqb}
+use Rattle.std.specs.Prelude.{List, Bool, true, cond, ℕ, ◌+◌, length, leb, eqb, Option, Some, None}
 use Rattle.lists.specs.Bytes.{put}
 use Rattle.lists.specs.Outcome.{need, Outcome, outcome}
 use Rattle.refusal.specs.Refusal.{STATE}
@@ -9,8 +9,6 @@ use Rattle.station.specs.declared.Ending.{Ending}
 use Rattle.station.specs.declared.Ending.TheVariants.{Etb, Etx}
 use Rattle.station.specs.declared.Reply.{Reply}
 use Rattle.station.specs.declared.Reply.TheVariants.{NoReply, Ack, Nak, Eot}
-use Rattle.station.specs.declared.Message.{Message}
-use Rattle.station.specs.declared.Message.TheVariants.{Incomplete, Complete}
 use Rattle.station.specs.declared.Acted.{Acted}
 
 -- "Opened by the driver, it expects block 1"; "The driver may open at any time, which starts afresh."
@@ -35,27 +33,27 @@ valid_station Closed = true
 valid_station (Open e h) = leb e 7
 
 -- what an act answers: the station then, its reply, and whether a message is complete
-abbrev pub station_acted : Station → Reply → Message → Acted
+abbrev pub station_acted : Station → Reply → Option ℕ → Acted
 station_acted s r m = record { refusal = 0; station = s; reply = r; message = m }
 
 -- "dropped": the station stays as it is
 abbrev pub dropped : Station → Reply → Acted
-dropped s r = station_acted s r Incomplete
+dropped s r = station_acted s r None
 
 -- what is no station, and an act that does not apply: 11
 abbrev pub refused_station : Station → Acted
-refused_station s = record { refusal = STATE; station = s; reply = NoReply; message = Incomplete }
+refused_station s = record { refusal = STATE; station = s; reply = NoReply; message = None }
 
 -- "answered ACK with its number; ETX completes the message, and the next block starts a new one at the buffer's start": n bytes are held then
 abbrev pub appended : ℕ → Ending → ℕ → Acted
-appended e Etb n = station_acted (Open (next_number e) n) (Ack e) Incomplete
-appended e Etx n = station_acted (Open (next_number e) 0) (Ack e) (Complete n)
+appended e Etb n = station_acted (Open (next_number e) n) (Ack e) None
+appended e Etx n = station_acted (Open (next_number e) 0) (Ack e) (Some n)
 
 -- "A good block with the expected number is appended to the message buffer";
 -- "An otherwise good expected block that doesn't fit after the text held: EOT, station closed, held text forgotten."
 abbrev pub expected_block : ℕ → ℕ → Ending → List ℕ → List ℕ → Outcome Acted
 expected_block e h x text b =
-    need (leb (h + length text) (length b)) (outcome (station_acted Closed Eot Incomplete) b)
+    need (leb (h + length text) (length b)) (outcome (station_acted Closed Eot None) b)
     (outcome (appended e x (h + length text)) (put b h text))
 
 -- "A bad block, one numbered over 7, or one ended by ENQ: dropped, NAK."; the expected number; "a duplicate: dropped, ACK with its own number";
@@ -80,4 +78,4 @@ bad_block_of (Open e h) = need (valid_station (Open e h)) (refused_station (Open
 -- "A received EOT does the same without reply": station closed, held text forgotten
 unfoldable pub eot_of : Station → Acted
 eot_of Closed = dropped Closed NoReply
-eot_of (Open e h) = need (valid_station (Open e h)) (refused_station (Open e h)) (station_acted Closed NoReply Incomplete)
+eot_of (Open e h) = need (valid_station (Open e h)) (refused_station (Open e h)) (station_acted Closed NoReply None)

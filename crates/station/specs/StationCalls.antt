@@ -1,5 +1,5 @@
 -- What the C functions of the X3.28 station return and leave in what was passed, for every input (include/giamuvich.h).
-use Rattle.std.specs.Prelude.{List, [], ◌∷◌, ◌++◌, Bool, cond, ◌&&◌, ◌||◌, ℕ, length, get_or, leb, eqb}
+use Rattle.std.specs.Prelude.{List, [], ◌∷◌, ◌++◌, Bool, cond, ◌&&◌, ◌||◌, ℕ, length, get_or, leb, eqb, Option, Some, None}
 use Rattle.lists.specs.Bytes.{over}
 use Rattle.lists.specs.Outcome.{need, Outcome, outcome, Called, called}
 use Rattle.refusal.specs.Refusal.{SETTING, TOO_SHORT, STATE}
@@ -13,16 +13,11 @@ use Rattle.station.specs.declared.ReplyKind.{ReplyKind}
 use Rattle.station.specs.declared.ReplyKind.TheVariants.{NoneYet, Ack as AckKind, Nak as NakKind, Rint as RintKind}
 use Rattle.station.specs.declared.Interrupt.{Interrupt}
 use Rattle.station.specs.declared.Interrupt.TheVariants.{Unasked, Pending, Given}
-use Rattle.station.specs.declared.Message.{Message}
-use Rattle.station.specs.declared.Message.TheVariants.{Incomplete, Complete}
 use Rattle.station.specs.declared.Acted.{Acted}
 use Rattle.station.specs.declared.Turn.{Turn}
 use Rattle.station.specs.declared.StationState.{StationState}
 use Rattle.station.specs.declared.StationAnswer.{StationAnswer}
-use Rattle.station.specs.declared.Decoded.{Decoded}
-use Rattle.station.specs.declared.Decoded.TheVariants.{Unknown, Known}
-use Rattle.station.specs.declared.DecodedEnding.{DecodedEnding}
-use Rattle.station.specs.declared.DecodedEnding.TheVariants.{Unknown as NoEnding, Known as AnEnding}
+use Rattle.station.specs.declared.Ending.{Ending}
 
 -- GMV_REPLY_NONE, _ACK, _NAK, _RINT
 abbrev pub kind_word : ReplyKind → ℕ
@@ -61,14 +56,14 @@ abbrev pub closed_words : List ℕ → Bool
 closed_words ws =
     eqb (get_or ws 0 0) 0 && (eqb (get_or ws 1 0) 0 && (eqb (get_or ws 2 0) 0 && (eqb (get_or ws 3 0) 0 && eqb (get_or ws 4 0) 0)))
 
-unfoldable pub station_in : List ℕ → Decoded
+unfoldable pub station_in : List ℕ → Option StationState
 station_in ws =
-    cond (open_words ws) (Known (station_state (Open (get_or ws 1 0) (get_or ws 2 0)) (turn (kind_in (get_or ws 3 0)) (interrupt_in (get_or ws 4 0)))))
-    (cond (closed_words ws) (Known (station_state Closed fresh_turn)) Unknown)
+    cond (open_words ws) (Some (station_state (Open (get_or ws 1 0) (get_or ws 2 0)) (turn (kind_in (get_or ws 3 0)) (interrupt_in (get_or ws 4 0)))))
+    (cond (closed_words ws) (Some (station_state Closed fresh_turn)) None)
 
 -- GMV_ETB, GMV_ETX: the ASCII characters
-abbrev pub ending_of : ℕ → DecodedEnding
-ending_of n = cond (eqb n 0x17) (AnEnding Etb) (cond (eqb n 0x03) (AnEnding Etx) NoEnding)
+abbrev pub ending_of : ℕ → Option Ending
+ending_of n = cond (eqb n 0x17) (Some Etb) (cond (eqb n 0x03) (Some Etx) None)
 
 -- GMV_STATION_REPLY, GMV_STATION_REPLY_NUMBER
 abbrev pub reply_words : Reply → List ℕ
@@ -79,9 +74,9 @@ reply_words Eot = 3 ∷ 0 ∷ []
 reply_words Rint = 5 ∷ 0 ∷ []
 
 -- GMV_STATION_COMPLETE, GMV_STATION_MESSAGE_LENGTH
-abbrev pub message_words : Message → List ℕ
-message_words Incomplete = 0 ∷ 0 ∷ []
-message_words (Complete n) = 1 ∷ n ∷ []
+abbrev pub message_words : Option ℕ → List ℕ
+message_words None = 0 ∷ 0 ∷ []
+message_words (Some n) = 1 ∷ n ∷ []
 
 abbrev pub station_report : Acted → List ℕ
 station_report a = reply_words a.reply ++ message_words a.message
@@ -97,9 +92,9 @@ abbrev pub enough_words : ℕ → ℕ → Bool
 enough_words states reports = leb 5 states && leb 4 reports
 
 -- an act on the station that the words encode: 2, then 11 for words that encode none, then the act
-abbrev pub act_on : Decoded → (StationState → Outcome StationAnswer) → List ℕ → List ℕ → List ℕ → Called
-act_on Unknown f st b p = called STATE st b p
-act_on (Known s) f st b p = act_written st p (f s)
+abbrev pub act_on : Option StationState → (StationState → Outcome StationAnswer) → List ℕ → List ℕ → List ℕ → Called
+act_on None f st b p = called STATE st b p
+act_on (Some s) f st b p = act_written st p (f s)
 
 abbrev pub station_call : (StationState → Outcome StationAnswer) → List ℕ → List ℕ → List ℕ → Called
 station_call f st b p = need (enough_words (length st) (length p)) (called TOO_SHORT st b p) (act_on (station_in st) f st b p)
@@ -114,9 +109,9 @@ open_station_call st p =
     need (enough_words (length st) (length p)) (called TOO_SHORT st [] p) (act_written st p (outcome opened_station_answer []))
 
 -- gmv_station_block: 1 for an ending that is none, then as every act
-abbrev pub block_ended_by : DecodedEnding → ℕ → List ℕ → List ℕ → List ℕ → List ℕ → Called
-block_ended_by NoEnding n t b st p = called SETTING st b p
-block_ended_by (AnEnding x) n t b st p = station_call (λ (s : StationState). good_block_answer s n x t b) st b p
+abbrev pub block_ended_by : Option Ending → ℕ → List ℕ → List ℕ → List ℕ → List ℕ → Called
+block_ended_by None n t b st p = called SETTING st b p
+block_ended_by (Some x) n t b st p = station_call (λ (s : StationState). good_block_answer s n x t b) st b p
 
 unfoldable pub good_block_call : ℕ → ℕ → List ℕ → List ℕ → List ℕ → List ℕ → Called
 good_block_call n x t b st p = block_ended_by (ending_of x) n t b st p

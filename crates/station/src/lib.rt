@@ -9,21 +9,22 @@ pub enum Station {
     Open(u64, usize),
 }
 
-// What a reply is, its number aside.
+// What a reply is, its number aside. Numbered as in the driver's words (GMV_REPLY_..).
 #[derive(Clone, Copy)]
 pub enum ReplyKind {
-    NoneYet,
-    Ack,
-    Nak,
-    Rint,
+    NoneYet = 0,
+    Ack = 1,
+    Nak = 2,
+    Rint = 5,
 }
 
 // How a station stands with RINT: none is asked for, one is, or one was given and no ACK since.
+// Numbered as in the words (GMV_INTERRUPT_..).
 #[derive(Clone, Copy)]
 pub enum Interrupt {
-    Unasked,
-    Pending,
-    Given,
+    Unasked = 0,
+    Pending = 1,
+    Given = 2,
 }
 
 // What an open station keeps of its replies: the last one, and RINT. Closed: none, and unasked.
@@ -39,25 +40,11 @@ pub struct StationState {
     pub turn: Turn,
 }
 
-// What a station's words encode.
-#[derive(Clone, Copy)]
-pub enum Decoded {
-    Unknown,
-    Known(StationState),
-}
-
 // How a good block ended.
 #[derive(Clone, Copy)]
 pub enum Ending {
     Etb,
     Etx,
-}
-
-// What a number from C stands for.
-#[derive(Clone, Copy)]
-pub enum DecodedEnding {
-    Unknown,
-    Known(Ending),
 }
 
 #[derive(Clone, Copy)]
@@ -70,13 +57,6 @@ pub enum Reply {
     Rint,
 }
 
-// Whether a message is complete: these many bytes from the buffer's start.
-#[derive(Clone, Copy)]
-pub enum Message {
-    Incomplete,
-    Complete(usize),
-}
-
 // What an act answers.
 #[derive(Clone, Copy)]
 pub struct Acted {
@@ -84,7 +64,7 @@ pub struct Acted {
     pub refusal: u64,
     pub station: Station,
     pub reply: Reply,
-    pub message: Message,
+    pub message: Option<usize>,
 }
 
 // The same, with what is kept of the replies then.

@@ -1,8 +1,8 @@
 // The reverse interrupt, and the answer to a bare ENQ: the last reply is kept.
-ghost use Rattle.std.specs.Prelude.{◌≡◌, ◌≤◌};
-ghost use Rattle.station.specs.Interrupt.{fresh_turn, acknowledging, turn_after, ack_given, open_given, reply_given, turn_then, answered_of, opened_station_answer, number_before, last_reply, bare_enq_of, asked_when, interrupt_of};
+ghost use Rattle.std.specs.Prelude.{◌≡◌};
+ghost use Rattle.station.specs.Interrupt.{fresh_turn, acknowledging, turn_after, ack_given, reply_given, turn_then, answered_of, opened_station_answer, last_reply, bare_enq_of, asked_when, interrupt_of};
 
-use crate::LAST_NUMBER;
+use crate::block_number::{BlockNumber, LAST_NUMBER};
 use crate::units::{answer, refuse_station, station_opened};
 use station::{Acted, Interrupt, Reply, ReplyKind, Station, StationAnswer, StationState, Turn};
 
@@ -21,26 +21,25 @@ fn after_ack(interrupt: Interrupt) -> Interrupt
     ensures { result ≡ acknowledging interrupt }
 {
     match interrupt {
-        Interrupt::Unasked => Interrupt::Unasked,
+        Interrupt::Unasked | Interrupt::Given => Interrupt::Unasked,
         Interrupt::Pending => Interrupt::Pending,
-        Interrupt::Given => Interrupt::Unasked,
     }
 }
 
 // What is kept after a reply.
+#[tactic(auto, unfolding(station::specs::Interrupt::turn_after))]
 fn turn_after(reply: Reply, turn: Turn) -> Turn
     ensures { result ≡ turn_after reply turn }
 {
-    let interrupt = turn.interrupt;
     match reply {
         Reply::NoReply => turn,
         Reply::Ack(_) => Turn {
             last: ReplyKind::Ack,
-            interrupt: after_ack(interrupt),
+            interrupt: after_ack(turn.interrupt),
         },
         Reply::Nak => Turn {
             last: ReplyKind::Nak,
-            interrupt,
+            ..turn
         },
         Reply::Eot => fresh_turn(),
         Reply::Rint => Turn {
@@ -55,40 +54,23 @@ fn ack_given(expected: u64, n: u64, interrupt: Interrupt) -> Reply
     ensures { result ≡ ack_given expected n interrupt }
 {
     match interrupt {
-        Interrupt::Unasked => Reply::Ack(n),
-        Interrupt::Pending => {
-            if n == expected {
-                Reply::Rint
-            } else {
-                Reply::Ack(n)
-            }
-        }
-        Interrupt::Given => Reply::Ack(n),
+        Interrupt::Pending if n == expected => Reply::Rint,
+        _ => Reply::Ack(n),
     }
 }
 
-fn open_given(expected: u64, reply: Reply, interrupt: Interrupt) -> Reply
-    ensures { result ≡ open_given expected reply interrupt }
-{
-    match reply {
-        Reply::NoReply => Reply::NoReply,
-        Reply::Ack(n) => ack_given(expected, n, interrupt),
-        Reply::Nak => Reply::Nak,
-        Reply::Eot => Reply::Eot,
-        Reply::Rint => Reply::Rint,
-    }
-}
-
+#[tactic(auto, unfolding(station::specs::Interrupt::reply_given))]
 fn reply_given(station: Station, reply: Reply, interrupt: Interrupt) -> Reply
     ensures { result ≡ reply_given station reply interrupt }
 {
-    match station {
-        Station::Closed => reply,
-        Station::Open(expected, _) => open_given(expected, reply, interrupt),
+    match (station, reply) {
+        (Station::Open(expected, _), Reply::Ack(n)) => ack_given(expected, n, interrupt),
+        _ => reply,
     }
 }
 
 // A closed station keeps nothing.
+#[tactic(auto, unfolding(station::specs::Interrupt::turn_then))]
 fn turn_then(station: Station, reply: Reply, turn: Turn) -> Turn
     ensures { result ≡ turn_then station reply turn }
 {
@@ -99,24 +81,14 @@ fn turn_then(station: Station, reply: Reply, turn: Turn) -> Turn
 }
 
 // What the station answers, with the reply that is given in the end.
+#[tactic(auto, unfolding(station::specs::Interrupt::answered_of))]
 pub(crate) fn answered(state: StationState, acted: Acted) -> StationAnswer
     ensures { result ≡ answered_of state acted }
 {
-    let before = state.station;
-    let turn = state.turn;
-    let interrupt = turn.interrupt;
-    let station = acted.station;
-    let message = acted.message;
-    let plain = acted.reply;
-    let reply = reply_given(before, plain, interrupt);
+    let reply = reply_given(state.station, acted.reply, state.turn.interrupt);
     StationAnswer {
-        acted: Acted {
-            refusal: acted.refusal,
-            station,
-            reply,
-            message,
-        },
-        turn: turn_then(station, reply, turn),
+        acted: Acted { reply, ..acted },
+        turn: turn_then(acted.station, reply, state.turn),
     }
 }
 
@@ -130,101 +102,77 @@ pub(crate) fn opened() -> StationAnswer
     }
 }
 
-fn number_before(expected: u64) -> u64
-    requires { expected ≤ 7 }
-    ensures { result ≡ number_before expected }
-{
-    if expected == 0 {
-        return LAST_NUMBER;
-    }
-    expected - 1
-}
-
-fn last_reply(expected: u64, kind: ReplyKind) -> Reply
-    requires { expected ≤ 7 }
-    ensures { result ≡ last_reply expected kind }
+fn last_reply(expected: BlockNumber, kind: ReplyKind) -> Reply
+    ensures { result ≡ last_reply expected.value kind }
 {
     match kind {
         ReplyKind::NoneYet => Reply::Nak,
-        ReplyKind::Ack => Reply::Ack(number_before(expected)),
+        ReplyKind::Ack => Reply::Ack(expected.before()),
         ReplyKind::Nak => Reply::Nak,
         ReplyKind::Rint => Reply::Rint,
     }
 }
 
 // A bare ENQ was received.
+#[tactic(auto, unfolding(station::specs::Interrupt::bare_enq_of))]
 pub(crate) fn bare_enq(state: StationState) -> StationAnswer
     ensures { result ≡ bare_enq_of state }
 {
-    let station = state.station;
-    let turn = state.turn;
-    let kind = turn.last;
-    let Station::Open(expected, _) = station else {
-        return StationAnswer {
-            acted: answer(Station::Closed, Reply::NoReply),
+    let StationState { station, turn } = state;
+    match station {
+        Station::Closed => StationAnswer {
+            acted: answer(station, Reply::NoReply),
             turn: fresh_turn(),
-        };
-    };
-    if LAST_NUMBER < expected {
-        return StationAnswer {
-            acted: refuse_station(station),
-            turn,
-        };
-    }
-    let reply = last_reply(expected, kind);
-    StationAnswer {
-        acted: answer(station, reply),
-        turn: turn_after(reply, turn),
+        },
+        Station::Open(expected, _) => match BlockNumber::new(expected) {
+            None => StationAnswer {
+                acted: refuse_station(station),
+                turn,
+            },
+            Some(expected) => {
+                let reply = last_reply(expected, turn.last);
+                StationAnswer {
+                    acted: answer(station, reply),
+                    turn: turn_after(reply, turn),
+                }
+            }
+        },
     }
 }
 
-fn asked(station: Station, kind: ReplyKind, interrupt: Interrupt) -> StationAnswer
-    ensures { result ≡ asked_when station kind interrupt }
+fn asked(station: Station, turn: Turn) -> StationAnswer
+    ensures { result ≡ asked_when station turn.last turn.interrupt }
 {
-    match interrupt {
+    match turn.interrupt {
         Interrupt::Unasked => StationAnswer {
             acted: answer(station, Reply::NoReply),
             turn: Turn {
-                last: kind,
                 interrupt: Interrupt::Pending,
+                ..turn
             },
         },
-        Interrupt::Pending => StationAnswer {
+        Interrupt::Pending | Interrupt::Given => StationAnswer {
             acted: refuse_station(station),
-            turn: Turn {
-                last: kind,
-                interrupt: Interrupt::Pending,
-            },
-        },
-        Interrupt::Given => StationAnswer {
-            acted: refuse_station(station),
-            turn: Turn {
-                last: kind,
-                interrupt: Interrupt::Given,
-            },
+            turn,
         },
     }
 }
 
 // The driver asks for a RINT.
+#[tactic(auto, unfolding(station::specs::Interrupt::interrupt_of))]
 pub(crate) fn interrupt(state: StationState) -> StationAnswer
     ensures { result ≡ interrupt_of state }
 {
-    let station = state.station;
-    let turn = state.turn;
-    let kind = turn.last;
-    let how = turn.interrupt;
-    let Station::Open(expected, _) = station else {
-        return StationAnswer {
-            acted: refuse_station(Station::Closed),
+    let StationState { station, turn } = state;
+    match station {
+        Station::Closed => StationAnswer {
+            acted: refuse_station(station),
             turn: fresh_turn(),
-        };
-    };
-    if LAST_NUMBER < expected {
-        return StationAnswer {
+        },
+        Station::Open(expected, _) if LAST_NUMBER < expected => StationAnswer {
             acted: refuse_station(station),
             turn,
-        };
+        },
+        Station::Open(_, _) => asked(station, turn),
     }
-    asked(station, kind, how)
 }

@@ -3,6 +3,7 @@
 #![tactic(auto)]
 
 mod acts;
+mod block_number;
 mod blocks;
 mod interrupts;
 mod units;
@@ -12,8 +13,6 @@ pub use acts::{
     bad_words, bare_enq_words, block_words, end_words, fresh_station_words, interrupt_words,
     opened_words,
 };
+pub use block_number::LAST_NUMBER;
 pub use blocks::precedes;
 pub use words::{is_kind, kind_in, kind_word};
-
-// The last block number: after it comes 0.
-pub(crate) const LAST_NUMBER: u64 = 7;

@@ -1,4 +1,5 @@
 -- Each call is the act of which the statement speaks, and leaves the words of the state after it.
+use Rattle.std.specs.Prelude.{Option, Some}
 use mathlib.Core.Path.{◌≡◌, refl, sym, ap, ◌∙◌}
 use mathlib.Core.List.{List, [], ◌∷◌, ◌++◌}
 use mathlib.Core.Bool.{Bool, true, false, ◌&&◌, true≢false}
@@ -21,12 +22,9 @@ use Rattle.station.specs.declared.Interrupt.{Interrupt}
 use Rattle.station.specs.declared.Interrupt.TheVariants.{Unasked, Pending, Given}
 use Rattle.station.specs.declared.Ending.{Ending}
 use Rattle.station.specs.declared.Ending.TheVariants.{Etb, Etx}
-use Rattle.station.specs.declared.DecodedEnding.{DecodedEnding}
-use Rattle.station.specs.declared.DecodedEnding.TheVariants.{Known as AnEnding}
 use Rattle.station.specs.declared.Turn.{Turn}
 use Rattle.station.specs.declared.StationState.{StationState}
 use Rattle.station.specs.declared.StationAnswer.{StationAnswer}
-use Rattle.station.specs.declared.Decoded.{Decoded}
 use Rattle.station.specs.History.{Unit, good, bad, enquiry, eot, bare_enq, asks, holds_at_most, turn_fits, Opening, state_of, unit_outcome, station_run}
 use Rattle.station.specs.StationCalls.{station_words, station_report, ending_of, act_written, enough_words, act_on, station_call, block_ended_by, open_station_call, good_block_call, bad_block_call, eot_call, bare_enq_call, interrupt_call}
 use Rattle.station.proofs.ReadBack.{words_back as station-words-back}
@@ -40,7 +38,6 @@ use Rattle.master.specs.declared.Response.TheVariants.{Ack, Nak, Eot, Damaged, R
 use Rattle.master.specs.declared.Reversal.{Reversal}
 use Rattle.master.specs.declared.MasterState.{MasterState}
 use Rattle.master.specs.declared.MasterAnswer.{MasterAnswer}
-use Rattle.master.specs.declared.DecodedMaster.{DecodedMaster}
 use Rattle.master.specs.MasterCalls.{state_words, ending_word, master_report, master_written, enough_master_words, master_act_on, master_call, open_master_call, start_call, master_reply_call, timer_a_call, close_call, enquire_call, may_receive_call}
 use Rattle.master.specs.MasterHistory.{MasterAct, start, reply, timer, close, enquire, may_receive, master_act_of, state_then, master_after}
 use Rattle.master.proofs.ReadBack.{words_back}
@@ -80,7 +77,7 @@ module _ (st : List ℕ) (enough : 10 ≤ length st) where
 
     module _ (s : MasterState) (fits : reversal_fits s.master s.reversal ≡ true) where
       call_is : (f : MasterState → MasterAnswer) → master_call f (words s) p ≡ master_written (words s) p (f s)
-      call_is f = rw (is_enough_lem s) (ap (λ (d : DecodedMaster). master_act_on d f (words s) p) (words_back st s.master s.reversal enough fits))
+      call_is f = rw (is_enough_lem s) (ap (λ (d : Option MasterState). master_act_on d f (words s) p) (words_back st s.master s.reversal enough fits))
 
       start_is : (n size : ℕ) → start_call n size (words s) p ≡ master_written (words s) p (start_answer n size s)
       unfolding start_call start_of answer_of
@@ -138,7 +135,7 @@ five : (s : Station) (v : Turn) → length (station_words s v) ≡ 5
 five ClosedStation v = refl
 five (Open e h) v = refl
 
-ending_code : (x : Ending) → ending_of (ending_word x) ≡ AnEnding x
+ending_code : (x : Ending) → ending_of (ending_word x) ≡ Some x
 ending_code Etb = refl
 ending_code Etx = refl
 
@@ -174,7 +171,7 @@ module _ (st : List ℕ) (enough : 5 ≤ length st) (p : List ℕ) (reports : 4 
   module _ (o : Opening) (fits : turn_fits o.run.station o.turn ≡ true) where
     station_call_is : (f : StationState → Outcome StationAnswer) (b : List ℕ) → station_call f (written (state_of o)) b p ≡ act_written (written (state_of o)) p (f (state_of o))
     station_call_is f b =
-        rw (station_enough (state_of o)) (ap (λ (d : Decoded). act_on d f (written (state_of o)) b p) (station-words-back st o.run.station o.turn enough fits))
+        rw (station_enough (state_of o)) (ap (λ (d : Option StationState). act_on d f (written (state_of o)) b p) (station-words-back st o.run.station o.turn enough fits))
 
     -- what a call writes: the outcome of the unit, without a buffer where none is lent
     abbrev called_outcome : Unit → Outcome StationAnswer
@@ -188,7 +185,7 @@ module _ (st : List ℕ) (enough : 5 ≤ length st) (p : List ℕ) (reports : 4 
     pub unit_call_is : (u : Unit) → station_call_of u (record { words = written (state_of o); buffer = o.run.buffer }) p ≡ act_written (written (state_of o)) p (called_outcome u)
     unfolding good_block_call bad_block_call eot_call bare_enq_call interrupt_call
     unit_call_is (good n x t) =
-        ap (λ (d : DecodedEnding). block_ended_by d n t o.run.buffer (written (state_of o)) p) (ending_code x)
+        ap (λ (d : Option Ending). block_ended_by d n t o.run.buffer (written (state_of o)) p) (ending_code x)
         ∙ station_call_is (λ (s : StationState). good_block_answer s n x t o.run.buffer) o.run.buffer
     unit_call_is bad = station_call_is (λ (s : StationState). outcome (bad_block_answer s) []) []
     unit_call_is enquiry = station_call_is (λ (s : StationState). outcome (bad_block_answer s) []) []

@@ -1,4 +1,5 @@
 -- What was reported done is stored.
+use Rattle.std.specs.Prelude.{Option, None}
 use mathlib.Core.Path.{◌≡◌, refl, sym, ap, ◌∙◌, subst}
 use mathlib.Core.List.{List, [], ◌∷◌, ◌++◌}
 use mathlib.Core.Bool.{Bool, true, false, cond, not, true≢false}
@@ -17,8 +18,6 @@ use Rattle.station.specs.declared.Ending.{Ending}
 use Rattle.station.specs.declared.Ending.TheVariants.{Etb, Etx}
 use Rattle.station.specs.declared.Reply.{Reply}
 use Rattle.station.specs.declared.Reply.TheVariants.{NoReply, Ack as AckReply, Nak as NakReply, Eot as EotReply, Rint as RintReply}
-use Rattle.station.specs.declared.Message.{Message}
-use Rattle.station.specs.declared.Message.TheVariants.{Incomplete}
 use Rattle.station.specs.History.{Unit, good, bad, enquiry, eot, bare_enq, asks, Block, block, expected_after, text_held, messages_of, Past, past, fits, past_of, Opening, unit_outcome, handed_over, station_run}
 use Rattle.station.proofs.History.{stands}
 use Rattle.master.specs.Master.{block_number, valid_outstanding, unchanged, refused_master, resend_of, accepted_of, ack_of, waiting_reply, start_now, start_of, master_reply_of, timer_a_of, close_of}
@@ -203,7 +202,7 @@ module _ (b : List ℕ) where
 
   -- ---- a closed station completes nothing and replies nothing
   module _ (o : Opening) (e : o.run.station ≡ ClosedStation) where
-    closed_incomplete : (u : Unit) → (unit_outcome o u).answer.acted.message ≡ Incomplete
+    closed_incomplete : (u : Unit) → (unit_outcome o u).answer.acted.message ≡ None
     unfolding good_block_of bad_block_of eot_of answered_of bare_enq_of interrupt_of
     closed_incomplete (good n x t) = rw e
     closed_incomplete bad = rw e
@@ -265,9 +264,9 @@ module _ (b : List ℕ) where
       stored_on (lacks m e k d i) =
           let closed = closed_station r.received k in
           let nothing = closed_incomplete (station_run b r.received) closed u in
-          let same : stored_after b r u ≡ r.stored = ap (λ (z : Message). handed_over z (unit_outcome (station_run b r.received) u).buffer r.stored) nothing in
+          let same : stored_after b r u ≡ r.stored = ap (λ (z : Option ℕ). handed_over z (unit_outcome (station_run b r.received) u).buffer r.stored) nothing in
           lacks m
-          (ap (λ (z : Message). handed_over z (unit_outcome (station_run b r.received) u).buffer (handed b y)) nothing ∙ e ∙ ap (λ (l : List (List ℕ)). m ∷ l) (sym same))
+          (ap (λ (z : Option ℕ). handed_over z (unit_outcome (station_run b r.received) u).buffer (handed b y)) nothing ∙ e ∙ ap (λ (l : List (List ℕ)). m ∷ l) (sym same))
           (stays_closed u r.received k) (subst (λ (l : List (List ℕ)). y.sending.done ≤ length l) (sym same) d)
           (subst (λ (w : Reply). Silent y.sending.master (taken_in y) (y.backward ++ responses_of w)) (sym (closed_reply (station_run b r.received) closed u))
           (subst (Silent y.sending.master (taken_in y)) (sym (append_none y.backward)) i))

@@ -1,5 +1,7 @@
 -- What storing a stretch leaves in the buffer, by the two tests of the code.
-use mathlib.Core.Path.{◌≡◌, sym, ap, ◌∙◌}
+use Rattle.refusal.specs.Refusal.{refused_by}
+use Rattle.std.specs.Prelude.{Some, None, Ok}
+use mathlib.Core.Path.{◌≡◌, refl, sym, ap, ◌∙◌}
 use mathlib.Core.List.{List}
 use mathlib.Core.Bool.{true, ◌||◌, or_self}
 use Prim.Native.Nat.{ℕ, ◌+◌, ◌-◌, ◌≤◌, ◌<◌}
@@ -17,45 +19,41 @@ use Rattle.settings.specs.Settings.{capacity_of, by_kind}
 use Rattle.settings.specs.declared.Kind.{Kind}
 use Rattle.settings.specs.declared.Kind.TheVariants.{Hybrid, Minimal}
 use Rattle.settings.specs.declared.Settings.{Settings}
-use Rattle.stream.proofs.Steps.{stored-over, from_stretch}
-use Rattle.stream.specs.Internal.{advanced, stored, from, Reads}
-use Rattle.stream.specs.declared.Phase.TheVariants.{Inside}
-use Rattle.stream.specs.Scan.{Scan}
-use Rattle.stream.specs.declared.Answer.{Answer}
-use Rattle.stream.specs.declared.Reader.{Reader}
-use Rattle.stream.specs.declared.Reading.{Reading}
+use Rattle.stream.proofs.Steps.{stored-over, from_stretch, from_end, from_skip, from-opens, from_interrupted, from_ends}
+use Rattle.stream.specs.Internal.{advanced, stored, from}
+use Rattle.stream.specs.declared.Phase.TheVariants.{Inside, Ended}
+use Rattle.stream.specs.Scan.{scan}
 
-module _ (cap n : ℕ) (xs b : List ℕ) where
-  pub store_none : cap < n → (n ≡ advanced cap n (length xs)) × (b ≡ stored cap n xs b)
+-- the count, and the bytes, by the two tests
+module _ (cap n : ℕ) where
+  pub count_none : (m : ℕ) → cap < n → advanced cap n m ≡ n
   unfolding advanced
-  store_none h = (rw (lt-ltb cap n h), sym (stored-over cap n xs b (omega arith)))
+  count_none m h = rw (lt-ltb cap n h)
 
-  pub store_fits : (last : List ℕ) → n ≤ cap → length xs ≤ cap - n → cap ≤ length b → last ≡ overwritten (mid_of n (length b - n) b) xs
-      → (n + length xs ≡ advanced cap n (length xs)) × (put_mid n (length b - n) b last ≡ stored cap n xs b)
-  unfolding advanced stored
-  store_fits last h l r e =
-      let m : length (mid_of n (length b - n) b) ≡ length b - n = length-take-le (length b - n) (drop n b) (simp length-drop (omega arith)) in (
-        rw (le-ltb cap n h, le-leb (length xs) (cap - n) l),
-        back b xs last n (omega arith) (e ∙ over-fits (mid_of n (length b - n) b) xs (omega arith)) ∙ ap (λ (z : List ℕ). put b n z) (sym (take_all (cap - n) xs l)),
-      )
+  pub count_whole : (m : ℕ) → n ≤ cap → m ≤ cap - n → advanced cap n m ≡ n + m
+  unfolding advanced
+  count_whole m h l = rw (le-ltb cap n h, le-leb m (cap - n) l)
 
-  pub store_part : (last : List ℕ) → n ≤ cap → cap - n < length xs → cap ≤ length b → last ≡ overwritten (mid_of n (length b - n) b) (take (cap - n) xs)
-      → (cap + 1 ≡ advanced cap n (length xs)) × (put_mid n (length b - n) b last ≡ stored cap n xs b)
-  unfolding advanced stored
-  store_part last h l r e =
-      let m : length (mid_of n (length b - n) b) ≡ length b - n = length-take-le (length b - n) (drop n b) (simp length-drop (omega arith)) in
-      let t : length (take (cap - n) xs) ≡ cap - n = length-take-le (cap - n) xs (omega arith) in (
-        rw (le-ltb cap n h, lt-leb (length xs) (cap - n) l),
-        back b (take (cap - n) xs) last n (omega arith) (e ∙ over-fits (mid_of n (length b - n) b) (take (cap - n) xs) (omega arith)),
-      )
+  pub count_part : (m : ℕ) → n ≤ cap → cap - n < m → advanced cap n m ≡ cap + 1
+  unfolding advanced
+  count_part m h l = rw (le-ltb cap n h, lt-leb m (cap - n) l)
 
--- a reading whose fields are known, held against the scan
-pub reads : (r : Reading) (b : List ℕ) (k : ℕ) (t : Scan) (a : Answer) (d : Reader) (u : ℕ) → r ≡ record { answer = a; reader = d; used = u }
-    → record { answer = a; reader = d; buffer = b } ≡ t → d.position ≡ k + u → Reads r b k t
-reads r b k t a d u e f h = record { scan = rw e f; used = rw e h }
+  module _ (xs b : List ℕ) where
+    pub stored_none_left : cap < n → stored cap n xs b ≡ b
+    stored_none_left h = stored-over cap n xs b (omega arith)
 
-pub reads_also : {r : Reading} {b : List ℕ} {k : ℕ} {t u : Scan} → t ≡ u → Reads r b k t → Reads r b k u
-reads_also e h = record { scan = h.scan ∙ e; used = h.used }
+    pub stored_whole : n ≤ cap → length xs ≤ cap - n → cap ≤ length b → stored cap n xs b ≡ put_mid n (length b - n) b (overwritten (mid_of n (length b - n) b) xs)
+    unfolding stored
+    stored_whole h l r =
+        let m : length (mid_of n (length b - n) b) ≡ length b - n = length-take-le (length b - n) (drop n b) (simp length-drop (omega arith)) in
+        sym (back b xs _ n (omega arith) (over-fits (mid_of n (length b - n) b) xs (omega arith)) ∙ ap (λ (z : List ℕ). put b n z) (sym (take_all (cap - n) xs l)))
+
+    pub stored_part : n ≤ cap → cap - n < length xs → cap ≤ length b → stored cap n xs b ≡ put_mid n (length b - n) b (overwritten (mid_of n (length b - n) b) (take (cap - n) xs))
+    unfolding stored
+    stored_part h l r =
+        let m : length (mid_of n (length b - n) b) ≡ length b - n = length-take-le (length b - n) (drop n b) (simp length-drop (omega arith)) in
+        let t : length (take (cap - n) xs) ≡ cap - n = length-take-le (cap - n) xs (omega arith) in
+        sym (back b (take (cap - n) xs) _ n (omega arith) (over-fits (mid_of n (length b - n) b) (take (cap - n) xs) (omega arith)))
 
 -- m is how far the search went from place i of the part on
 pub record Stopped (sb eb : ℕ) (xs : List ℕ) (i m : ℕ) : Type 0 where
@@ -100,3 +98,40 @@ pub first_byte_lem : (sb : ℕ) (xs : List ℕ) (m : ℕ) → m ≡ clear sb sb 
 first_byte_lem sb xs m e h =
     let l : clear sb sb xs < length xs = rw (← e) h in
     eqb-true _ _ (rw (← e, or_self) at (clear_hit sb sb xs l))
+
+-- inside a block: the search for SB or EB goes m bytes on from place i, the stretch is stored, and then the byte there is looked at
+module _ (g : Settings) (xs b : List ℕ) (n s k i : ℕ) (w : i ≤ length xs) (f : capacity_of g ≤ length b) where
+  abbrev far : ℕ
+  far = clear g.start_block g.end_block (take (length xs - i) (drop i xs))
+
+  abbrev counted : ℕ
+  counted = advanced (capacity_of g) n (length (take (i + far - i) (drop i xs)))
+
+  abbrev kept : List ℕ
+  kept = stored (capacity_of g) n (take (i + far - i) (drop i xs)) b
+
+  went : Stopped g.start_block g.end_block xs i far
+  went = stopped _ _ xs i far w refl
+
+  stretched : from g Inside n s k b i xs ≡ from g Inside counted s k kept (i + far) xs
+  stretched = after_store g xs b kept n s k i far (capacity_of g) counted went refl f refl refl
+
+  pub inside_open : length xs ≤ i + far → from g Inside n s k b i xs ≡ scan (Ok None) Inside counted s (k + (i + far)) kept
+  inside_open h = stretched ∙ from_end g xs kept counted s k Inside (i + far) h
+
+  pub inside_cut : i + far < length xs → get_or xs (i + far) 0 ≡ g.start_block
+      → from g Inside n s k b i xs ≡ scan (Ok (Some (record { block_offset = s; verdict = refused_by 8 0 }))) Inside 0 (k + (i + far)) (k + (i + far) + 1) kept
+  inside_cut h e = stretched ∙ from_interrupted g xs kept counted s k (i + far) h e
+
+  pub inside_ends : i + far < length xs → (get_or xs (i + far) 0 ≡ g.start_block → ⊥)
+      → from g Inside n s k b i xs ≡ from g Ended counted s k kept (i + far + 1) xs
+  inside_ends h e = stretched ∙ from_ends g xs kept counted s k (i + far) h e (stop_byte _ _ xs i far went h e)
+
+  pub far_most : i + clear g.start_block g.end_block (take (length xs - i) (drop i xs)) ≤ length xs
+  far_most = went.most
+
+pub ruleset store_cases = (count_none, count_whole, count_part, stored_none_left, stored_whole, stored_part)
+
+pub ruleset between_cases = (from_end, from_skip, from-opens, first_byte_lem, clear_most)
+
+pub ruleset inside_cases = (inside_open, inside_cut, inside_ends, far_most, capacity_most)

@@ -1,11 +1,10 @@
 -- What the contracts of the reader's private functions cite. Nobody needs to believe these: no public function's contract cites them.
-use Rattle.std.specs.Prelude.{◌≡◌, List, cond, ℕ, ◌+◌, ◌-◌, ◌≤◌, ◌<◌, ◌^◌, length, take, drop, ltb, leb}
+use Rattle.std.specs.Prelude.{◌≡◌, List, cond, ℕ, ◌+◌, ◌-◌, ◌≤◌, ◌<◌, ◌^◌, length, take, drop, ltb, leb, None, Ok}
 use Rattle.lists.specs.Bytes.{put}
 use Rattle.settings.specs.Settings.{capacity_of}
 use Rattle.settings.specs.declared.Settings.{Settings}
 use Rattle.stream.specs.Scan.{Scan, scan, fold}
 use Rattle.stream.specs.declared.Phase.{Phase}
-use Rattle.stream.specs.declared.Answer.TheVariants.{Pending}
 use Rattle.stream.specs.declared.Reading.{Reading}
 
 -- the count of a block's bytes after m more, of which at most cap are stored
@@ -18,7 +17,7 @@ stored cap n xs b = put b n (take (cap - n) xs)
 
 -- the scan from byte i of the part on, k being the offset of its first byte
 unfoldable pub from : Settings → Phase → ℕ → ℕ → ℕ → List ℕ → ℕ → List ℕ → Scan
-from g p n s k b i xs = fold g (scan Pending p n s (k + i) b) (drop i xs)
+from g p n s k b i xs = fold g (scan (Ok None) p n s (k + i) b) (drop i xs)
 
 -- what the reader's tests have shown before the scan
 pub record Ready (g : Settings) (k i : ℕ) (xs b : List ℕ) : Type 0 where

@@ -1,21 +1,21 @@
 -- Document 01, 'Reading a stream': the verdicts of a whole input, and what the reader's buffer holds after it. Nothing here knows of the parts in which the input comes.
-use Rattle.std.specs.Prelude.{List, [], ◌∷◌, ◌++◌, cond, ℕ, ◌+◌, length, set, ltb, eqb}
+use Rattle.std.specs.Prelude.{List, [], ◌∷◌, ◌++◌, cond, ℕ, ◌+◌, length, set, ltb, eqb, Result}
 use Rattle.lists.specs.Outcome.{need}
 use Rattle.block.specs.Content.{content_of}
 use Rattle.settings.specs.Settings.{capacity_of}
 use Rattle.block.specs.Judge.{judge}
 use Rattle.settings.specs.declared.Settings.{Settings}
-use Rattle.refusal.specs.Refusal.{LONG, SHAPE, INTERRUPTED}
-use Rattle.refusal.specs.declared.Verdict.{Verdict}
-use Rattle.refusal.specs.declared.Verdict.TheVariants.{Refused}
+use Rattle.refusal.specs.Refusal.{LONG, SHAPE, INTERRUPTED, refused_by}
+use Rattle.refusal.specs.declared.Accepted.{Accepted}
+use Rattle.refusal.specs.declared.Refusal.{Refusal}
 
 -- A verdict as it is given: the offset of the block's SB in the input, the verdict (with its number, place and type), and the data, empty where the block is refused.
 pub record Judged : Type 0 where
   pub offset : ℕ
-  pub verdict : Verdict
+  pub verdict : Result Accepted Refusal
   pub content : List ℕ
 
-abbrev pub judged : Settings → ℕ → Verdict → List ℕ → Judged
+abbrev pub judged : Settings → ℕ → Result Accepted Refusal → List ℕ → Judged
 judged g s v body = record { offset = s; verdict = v; content = content_of g v body }
 
 -- Where the reader stands: between blocks; in a block whose SB was at an offset, with the bytes since; after a block's EB.
@@ -25,8 +25,8 @@ pub data Mode : Type 0 where
   ended : ℕ → List ℕ → Mode
 
 -- "its verdict comes with the byte after. If that byte is not CR, the block has the wrong shape"; 4 comes before 5
-unfoldable pub end_verdict : Settings → List ℕ → ℕ → Verdict
-end_verdict g body x = cond (ltb (capacity_of g) (length body)) (Refused LONG 0) (need (eqb x 0x0D) (Refused SHAPE 0) (judge g body))
+unfoldable pub end_verdict : Settings → List ℕ → ℕ → Result Accepted Refusal
+end_verdict g body x = cond (ltb (capacity_of g) (length body)) (refused_by LONG 0) (need (eqb x 0x0D) (refused_by SHAPE 0) (judge g body))
 
 -- what one byte brings: at most one verdict, and where the reader stands then
 pub record Moved : Type 0 where
@@ -44,7 +44,7 @@ opened g k x = cond (eqb x g.start_block) (inside k []) between
 unfoldable pub move : Settings → ℕ → Mode → ℕ → Moved
 move g k between x = moved [] (opened g k x)
 move g k (inside s body) x =
-    cond (eqb x g.start_block) (moved (judged g s (Refused INTERRUPTED 0) body ∷ []) (inside k []))
+    cond (eqb x g.start_block) (moved (judged g s (refused_by INTERRUPTED 0) body ∷ []) (inside k []))
     (cond (eqb x g.end_block) (moved [] (ended s body)) (moved [] (inside s (body ++ x ∷ []))))
 move g k (ended s body) x = moved (judged g s (end_verdict g body x) body ∷ []) (opened g k x)
 

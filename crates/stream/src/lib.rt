@@ -7,7 +7,7 @@ mod scan;
 ghost use Rattle.std.specs.Prelude.{◌≡◌};
 ghost use Rattle.stream.specs.Scan.{fresh};
 
-use refusal::Verdict;
+use refusal::{Refusal, Verdict};
 pub use scan::read;
 
 // Where a reader stands in the stream.
@@ -31,20 +31,18 @@ pub struct Reader {
     pub position: usize,
 }
 
-// What reading a part gives.
+// A block that ended: the offset of its SB, and the verdict on it.
 #[derive(Clone, Copy)]
-pub enum Answer {
-    // By 1, 2 or 11.
-    Refused(u64),
-    // All of the part was read and brought no verdict.
-    Pending,
-    // The offset of a block's SB, and the verdict on it.
-    Found(usize, Verdict),
+pub struct Found {
+    pub block_offset: usize,
+    pub verdict: Verdict,
 }
 
+// What reading a part gives.
 #[derive(Clone, Copy)]
 pub struct Reading {
-    pub answer: Answer,
+    // None where all of the part was read and brought no verdict. Refused by 1, 2 or 11.
+    pub answer: Result<Option<Found>, Refusal>,
     pub reader: Reader,
     // Bytes of the part that were read.
     pub used: usize,
@@ -55,11 +53,6 @@ impl Reader {
     pub fn new() -> Reader
         ensures { result ≡ fresh }
     {
-        Reader {
-            phase: Phase::Between,
-            body_length: 0,
-            block_offset: 0,
-            position: 0,
-        }
+        scan::between(0)
     }
 }

@@ -1,7 +1,7 @@
 -- The public functions of the crate master_calls. Written by tests/interface/uniqueness --write.
 use mathlib.Core.Path.{refl}
 use Rattle.uniqueness.specs.Unique.{Unique}
-use Rattle.uniqueness.proofs.Once.{once}
+use Rattle.uniqueness.proofs.Once.{once_answered}
 use Rattle.master_calls.specs.contracts.fresh_master_words as fresh_master_words-contract
 use Rattle.master_calls.proofs.fresh_master_words.Reads as fresh_master_words-reads
 use Rattle.master_calls.specs.contracts.opened_master_words as opened_master_words-contract
@@ -23,54 +23,54 @@ pub fresh_master_words : Unique fresh_master_words-contract.ended (λ M 𝓤. fr
 fresh_master_words = record {
   holds = fresh_master_words-reads.Learnt;
   says = λ M 𝓤 𝓛 mem run. refl;
-  one = λ κs a z z' ws ws' h h'. once h h' (λ y. y.number) (λ y. (y.state, tt));
+  one = λ κs a z z' ws ws' h h'. once_answered (h.0) (h'.0) refl refl (h.1) (h'.1) (λ y. (y.state, tt));
 }
 
 pub opened_master_words : Unique opened_master_words-contract.ended (λ M 𝓤. opened_master_words-contract.clauses {M = M} {𝓤 = 𝓤})
 opened_master_words = record {
   holds = opened_master_words-reads.Learnt;
   says = λ M 𝓤 𝓛 mem run. refl;
-  one = λ κs a z z' ws ws' h h'. once h h' (λ y. y.number) (λ y. (y.state, (y.report, tt)));
+  one = λ κs a z z' ws ws' h h'. once_answered (h.0) (h'.0) refl refl (h.1) (h'.1) (λ y. (y.state, (y.report, tt)));
 }
 
 pub start_words : Unique start_words-contract.ended (λ M 𝓤. start_words-contract.clauses {M = M} {𝓤 = 𝓤})
 start_words = record {
   holds = start_words-reads.Learnt;
   says = λ M 𝓤 𝓛 mem run. refl;
-  one = λ κs a z z' ws ws' h h'. once h h' (λ y. y.number) (λ y. (tt, (tt, (y.state, (y.report, tt)))));
+  one = λ κs a z z' ws ws' h h'. once_answered (h.0) (h'.0) refl refl (h.1) (h'.1) (λ y. (tt, (tt, (y.state, (y.report, tt)))));
 }
 
 pub reply_words : Unique reply_words-contract.ended (λ M 𝓤. reply_words-contract.clauses {M = M} {𝓤 = 𝓤})
 reply_words = record {
   holds = reply_words-reads.Learnt;
   says = λ M 𝓤 𝓛 mem run. refl;
-  one = λ κs a z z' ws ws' h h'. once h h' (λ y. y.number) (λ y. (tt, (tt, (y.state, (y.report, tt)))));
+  one = λ κs a z z' ws ws' h h'. once_answered (h.0) (h'.0) refl refl (h.1) (h'.1) (λ y. (tt, (tt, (y.state, (y.report, tt)))));
 }
 
 pub timer_words : Unique timer_words-contract.ended (λ M 𝓤. timer_words-contract.clauses {M = M} {𝓤 = 𝓤})
 timer_words = record {
   holds = timer_words-reads.Learnt;
   says = λ M 𝓤 𝓛 mem run. refl;
-  one = λ κs a z z' ws ws' h h'. once h h' (λ y. y.number) (λ y. (y.state, (y.report, tt)));
+  one = λ κs a z z' ws ws' h h'. once_answered (h.0) (h'.0) refl refl (h.1) (h'.1) (λ y. (y.state, (y.report, tt)));
 }
 
 pub close_words : Unique close_words-contract.ended (λ M 𝓤. close_words-contract.clauses {M = M} {𝓤 = 𝓤})
 close_words = record {
   holds = close_words-reads.Learnt;
   says = λ M 𝓤 𝓛 mem run. refl;
-  one = λ κs a z z' ws ws' h h'. once h h' (λ y. y.number) (λ y. (y.state, (y.report, tt)));
+  one = λ κs a z z' ws ws' h h'. once_answered (h.0) (h'.0) refl refl (h.1) (h'.1) (λ y. (y.state, (y.report, tt)));
 }
 
 pub enquire_words : Unique enquire_words-contract.ended (λ M 𝓤. enquire_words-contract.clauses {M = M} {𝓤 = 𝓤})
 enquire_words = record {
   holds = enquire_words-reads.Learnt;
   says = λ M 𝓤 𝓛 mem run. refl;
-  one = λ κs a z z' ws ws' h h'. once h h' (λ y. y.number) (λ y. (y.state, (y.report, tt)));
+  one = λ κs a z z' ws ws' h h'. once_answered (h.0) (h'.0) refl refl (h.1) (h'.1) (λ y. (y.state, (y.report, tt)));
 }
 
 pub may_receive_words : Unique may_receive_words-contract.ended (λ M 𝓤. may_receive_words-contract.clauses {M = M} {𝓤 = 𝓤})
 may_receive_words = record {
   holds = may_receive_words-reads.Learnt;
   says = λ M 𝓤 𝓛 mem run. refl;
-  one = λ κs a z z' ws ws' h h'. once h h' (λ y. y.number) (λ y. (y.state, (y.report, tt)));
+  one = λ κs a z z' ws ws' h h'. once_answered (h.0) (h'.0) refl refl (h.1) (h'.1) (λ y. (y.state, (y.report, tt)));
 }

@@ -5,10 +5,18 @@ use Prim.Native.Nat.{ℕ}
 use lib.ListN.{length}
 use denote.Ref.{Bor}
 use denote.Slice.{slice_val, shr_slice_vals}
+use Rattle.std.specs.Prelude.{Result}
+use Rattle.lists.specs.Outcome.{Called}
+use Rattle.refusal.specs.Refusal.{number_of, answer_by}
+use Rattle.refusal.specs.declared.Refusal.{Refusal}
 use Rattle.uniqueness.specs.Unique.{SamePart}
 
 pub once : {Y Z W : Type 0} {x y d : Y} → x ≡ d → y ≡ d → (result : Y → Z) (memory : Y → W) → (result x ≡ result y) × (memory x ≡ memory y)
 once h k result memory = (ap result (h ∙ sym k), ap memory (h ∙ sym k))
+
+-- the answers of a call say no more than its number, so that they are the same where the numbers are
+pub once_answered : {W : Type 0} {r r' : Result (Unit {0}) Refusal} {x y d : Called} → x ≡ d → y ≡ d → x.number ≡ number_of r → y.number ≡ number_of r' → r ≡ answer_by (number_of r) → r' ≡ answer_by (number_of r') → (memory : Called → W) → (r ≡ r') × (memory x ≡ memory y)
+once_answered h k n n' a b memory = (a ∙ ap answer_by (sym n ∙ ap (λ z. z.number) (h ∙ sym k) ∙ n') ∙ sym b, ap memory (h ∙ sym k))
 
 -- two references to the same part are equal: a shared reference's value is its pointer and its bytes alone
 pub same-part-is-equal : (r r' : Bor (List ℕ)) → SamePart r r' → r ≡ r'

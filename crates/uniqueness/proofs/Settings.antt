@@ -9,6 +9,8 @@ use Rattle.settings.specs.contracts.checksum as checksum-contract
 use Rattle.settings.proofs.checksum.Reads as checksum-reads
 use Rattle.settings.specs.contracts.digit_of as digit_of-contract
 use Rattle.settings.proofs.digit_of.Reads as digit_of-reads
+use Rattle.settings.specs.contracts.Kind.frame_length as Kind-frame_length-contract
+use Rattle.settings.proofs.Kind.frame_length.Reads as Kind-frame_length-reads
 use Rattle.settings.specs.contracts.Settings.hybrid as Settings-hybrid-contract
 use Rattle.settings.proofs.Settings.hybrid.Reads as Settings-hybrid-reads
 use Rattle.settings.specs.contracts.Settings.minimal as Settings-minimal-contract
@@ -46,6 +48,13 @@ checksum = record {
 pub digit_of : Unique digit_of-contract.ended (λ M 𝓤. digit_of-contract.clauses {M = M} {𝓤 = 𝓤})
 digit_of = record {
   holds = digit_of-reads.Learnt;
+  says = λ M 𝓤 𝓛 mem run. refl;
+  one = λ κs a z z' ws ws' h h'. (h ∙ sym h', refl);
+}
+
+pub Kind-frame_length : Unique Kind-frame_length-contract.ended (λ M 𝓤. Kind-frame_length-contract.clauses {M = M} {𝓤 = 𝓤})
+Kind-frame_length = record {
+  holds = Kind-frame_length-reads.Learnt;
   says = λ M 𝓤 𝓛 mem run. refl;
   one = λ κs a z z' ws ws' h h'. (h ∙ sym h', refl);
 }

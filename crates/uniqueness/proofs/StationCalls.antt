@@ -1,7 +1,7 @@
 -- The public functions of the crate station_calls. Written by tests/interface/uniqueness --write.
 use mathlib.Core.Path.{refl, sym, ◌∙◌}
 use Rattle.uniqueness.specs.Unique.{Unique}
-use Rattle.uniqueness.proofs.Once.{once}
+use Rattle.uniqueness.proofs.Once.{once_answered}
 use Rattle.station_calls.specs.contracts.fresh_station_words as fresh_station_words-contract
 use Rattle.station_calls.proofs.fresh_station_words.Reads as fresh_station_words-reads
 use Rattle.station_calls.specs.contracts.opened_words as opened_words-contract
@@ -29,49 +29,49 @@ pub fresh_station_words : Unique fresh_station_words-contract.ended (λ M 𝓤. 
 fresh_station_words = record {
   holds = fresh_station_words-reads.Learnt;
   says = λ M 𝓤 𝓛 mem run. refl;
-  one = λ κs a z z' ws ws' h h'. once h h' (λ y. y.number) (λ y. (y.state, tt));
+  one = λ κs a z z' ws ws' h h'. once_answered (h.0) (h'.0) refl refl (h.1) (h'.1) (λ y. (y.state, tt));
 }
 
 pub opened_words : Unique opened_words-contract.ended (λ M 𝓤. opened_words-contract.clauses {M = M} {𝓤 = 𝓤})
 opened_words = record {
   holds = opened_words-reads.Learnt;
   says = λ M 𝓤 𝓛 mem run. refl;
-  one = λ κs a z z' ws ws' h h'. once h h' (λ y. y.number) (λ y. (y.state, (y.report, tt)));
+  one = λ κs a z z' ws ws' h h'. once_answered (h.0) (h'.0) refl refl (h.1) (h'.1) (λ y. (y.state, (y.report, tt)));
 }
 
 pub bad_words : Unique bad_words-contract.ended (λ M 𝓤. bad_words-contract.clauses {M = M} {𝓤 = 𝓤})
 bad_words = record {
   holds = bad_words-reads.Learnt;
   says = λ M 𝓤 𝓛 mem run. refl;
-  one = λ κs a z z' ws ws' h h'. once h h' (λ y. y.number) (λ y. (y.state, (y.report, tt)));
+  one = λ κs a z z' ws ws' h h'. once_answered (h.0) (h'.0) refl refl (h.1) (h'.1) (λ y. (y.state, (y.report, tt)));
 }
 
 pub end_words : Unique end_words-contract.ended (λ M 𝓤. end_words-contract.clauses {M = M} {𝓤 = 𝓤})
 end_words = record {
   holds = end_words-reads.Learnt;
   says = λ M 𝓤 𝓛 mem run. refl;
-  one = λ κs a z z' ws ws' h h'. once h h' (λ y. y.number) (λ y. (y.state, (y.report, tt)));
+  one = λ κs a z z' ws ws' h h'. once_answered (h.0) (h'.0) refl refl (h.1) (h'.1) (λ y. (y.state, (y.report, tt)));
 }
 
 pub bare_enq_words : Unique bare_enq_words-contract.ended (λ M 𝓤. bare_enq_words-contract.clauses {M = M} {𝓤 = 𝓤})
 bare_enq_words = record {
   holds = bare_enq_words-reads.Learnt;
   says = λ M 𝓤 𝓛 mem run. refl;
-  one = λ κs a z z' ws ws' h h'. once h h' (λ y. y.number) (λ y. (y.state, (y.report, tt)));
+  one = λ κs a z z' ws ws' h h'. once_answered (h.0) (h'.0) refl refl (h.1) (h'.1) (λ y. (y.state, (y.report, tt)));
 }
 
 pub interrupt_words : Unique interrupt_words-contract.ended (λ M 𝓤. interrupt_words-contract.clauses {M = M} {𝓤 = 𝓤})
 interrupt_words = record {
   holds = interrupt_words-reads.Learnt;
   says = λ M 𝓤 𝓛 mem run. refl;
-  one = λ κs a z z' ws ws' h h'. once h h' (λ y. y.number) (λ y. (y.state, (y.report, tt)));
+  one = λ κs a z z' ws ws' h h'. once_answered (h.0) (h'.0) refl refl (h.1) (h'.1) (λ y. (y.state, (y.report, tt)));
 }
 
 pub block_words : Unique block_words-contract.ended (λ M 𝓤. block_words-contract.clauses {M = M} {𝓤 = 𝓤})
 block_words = record {
   holds = block_words-reads.Learnt;
   says = λ M 𝓤 𝓛 mem run. refl;
-  one = λ κs a z z' ws ws' h h'. once h h' (λ y. y.number) (λ y. (tt, (tt, (tt, (y.buffer, (y.state, (y.report, tt)))))));
+  one = λ κs a z z' ws ws' h h'. once_answered (h.0) (h'.0) refl refl (h.1) (h'.1) (λ y. (tt, (tt, (tt, (y.buffer, (y.state, (y.report, tt)))))));
 }
 
 pub precedes : Unique precedes-contract.ended (λ M 𝓤. precedes-contract.clauses {M = M} {𝓤 = 𝓤})

@@ -1,7 +1,7 @@
 -- The public functions of the crate words. Written by tests/interface/uniqueness --write.
 use mathlib.Core.Path.{refl, sym, ◌∙◌}
 use Rattle.uniqueness.specs.Unique.{Unique}
-use Rattle.uniqueness.proofs.Once.{once}
+use Rattle.uniqueness.proofs.Once.{once, once_answered}
 use Rattle.words.specs.contracts.refuse_short as refuse_short-contract
 use Rattle.words.proofs.refuse_short.Reads as refuse_short-reads
 use Rattle.words.specs.contracts.write_report as write_report-contract
@@ -31,7 +31,7 @@ pub report_written : Unique report_written-contract.ended (λ M 𝓤. report_wri
 report_written = record {
   holds = report_written-reads.Learnt;
   says = λ M 𝓤 𝓛 mem run. refl;
-  one = λ κs a z z' ws ws' h h'. once h h' (λ y. y.number) (λ y. (tt, (y.report, tt)));
+  one = λ κs a z z' ws ws' h h'. once_answered (h.0) (h'.0) refl refl (h.1) (h'.1) (λ y. (tt, (y.report, tt)));
 }
 
 pub type_byte : Unique type_byte-contract.ended (λ M 𝓤. type_byte-contract.clauses {M = M} {𝓤 = 𝓤})

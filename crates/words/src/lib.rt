@@ -5,60 +5,47 @@
 ghost use Rattle.std.specs.Prelude.{◌≡◌, []};
 ghost use Rattle.lists.specs.Bytes.{over};
 ghost use Rattle.lists.specs.Outcome.{called};
+ghost use Rattle.refusal.specs.Refusal.{number_of, answer_by};
 ghost use Rattle.words.specs.Words.{short_refusal, report_words, write_finished, type_byte, verdict_from};
 
-use refusal::{Verdict, Written};
+use refusal::{Accepted, Refusal, Verdict, Written};
 
-// What a block's number and type from C stand for.
-#[derive(Clone, Copy)]
-pub enum VerdictMade {
-    Unknown,
-    Known(Verdict),
-}
-
-fn word(x: usize) -> u64
-    ensures { result ≡ x }
-{
-    x as u64
-}
-
-// The number for memory that is too short: 2, where the settings are valid.
-pub fn refuse_short(valid: bool) -> u64
-    ensures { result ≡ short_refusal valid }
+// The refusal of memory that is too short: 2, where the settings are valid.
+pub fn refuse_short(valid: bool) -> Refusal
+    ensures { result ≡ record { number = short_refusal valid; offset = 0 } }
 {
     if valid {
-        refusal::TOO_SHORT
+        Refusal::TOO_SHORT
     } else {
-        refusal::SETTING
+        Refusal::SETTING
     }
 }
 
 // Writes a writer's report over the first two words; nothing where there are fewer.
+#[tactic(auto, unfolding(lists::specs::Bytes::over))]
 pub fn write_report(words: &mut [u64], length: usize, forbidden_offset: usize)
     ensures { words.new ≡ over words.old (report_words length forbidden_offset) }
 {
-    if words.len() < 2 {
-        return;
+    if words.len() >= 2 {
+        words[..2].copy_from_slice(&[length as u64, forbidden_offset as u64]);
     }
-    words[0] = word(length);
-    words[1] = word(forbidden_offset);
 }
 
-// The number of what a writer answered, with the report written unless it was 1 or 2.
-pub fn report_written(written: Written, report: &mut [u64]) -> u64
-    ensures { called result [] [] report.new ≡ write_finished [] report.old written }
+// What a writer answered, with the report written unless the number is 1 or 2.
+#[tactic(auto, unfolding(crate::specs::Words::write_finished))]
+pub fn report_written(written: Written, report: &mut [u64]) -> Result<(), Refusal>
+    ensures { (called (number_of result) [] [] report.new ≡ write_finished [] report.old written) × (result ≡ answer_by (number_of result)) }
 {
     match written {
-        Written::Done(length) => {
+        Ok(length) => {
             write_report(report, length, 0);
-            0
+            Ok(())
         }
-        Written::Refused(number, offset) => {
-            if number <= refusal::TOO_SHORT {
-                return number;
+        Err(refusal) => {
+            if refusal.number > refusal::TOO_SHORT {
+                write_report(report, 0, refusal.offset);
             }
-            write_report(report, 0, offset);
-            number
+            refusal::answered(refusal.number)
         }
     }
 }
@@ -67,21 +54,19 @@ pub fn report_written(written: Written, report: &mut [u64]) -> u64
 pub fn type_byte(t: u64) -> u8
     ensures { result ≡ type_byte t }
 {
-    if 255 < t {
-        return 0;
-    }
-    t as u8
+    if t > 255 { 0 } else { t as u8 }
 }
 
 // The verdict that a reader gave, by its number and type.
-pub fn verdict_from(number: u64, t: u64) -> VerdictMade
+pub fn verdict_from(number: u64, t: u64) -> Option<Verdict>
     ensures { result ≡ verdict_from number t }
 {
-    if number == 0 {
-        return VerdictMade::Known(Verdict::Accepted(type_byte(t), 0));
+    match number {
+        0 => Some(Ok(Accepted {
+            block_type: type_byte(t),
+            data_length: 0,
+        })),
+        refusal::BYTE..=refusal::INTERRUPTED => Some(Err(Refusal { number, offset: 0 })),
+        _ => None,
     }
-    if (refusal::BYTE <= number) & (number <= refusal::INTERRUPTED) {
-        return VerdictMade::Known(Verdict::Refused(number, 0));
-    }
-    VerdictMade::Unknown
 }

@@ -2,15 +2,15 @@
 use mathlib.Core.Path.{◌≡◌, refl, sym, ap, ◌∙◌}
 use mathlib.Core.List.{List, [], ◌∷◌, ◌++◌, append_assoc}
 use mathlib.Core.Bool.{true, false}
-use Prim.Native.Nat.{ℕ, ◌+◌, ◌≤◌, ◌<◌, ◌-◌}
+use Prim.Native.Nat.{ℕ, ◌+◌, ◌≤◌, ◌-◌}
 use native.Mathlib.Omega.{arith}
 use lib.ListN.{length, drop, length-append}
 use lib.Dec.{leb}
-use borrow.Author.Tests.{le-leb, lt-leb, leb-true}
+use borrow.Author.Tests.{le-leb}
 use borrow.Rule.Slice.PartMut.{mid_of, put_mid}
-use Rattle.lists.proofs.Put.{back, put-put, length-put}
+use Rattle.lists.proofs.Put.{back, put-put, length-put, over-fits}
 use Rattle.lists.specs.Bytes.{put}
-use Rattle.settings.specs.DataBytes.{all_allowed, first_forbidden}
+use Rattle.settings.specs.DataBytes.{all_allowed}
 use Rattle.block.specs.Format.{version, five_digits, three_digits, count_field, checksum_of, hybrid_body, hybrid_block, minimal_block, block_of}
 use Rattle.settings.specs.Settings.{by_kind, valid}
 use Rattle.settings.specs.declared.Kind.{Kind}
@@ -18,8 +18,6 @@ use Rattle.settings.specs.declared.Kind.TheVariants.{Hybrid, Minimal}
 use Rattle.settings.specs.declared.Settings.{Settings}
 use Rattle.writer.specs.Write.{frame_length, need_of, type_valid, refused, wrote, frame_of, write_of}
 use Rattle.writer.specs.Internal.{hybrid_header, hybrid_trailer}
-use Rattle.refusal.specs.declared.Written.TheVariants.{Done}
-use Rattle.lists.specs.Outcome.{outcome}
 
 -- the part from b on, lent after the bytes vs were written from a on, and come back with ws at its beginning
 pub next_part : (l m vs ws last : List ℕ) (a b n : ℕ) → m ≡ put l a vs → b ≡ a + length vs → length ws ≡ n → a + length vs ≤ length l
@@ -86,10 +84,6 @@ need-is s t d = go s.kind
 
 -- what the writer says, by the first test that fails
 module _ (s : Settings) (t : ℕ) (d : List ℕ) (start : ℕ) (b : List ℕ) where
-  pub write_setting : valid s ≡ false → refused 1 0 b ≡ write_of s t d start b
-  unfolding write_of
-  write_setting e = rw e
-
   pub write_framed : valid s ≡ true → frame_of s t d start b ≡ write_of s t d start b
   unfolding write_of
   write_framed e = rw e
@@ -97,20 +91,6 @@ module _ (s : Settings) (t : ℕ) (d : List ℕ) (start : ℕ) (b : List ℕ) wh
   pub frame_too_short : leb (start + need_of s d) (length b) ≡ false → refused 2 0 b ≡ frame_of s t d start b
   unfolding frame_of
   frame_too_short f = rw (f)
-
-  pub frame_long : leb (start + need_of s d) (length b) ≡ true → s.data_limit < length d → refused 4 0 b ≡ frame_of s t d start b
-  unfolding frame_of
-  frame_long f g = rw (f, lt-leb _ _ g)
-
-  pub frame_shape : leb (start + need_of s d) (length b) ≡ true → length d ≤ s.data_limit → type_valid s.kind t d ≡ false
-      → refused 5 0 b ≡ frame_of s t d start b
-  unfolding frame_of
-  frame_shape f g h = rw (f, le-leb _ _ g, h)
-
-  pub frame_byte : leb (start + need_of s d) (length b) ≡ true → length d ≤ s.data_limit → type_valid s.kind t d ≡ true
-      → all_allowed d ≡ false → refused 3 (first_forbidden d) b ≡ frame_of s t d start b
-  unfolding frame_of
-  frame_byte f g h i = rw (f, le-leb _ _ g, h, i)
 
   pub frame_all : leb (start + need_of s d) (length b) ≡ true → length d ≤ s.data_limit → type_valid s.kind t d ≡ true
       → all_allowed d ≡ true → wrote b start (block_of s t d) ≡ frame_of s t d start b
@@ -121,21 +101,4 @@ module _ (s : Settings) (t : ℕ) (d : List ℕ) (start : ℕ) (b : List ℕ) wh
       → all_allowed d ≡ true → wrote b start (block_of s t d) ≡ write_of s t d start b
   write_all_lem e f g h i = frame_all f g h i ∙ write_framed e
 
-  pub block_hybrid : s.kind ≡ Hybrid → hybrid_block s t d ≡ block_of s t d
-  unfolding block_of
-  block_hybrid e = rw e
-
-  pub block_minimal : s.kind ≡ Minimal → minimal_block s d ≡ block_of s t d
-  unfolding block_of
-  block_minimal e = rw e
-
-pub wrote-is : (b : List ℕ) (start n : ℕ) (m block whole : List ℕ) → n ≡ length block → m ≡ put b start block → block ≡ whole
-    → outcome (Done n) m ≡ wrote b start whole
-wrote-is b start n m block whole e f g = rw (e, f, g)
-
--- the room that was tested, for each kind
-pub space_hybrid : (k : Kind) (start n : ℕ) (d : List ℕ) → leb (start + (length d + frame_length k)) n ≡ true → k ≡ Hybrid → start + (length d + 15) ≤ n
-space_hybrid k start n d h e = leb-true (start + (length d + 15)) n (rw e at h)
-
-pub space_minimal : (k : Kind) (start n : ℕ) (d : List ℕ) → leb (start + (length d + frame_length k)) n ≡ true → k ≡ Minimal → start + (length d + 3) ≤ n
-space_minimal k start n d h e = leb-true (start + (length d + 3)) n (rw e at h)
+pub ruleset content_cases = (over-fits)

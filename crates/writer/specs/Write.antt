@@ -1,5 +1,5 @@
 -- Document 01, 'Hybrid block' and 'Numbers that say no': what the writer answers, and what it leaves in the caller's buffer.
-use Rattle.std.specs.Prelude.{List, Bool, true, ℕ, ◌+◌, length, leb}
+use Rattle.std.specs.Prelude.{List, Bool, true, ℕ, ◌+◌, length, leb, Result, Ok}
 use Rattle.lists.specs.Bytes.{put}
 use Rattle.settings.specs.DataBytes.{all_allowed, first_forbidden}
 use Rattle.block.specs.Format.{block_of}
@@ -7,9 +7,8 @@ use Rattle.settings.specs.Settings.{by_kind, valid}
 use Rattle.block.specs.Judge.{type_matches}
 use Rattle.settings.specs.declared.Kind.{Kind}
 use Rattle.settings.specs.declared.Settings.{Settings}
-use Rattle.refusal.specs.Refusal.{SETTING, TOO_SHORT, BYTE, LONG, SHAPE}
-use Rattle.refusal.specs.declared.Written.{Written}
-use Rattle.refusal.specs.declared.Written.TheVariants.{Done, Refused}
+use Rattle.refusal.specs.Refusal.{SETTING, TOO_SHORT, BYTE, LONG, SHAPE, refused_by}
+use Rattle.refusal.specs.declared.Refusal.{Refusal}
 use Rattle.lists.specs.Outcome.{need, Outcome, outcome}
 
 -- the bytes of a block that are not data: SB t v v CR, ccccc xxx EB CR; of a minimal block SB, EB CR
@@ -25,15 +24,15 @@ abbrev pub type_valid : Kind → ℕ → List ℕ → Bool
 type_valid k t d = by_kind k (type_matches t d) true
 
 -- "A writer's refusal writes nothing."
-abbrev pub refused : ℕ → ℕ → List ℕ → Outcome Written
-refused k i b = outcome (Refused k i) b
+abbrev pub refused : ℕ → ℕ → List ℕ → Outcome (Result ℕ Refusal)
+refused k i b = outcome (refused_by k i) b
 
 -- "the bytes before that place and after the block are unchanged"
-abbrev pub wrote : List ℕ → ℕ → List ℕ → Outcome Written
-wrote b start block = outcome (Done (length block)) (put b start block)
+abbrev pub wrote : List ℕ → ℕ → List ℕ → Outcome (Result ℕ Refusal)
+wrote b start block = outcome (Ok (length block)) (put b start block)
 
 -- the block of type t with data d, written into b from the place on: 2, then "any other act 4, 5, 3"
-unfoldable pub frame_of : Settings → ℕ → List ℕ → ℕ → List ℕ → Outcome Written
+unfoldable pub frame_of : Settings → ℕ → List ℕ → ℕ → List ℕ → Outcome (Result ℕ Refusal)
 frame_of s t d start b =
     need (leb (start + need_of s d) (length b)) (refused TOO_SHORT 0 b)
     (need (leb (length d) s.data_limit) (refused LONG 0 b)
@@ -42,5 +41,5 @@ frame_of s t d start b =
     (wrote b start (block_of s t d)))))
 
 -- "every act first 1"
-unfoldable pub write_of : Settings → ℕ → List ℕ → ℕ → List ℕ → Outcome Written
+unfoldable pub write_of : Settings → ℕ → List ℕ → ℕ → List ℕ → Outcome (Result ℕ Refusal)
 write_of s t d start b = need (valid s) (refused SETTING 0 b) (frame_of s t d start b)

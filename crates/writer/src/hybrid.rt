@@ -5,35 +5,26 @@ ghost use Rattle.block.specs.Format.{hybrid_block};
 ghost use Rattle.writer.specs.Internal.{hybrid_header, hybrid_trailer};
 
 use crate::content::write_content;
-use settings::{Settings, digit_of};
+use settings::Settings;
 
 // SB t v v CR
+#[tactic(auto, unfolding(crate::specs::Internal::hybrid_header))]
 fn write_header(out: &mut [u8], start_block: u8, t: u8)
     requires { 5 ≤ length out.old }
     ensures { out.new ≡ hybrid_header start_block t ++ drop 5 out.old }
 {
-    out[0] = start_block;
-    out[1] = t;
-    out[2] = b'2';
-    out[3] = b'3';
-    out[4] = b'\r';
+    out[..5].copy_from_slice(&[start_block, t, b'2', b'3', b'\r']);
 }
 
 // ccccc xxx EB CR
+#[tactic(auto, unfolding(crate::specs::Internal::hybrid_trailer, block::specs::Format::five_digits, block::specs::Format::three_digits))]
 fn write_trailer(out: &mut [u8], count: usize, sum: usize, end_block: u8)
     requires { 10 ≤ length out.old }
     ensures { out.new ≡ hybrid_trailer count sum end_block ++ drop 10 out.old }
 {
-    out[0] = digit_of(count / 10000);
-    out[1] = digit_of(count / 1000);
-    out[2] = digit_of(count / 100);
-    out[3] = digit_of(count / 10);
-    out[4] = digit_of(count);
-    out[5] = digit_of(sum / 100);
-    out[6] = digit_of(sum / 10);
-    out[7] = digit_of(sum);
-    out[8] = end_block;
-    out[9] = b'\r';
+    out[..5].copy_from_slice(&block::five_digits(count));
+    out[5..8].copy_from_slice(&block::three_digits(sum));
+    out[8..10].copy_from_slice(&[end_block, b'\r']);
 }
 
 // Writes the block from that offset on, and returns its length.
@@ -57,7 +48,7 @@ pub(crate) fn write_block(
     write_trailer(
         &mut buffer[after_content..],
         5 + size,
-        sum as usize,
+        usize::from(sum),
         settings.end_block,
     );
     size + 15

@@ -10,31 +10,16 @@ ghost use Rattle.std.specs.Prelude.{◌≡◌, ◌+◌, leb};
 ghost use Rattle.lists.specs.Outcome.{outcome};
 ghost use Rattle.writer.specs.Write.{frame_length, type_valid, frame_of, write_of};
 
-use refusal::Written;
+use refusal::{Refusal, Written};
 use settings::{Kind, Settings};
 
-// How many bytes a block has besides its data.
-fn frame_length(kind: Kind) -> usize
-    ensures { result ≡ frame_length kind }
+// Whether a block with this many bytes of data fits from that offset on in a buffer of `have` bytes.
+pub fn is_long_enough(have: usize, start: usize, kind: Kind, size: usize) -> bool
+    ensures { result ≡ leb (start + (size + frame_length kind)) have }
 {
-    match kind {
-        Kind::Hybrid => 15,
-        Kind::Minimal => 3,
-    }
-}
-
-// Whether a block's frame and data fit from that offset on in a buffer of `have` bytes.
-fn is_long_enough(have: usize, start: usize, frame: usize, size: usize) -> bool
-    ensures { result ≡ leb (start + (size + frame)) have }
-{
-    if have < start {
-        return false;
-    }
-    let rest = have - start;
-    if rest < frame {
-        return false;
-    }
-    size <= rest - frame
+    let after_start = have.checked_sub(start);
+    let left = after_start.and_then(|rest| rest.checked_sub(kind.frame_length()));
+    left.is_some_and(|rest| size <= rest)
 }
 
 // Whether t is a type that goes with the data; a minimal block has none.
@@ -48,34 +33,35 @@ fn type_valid(kind: Kind, t: u8, content: &[u8]) -> bool
 }
 
 // The block with this type and data, written into the buffer from that offset on. A refusal writes nothing.
+#[tactic(auto, unfolding(crate::specs::Write::frame_of, block::specs::Format::block_of))]
 fn frame(settings: Settings, t: u8, content: &[u8], buffer: &mut [u8], start: usize) -> Written
     ensures { outcome result buffer.new ≡ frame_of settings t content.now start buffer.old }
 {
-    let kind = settings.kind;
-    if !is_long_enough(buffer.len(), start, frame_length(kind), content.len()) {
-        return Written::Refused(refusal::TOO_SHORT, 0);
+    if !is_long_enough(buffer.len(), start, settings.kind, content.len()) {
+        return Err(Refusal::TOO_SHORT);
     }
     if settings.data_limit < content.len() {
-        return Written::Refused(refusal::LONG, 0);
+        return Err(Refusal::LONG);
     }
-    if !type_valid(kind, t, content) {
-        return Written::Refused(refusal::SHAPE, 0);
+    if !type_valid(settings.kind, t, content) {
+        return Err(Refusal::SHAPE);
     }
     if !settings::are_allowed(content) {
-        return Written::Refused(refusal::BYTE, settings::first_forbidden(content));
+        return Err(Refusal::forbidden(settings::first_forbidden(content)));
     }
-    match kind {
-        Kind::Hybrid => Written::Done(hybrid::write_block(settings, t, content, buffer, start)),
-        Kind::Minimal => Written::Done(minimal::write_block(settings, content, buffer, start)),
+    match settings.kind {
+        Kind::Hybrid => Ok(hybrid::write_block(settings, t, content, buffer, start)),
+        Kind::Minimal => Ok(minimal::write_block(settings, content, buffer, start)),
     }
 }
 
 // The same of settings that are looked at first (1).
+#[tactic(auto, unfolding(crate::specs::Write::write_of))]
 pub fn write(settings: Settings, t: u8, content: &[u8], buffer: &mut [u8], start: usize) -> Written
     ensures { outcome result buffer.new ≡ write_of settings t content.now start buffer.old }
 {
     if !settings.is_valid() {
-        return Written::Refused(refusal::SETTING, 0);
+        return Err(Refusal::SETTING);
     }
     frame(settings, t, content, buffer, start)
 }

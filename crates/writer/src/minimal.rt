@@ -19,8 +19,7 @@ fn write_trailer(out: &mut [u8], end_block: u8)
     requires { 2 ≤ length out.old }
     ensures { out.new ≡ (end_block ∷ 0x0D ∷ []) ++ drop 2 out.old }
 {
-    out[0] = end_block;
-    out[1] = b'\r';
+    out[..2].copy_from_slice(&[end_block, b'\r']);
 }
 
 // Writes the block from that offset on, and returns its length.

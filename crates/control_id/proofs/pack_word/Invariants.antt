@@ -6,7 +6,8 @@ use Rattle.control_id.specs.ControlId.{packed}
 use Rattle.control_id.proofs.pack_word.Given as goal
 
 abbrev pub invariant-loop-i : goal.invariant-loop-i
-invariant-loop-i l = (l.i ≤ length l.part) × (l.word ≡ packed (drop l.i l.part)) × (l.word < 256 ^ (length l.part - l.i))
-
-abbrev pub decreases-loop-i : goal.decreases-loop-i
-decreases-loop-i l = l.i
+invariant-loop-i l = record {
+  within : l.i ≤ length l.part;
+  taken : l.word ≡ packed (drop l.i l.part);
+  bounded : l.word < 256 ^ (length l.part - l.i);
+}

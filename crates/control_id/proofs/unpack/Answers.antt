@@ -2,20 +2,18 @@
 use mathlib.Core.Path.{refl, ap, ◌∙◌}
 use mathlib.Core.List.{List}
 use Prim.Native.Nat.{ℕ}
-use Rattle.lists.specs.Bytes.{overwritten, put}
-use Rattle.control_id.specs.ControlId.{unpacked, word_bytes}
-use Rattle.control_id.proofs.Words.{put_words, unpacked-length}
+use lib.ListN.{replicate}
+use Rattle.lists.specs.Bytes.{overwritten}
+use Rattle.control_id.specs.ControlId.{word_bytes}
+use Rattle.control_id.proofs.Words.{words_copied}
 use Rattle.control_id.proofs.unpack.Goals as goal
 
 pub returns : goal.returns
 unfolding word_bytes
 returns c =
-    let a = c.args in
-    let first = unpacked 8 a.control_id.first in
-    let second = unpacked 8 a.control_id.second in
-    let third = unpacked 8 a.control_id.third in
-    c.copy_bytes.ensures
-    ∙ ap (λ (z : List ℕ). overwritten a.bytes.now z)
-    (c.put_word-3.ensures
-    ∙ ap (λ (z : List ℕ). put z 16 third) (c.put_word-2.ensures ∙ ap (λ (z : List ℕ). put z 8 second) c.put_word.ensures)
-    ∙ put_words _ first second third refl (unpacked-length 8 _) (unpacked-length 8 _) (unpacked-length 8 _))
+    let words = c.args.control_id in
+    c.copy_bytes-4.ensures
+    ∙ ap (λ (z : List ℕ). overwritten c.args.bytes.now z)
+    (words_copied (replicate 24 0) c.copy_bytes.new.target c.copy_bytes-2.new.target c.copy_bytes-3.new.target words.first words.second words.third refl
+    (rw c.to_le_bytes.ensures at c.copy_bytes.ensures) (rw c.to_le_bytes-2.ensures at c.copy_bytes-2.ensures)
+    (rw c.to_le_bytes-3.ensures at c.copy_bytes-3.ensures))

@@ -1,24 +1,23 @@
 -- `messages::answer_message::is_control_id` meets its contract.
-use borrow.Author.Rules.{rules}
-use mathlib.Core.Path.{sym, ◌∙◌}
-use Rattle.lists.proofs.All.{all_more, all_none}
+use mathlib.Core.Path.{◌≡◌, sym, ◌∙◌}
+use mathlib.Core.Bool.{◌&&◌}
+use lib.ListN.{length}
+use lib.Dec.{leb}
+use Rattle.std.proofs.Common.{rules, tests}
+use Rattle.std.proofs.lemmas.Iterator.{YieldsList-from_slice}
+use Rattle.std.proofs.lemmas.Iterator.Search.{all_from_yields_List}
 use Rattle.messages.specs.Internal.{id_byte}
-use Rattle.messages.proofs.Laws.{id_short, id_long, id_free}
+use Rattle.messages.proofs.Laws.{id_size, id_free}
 use Rattle.messages.proofs.answer_message.is_control_id.Goals as goal
 
-pub returns-then-control_id-lt1 : goal.returns-then-control_id-lt1
-returns-then-control_id-lt1 c = id_short c.args.control_id.now c.if-control_id-lt1.true
+pub returns-then-contains : goal.returns-then-contains
+returns-then-contains c =
+    let size : c.contains.result ≡ (leb 1 (length c.args.control_id.now) && leb (length c.args.control_id.now) 20) = search rules in
+    all_from_yields_List id_byte _ _ _ c.all.ensures.ran (YieldsList-from_slice c.args.control_id.now c.iter.ensures.rest)
+    (λ x b q k. search (rules, tests))
+    ∙ id_free c.args.control_id.now (sym size ∙ c.if-contains.true)
 
-pub returns-then-control_id-gt20 : goal.returns-then-control_id-gt20
-returns-then-control_id-gt20 c = id_long c.args.control_id.now c.if-control_id-lt1.false c.if-control_id-gt20.true
-
-pub loop-i-preserved : goal.loop-i-preserved
-loop-i-preserved c =
-    let l = c.loop-i in
-    (search rules, all_more id_byte _ l.i l.good c.loop-i-test.true ∙ l.invariant.1)
-
-pub returns : goal.returns
-returns c =
-    let l = c.loop-i in
-    sym (all_none id_byte _ l.i l.good c.loop-i-test.false) ∙ l.invariant.1
-    ∙ id_free c.args.control_id.now c.if-control_id-lt1.false c.if-control_id-gt20.false
+pub returns-else-contains : goal.returns-else-contains
+returns-else-contains c =
+    let size : c.contains.result ≡ (leb 1 (length c.args.control_id.now) && leb (length c.args.control_id.now) 20) = search rules in
+    c.if-contains.false ∙ id_size c.args.control_id.now (sym size ∙ c.if-contains.false)

@@ -23,6 +23,6 @@ returns c =
       buffer_after = three_parts a.buffer.now (hybrid_header s.start_block a.t) d (hybrid_trailer (5 + length d) sum s.end_block)
           header.new.out content.new.out trailer.new.out _ _ a.start 5 10 (length_header s.start_block a.t)
           (length_trailer (5 + length d) sum s.end_block) c.requires header.ensures refl content.ensures refl
-          (rw c.block_checksum-sum.ensures at trailer.ensures)
+          (rw (c.from.ensures, c.block_checksum-sum.ensures) at trailer.ensures)
           ∙ ap (λ (z : List ℕ). put a.buffer.now a.start z) (hybrid_is s a.t d);
     }

@@ -1,9 +1,0 @@
--- `receiver_calls::inputs::transaction_from` meets its contract.
-use borrow.Author.Tests.{eq-eqb, ne_eqb}
-use Rattle.receiver_calls.proofs.inputs.transaction_from.Goals as goal
-
-pub returns-then-word-eq0 : goal.returns-then-word-eq0
-returns-then-word-eq0 c = rw (eq-eqb c.args.word 0 c.if-word-eq0.true)
-
-pub returns : goal.returns
-returns c = rw (ne_eqb c.args.word 0 c.if-word-eq0.false)
