@@ -16,17 +16,18 @@ pub struct Field {
     pub length: usize,
 }
 
-// The offset of the first separator or CR from `from` on, or the message's end.
+// The offset of the first separator or CR from `from` on, or the message's end. (With `for i in from..` the compiler counts twice.)
 pub fn field_end(message: &[u8], from: usize, separator: u8) -> usize
     ensures { result ≡ from + field_length separator (drop from message.now) }
 {
-    for i in from..message.len() {
-        let x = message[i];
+    let mut end = from;
+    while let Some(&x) = message.get(end) {
         if x == separator || x == b'\r' {
-            return i;
+            break;
         }
+        end += 1;
     }
-    from.max(message.len())
+    end
 }
 
 // The offset after `count` separators of the segment that begins at `from`, or its end where it has fewer.

@@ -9,7 +9,6 @@ use Prim.Native.Nat.{ℕ, suc, ◌+◌, ◌≤◌, ◌<◌}
 use native.Mathlib.Omega.{arith}
 use native.Mathlib.Nat.{add_assoc}
 use lib.ListN.{length, get_or, length-append}
-use Rattle.std.specs.List.{list_all}
 use lib.Dec.{leb, ltb, eqb}
 use borrow.Author.Tests.{lt-leb, lt-ltb, le-ltb, eq-eqb, ne_eqb, eqb-true, not-true, not-false}
 use Rattle.lists.specs.Bytes.{put, has_any, all}
@@ -66,13 +65,9 @@ pub id_size : (id : List ℕ) → (leb 1 (length id) && leb (length id) 20) ≡ 
 unfolding valid_control_id
 id_size id h = rw h (none_after (all_allowed id))
 
-list_all_is : (s : List ℕ) → list_all id_byte s ≡ all id_byte s
-list_all_is [] = refl
-list_all_is (x ∷ s) = rw (list_all_is s)
-
-pub id_free : (id : List ℕ) → (leb 1 (length id) && leb (length id) 20) ≡ true → list_all id_byte id ≡ (all_allowed id && valid_control_id id)
+pub id_free : (id : List ℕ) → (leb 1 (length id) && leb (length id) 20) ≡ true → all id_byte id ≡ (all_allowed id && valid_control_id id)
 unfolding valid_control_id
-id_free id h = rw (list_all_is id, h) (bytes_are id)
+id_free id h = rw h (bytes_are id)
 
 -- why others are refused
 forbidden_some : (s : List ℕ) → ltb (first_forbidden s) (length s) ≡ not (all_allowed s)

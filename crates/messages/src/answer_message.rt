@@ -23,14 +23,19 @@ fn is_long_enough(have: usize, start: usize, id_length: usize, digits: usize) ->
         .is_some_and(|rest| id_length <= rest)
 }
 
-// Whether the control ID can stand in a field of a block's data: 1 to 20 bytes that are allowed, and neither bar nor CR.
+// Whether the control ID can stand in a field of a block's data: 1 to 20 bytes that are allowed, and neither bar nor CR. No way
+// out of the loop, so that it is compiled to vector code.
 pub fn is_control_id(control_id: &[u8]) -> bool
     ensures { result ≡ (all_allowed control_id.now && valid_control_id control_id.now) }
 {
-    (1..=20).contains(&control_id.len())
-        && control_id
-            .iter()
-            .all(|x| matches!(*x, b' '..=b'~') && *x != fields::BAR)
+    if !(1..=20).contains(&control_id.len()) {
+        return false;
+    }
+    let mut good = true;
+    for &x in control_id {
+        good &= matches!(x, b' '..=b'~') & (x != fields::BAR);
+    }
+    good
 }
 
 // The refusal of a control ID that cannot: by 3, or by 9 where all its bytes are allowed.
